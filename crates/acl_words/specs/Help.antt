@@ -8,4 +8,5 @@ help_text Form = codes "an entry is TYPE:FLAGS:PRINCIPAL:PERMISSIONS, as in A:fd
 help_text EntryType = codes "TYPE is A (allow), D (deny), U (audit) or L (alarm)"
 help_text Flags = codes "FLAGS are some of f d n i S F g h, or none"
 help_text Permissions = codes "PERMISSIONS are some of r w a D d x t T n N c C o y, R W X, +200 and +400, or none"
-help_text Principal = codes "PRINCIPAL is OWNER@, GROUP@, EVERYONE@, a name of the book, with @ and its domain or without, or a number; a group's with flag g"
+help_text Principal =
+    codes "PRINCIPAL is OWNER@, GROUP@, EVERYONE@, a name of the book, NAME@DOMAIN or a number; with g a group's"

@@ -32,7 +32,7 @@ impl Field {
                 "PERMISSIONS are some of r w a D d x t T n N c C o y, R W X, +200 and +400, or none"
             }
             Field::Principal => {
-                "PRINCIPAL is OWNER@, GROUP@, EVERYONE@, a name of the book, with @ and its domain or without, or a number; a group's with flag g"
+                "PRINCIPAL is OWNER@, GROUP@, EVERYONE@, a name of the book, NAME@DOMAIN or a number; with g a group's"
             }
         }
     }

@@ -28,7 +28,8 @@ use Rattle.compound_run.specs.ReclaimComplete.{reclaimed}
 use Rattle.compound_run.specs.Setattr.{sets_list, sets_owner, sized, listed, owned, set_on, setting}
 use Rattle.compound_laws.specs.Stepping.{ComesBySteps, after_steps}
 use Rattle.compound_laws.proofs.Changing.{Changing, OfClose, OfCreate, OfLink, OfOpen, OfRemove, OfRename, OfSetAttr}
-use Rattle.compound_laws.proofs.Changing.{OfWrite, OfReclaimComplete, operation_of, part_of}
+use Rattle.compound_laws.proofs.Changing.{OfWrite, OfReclaimComplete, operation_of}
+use Rattle.compound_laws.proofs.Operations.{laws_of}
 use Rattle.compound_laws.proofs.KeptByRuns.{Keeps}
 
 -- ---- changes in turn
@@ -122,7 +123,7 @@ changing_steps c h (OfReclaimComplete v) r = reclaimed_steps v c r
 pub operations_step : (c : Context) (h : Handles) (op : Operation) (r : Realm)
     → ComesBySteps r.world ((meaning c h op).effect r).world
 operations_step c h op r =
-    elim (part_of c h op) [
+    elim ((laws_of c h op).changes) [
       | inl stays ↦ subst (λ (s : Realm). ComesBySteps r.world s.world) (sym (stays r)) (no_step r.world)
       | inr one ↦
           subst (λ (op : Operation). ComesBySteps r.world ((meaning c h op).effect r).world) (sym one.1)

@@ -12,7 +12,8 @@ use Rattle.compound_run.specs.Open.{found, joined, opened_on, with_open}
 use Rattle.compound_run.specs.Operations.{meaning}
 use Rattle.compound_run.specs.ReclaimComplete.{reclaimed}
 use Rattle.compound_laws.proofs.Changing.{Changing, OfClose, OfCreate, OfLink, OfOpen, OfRemove, OfRename, OfSetAttr}
-use Rattle.compound_laws.proofs.Changing.{OfWrite, OfReclaimComplete, operation_of, part_of}
+use Rattle.compound_laws.proofs.Changing.{OfWrite, OfReclaimComplete, operation_of}
+use Rattle.compound_laws.proofs.Operations.{laws_of}
 use Rattle.compound_laws.proofs.KeptByRuns.{Keeps}
 
 with_open_leaves : (c : Context) (v : Value open_args) (file : ℕ) (o : Option Opened) (r : Realm) → (with_open c v file o r).lasting ≡ r.lasting
@@ -41,7 +42,7 @@ changing_leaves c h (OfReclaimComplete v) r = reclaimed_leaves v c r
 pub operations_leave : (c : Context) (h : Handles) (op : Operation) (r : Realm)
     → ((meaning c h op).effect r).lasting ≡ r.lasting
 operations_leave c h op r =
-    elim (part_of c h op) [
+    elim ((laws_of c h op).changes) [
       | inl stays ↦ ap (λ (s : Realm). s.lasting) (stays r)
       | inr one ↦
           subst (λ (op : Operation). ((meaning c h op).effect r).lasting ≡ r.lasting) (sym one.1)

@@ -44,7 +44,8 @@ use Rattle.session_slots.specs.Registry.{Registry}
 use Rattle.compound_laws.specs.LiveOpens.{OpensHold}
 use Rattle.compound_run.proofs.Exactly.{passed}
 use Rattle.compound_laws.proofs.Changing.{Changing, OfClose, OfCreate, OfLink, OfOpen, OfRemove, OfRename, OfSetAttr}
-use Rattle.compound_laws.proofs.Changing.{OfWrite, OfReclaimComplete, operation_of, part_of}
+use Rattle.compound_laws.proofs.Changing.{OfWrite, OfReclaimComplete, operation_of}
+use Rattle.compound_laws.proofs.Operations.{laws_of}
 use Rattle.compound_laws.proofs.KeptByRuns.{Keeps}
 use Rattle.compound_laws.proofs.LivingOpens.{LiveIn, each_left, one_more, of_child, Same, same_again, same_then, hold_same, hold_linked, hold_new, kind_there, kept_new, live_new, hold_removed, hold_renamed, hold_registry}
 
@@ -241,7 +242,7 @@ changing_keeps c h (OfReclaimComplete v) r o hold is = hold_reclaimed v c r hold
 pub operations_keep : (c : Context) (h : Handles) (op : Operation) (r : Realm) (o : Outcome) → OpensHold r
     → outcome (meaning c h op) r ≡ Ok o → OpensHold ((meaning c h op).effect r)
 operations_keep c h op r o hold is =
-    elim (part_of c h op) [
+    elim ((laws_of c h op).changes) [
       | inl stays ↦ subst OpensHold (sym (stays r)) hold
       | inr one ↦
           subst (λ (op : Operation). outcome (meaning c h op) r ≡ Ok o → OpensHold ((meaning c h op).effect r))

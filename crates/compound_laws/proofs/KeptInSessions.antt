@@ -24,7 +24,7 @@ use Rattle.compound_run.specs.State.{State, Call, start, with_book, without_clie
 use Rattle.compound_run.specs.Sessions.{with_registry}
 use Rattle.compound_run.specs.Sequence.{keeping}
 use Rattle.compound_run.specs.Beginning.{Beginning, Ends, Refuses, Acts, Follows, beginning}
-use Rattle.compound_run.specs.InSession.{Reply, ActsAlone, RunsCall, RunsOf, RunsBegun, RunsBy, AnswersInSession, begin_in, begun_in, context_behind, fate, in_registry}
+use Rattle.compound_run.specs.InSession.{Reply, ActsAlone, RunsCall, RunsOf, RunsBegun, RunsBy, AnswersInSession, begin_in, begun_in, context_behind, fate, in_registry, sequenced}
 use Rattle.compound_laws.specs.Events.{Event, Comes, Loads, LetsGo, Begins, RunsEvent, event_fate, loaded, notes_go_on}
 use Rattle.compound_laws.proofs.KeptByRuns.{Keeps, runs_keep}
 
@@ -44,7 +44,7 @@ alone_keeps P keeps caller op old outcome new hold acts = absurd acts
 -- ---- operations after a SEQUENCE
 
 by_begin : (P : Realm → Type 0) → Keeps P → (b : Begin) (call : Call) (tag : List ℕ) (count : ℕ) (v : Value sequence_args) (operations : List ℕ) (old : State) (bytes : List ℕ) (new : State) → P old.realm
-    → RunsBy b call tag count v operations old bytes new → P new.realm
+    → RunsBy b (sequenced call tag count v operations) old bytes new → P new.realm
 by_begin P keeps (begins.New granted) call tag count v operations old bytes new hold (end, (results, runs, same), is, few) =
     let c = context_behind old call tag count v granted in
     let begun = start (in_registry (begun_in old.realm call count v operations) old) in

@@ -8,12 +8,12 @@ pub mod OpenSeen
 pub mod EntriesExactly
 pub mod LivingOpens
 pub mod KeptByRuns
-pub mod Changing
 pub mod KeptInSessions
+pub mod Changing
+pub mod Operations
 pub mod KeepingOpens
 pub mod ChangingBySteps
 pub mod KeepingLasting
 pub mod Alike
-pub mod Disclosing
 pub mod RowsStand
 pub mod Telling

@@ -8,7 +8,7 @@ use Rattle.nfs_types.specs.Forms.{stateid}
 use Rattle.nfs_types.specs.Given.{given_set}
 use Rattle.nfs_types.specs.Sent.{Wanted}
 use Rattle.nfs_types.specs.declared.status.Status.TheVariants as statuses
-use Rattle.nfs_ops.specs.Forms.{close_args, commit_args, verify_args, nverify_args, read_args, setattr_args, write_args, reclaim_complete_args, getattr_size}
+use Rattle.nfs_ops.specs.Forms.{close_args, verify_args, nverify_args, read_args, setattr_args, write_args, reclaim_complete_args, getattr_size}
 use Rattle.nfs_ops.specs.Operations.{Known}
 use Rattle.nfs_ops.specs.Parts.{set_of, values_of, set_stateid, read_offset, read_count, read_gives}
 use Rattle.nfs_ops.specs.declared.op_kind.OpKind.TheVariants as kinds
@@ -25,9 +25,6 @@ use Rattle.compound_run.specs.Verify.{is_same}
 use Rattle.compound_laws.specs.Disclosure.{DisclosesNothing}
 use Rattle.compound_laws.proofs.Seen.{IsSeen, discloses_nothing}
 use Rattle.compound_laws.proofs.Showing.{reads, bytes_seen, may_see, values_seen}
-
-commit_seen : (c : Context) (h : Handles) (v : Value commit_args) → IsSeen (meaning c h (Known kinds.Commit v))
-commit_seen c h v w = (refl, λ _. (refl, λ _. (refl, λ _. (refl, λ _. (refl, λ _. refl)))))
 
 close_seen : (c : Context) (h : Handles) (v : Value close_args) → IsSeen (meaning c h (Known kinds.Close v))
 close_seen c h v w = (refl, λ _. (refl, λ _. (refl, λ _. (refl, λ _. refl))))
@@ -119,9 +116,6 @@ read_seen c h v w = (
     ),
   ),
 )
-
-pub commit_discloses_nothing : (c : Context) (h : Handles) (v : Value commit_args) → DisclosesNothing (meaning c h (Known kinds.Commit v))
-commit_discloses_nothing c h v = discloses_nothing (meaning c h (Known kinds.Commit v)) (commit_seen c h v)
 
 pub close_discloses_nothing : (c : Context) (h : Handles) (v : Value close_args) → DisclosesNothing (meaning c h (Known kinds.Close v))
 close_discloses_nothing c h v = discloses_nothing (meaning c h (Known kinds.Close v)) (close_seen c h v)

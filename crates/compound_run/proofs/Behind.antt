@@ -17,14 +17,14 @@ use Rattle.compound_run.specs.Sight.{Sight, whole}
 use Rattle.compound_run.specs.Questions.{Question, Row, failure, trace, told, all_granted, demand_lines}
 use Rattle.compound_run.specs.Meaning.{Meaning}
 use Rattle.compound_run.specs.Runs.{waits}
-use Rattle.compound_run.specs.Views.{GivesSo, context_at, holding, realm_of}
+use Rattle.compound_run.specs.Views.{GivesSo, context_at, holding, realm_of, stage, sense}
 
 -- The questions before the rest pass, and their lines are held.
 pub behind : {A : Type 0} (room : ℕ) (m : Meaning) (rest : List Question) (e : realms.Realm A) (handles : FileHandles) (before : Buffer) (lines : List Line) (mid : realms.Realm A) (r : Result FileHandles Status) (new : realms.Realm A) (after : Buffer)
     → failure m.caller (whole (realm_of e)) m.questions ≡ failure m.caller (whole (realm_of e)) rest
     → trace m.caller m.number (whole (realm_of e)) m.questions ≡ lines ++ trace m.caller m.number (whole (realm_of e)) rest
     → mid ≡ holding lines e
-    → GivesSo true room (record m { questions = rest }) waits mid handles before r new after → GivesSo true room m waits e handles before r new after
+    → GivesSo (sense true (record m { questions = rest }) waits) room handles (stage mid before) r (stage new after) → GivesSo (sense true m waits) room handles (stage e before) r (stage new after)
 behind {A} room m rest e handles before lines mid r new after failures traces is gives = record {
   answered = record {
     outcome = λ is. at.answered.outcome is ∙ ap (λ f. told f (m.answer (whole (realm_of e)))) (sym failures);
@@ -42,26 +42,26 @@ behind {A} room m rest e handles before lines mid r new after failures traces is
   unwritten = at.unwritten;
 }
   where
-    at : GivesSo true room (record m { questions = rest }) waits (holding lines e) handles before r new after
-    at = subst (λ (x : realms.Realm A). GivesSo true room (record m { questions = rest }) waits x handles before r new after) is gives
+    at : GivesSo (sense true (record m { questions = rest }) waits) room handles (stage (holding lines e) before) r (stage new after)
+    at = subst (λ (x : realms.Realm A). GivesSo (sense true (record m { questions = rest }) waits) room handles (stage x before) r (stage new after)) is gives
 
 -- The questions before the rest pass, and the rest is asked where their lines are held: the book is the one before.
 pub behind_at : {A : Type 0} (room : ℕ) (c : code.Context) (m : Context → Meaning) (rest : Context → List Question) (e : realms.Realm A) (handles : FileHandles) (before : Buffer) (lines : List Line) (mid : realms.Realm A) (r : Result FileHandles Status) (new : realms.Realm A) (after : Buffer)
     → failure (m (context_at e c)).caller (whole (realm_of e)) (m (context_at e c)).questions ≡ failure (m (context_at e c)).caller (whole (realm_of e)) (rest (context_at e c))
     → trace (m (context_at e c)).caller (m (context_at e c)).number (whole (realm_of e)) (m (context_at e c)).questions ≡ lines ++ trace (m (context_at e c)).caller (m (context_at e c)).number (whole (realm_of e)) (rest (context_at e c))
     → mid ≡ holding lines e
-    → GivesSo true room (record (m (context_at mid c)) { questions = rest (context_at mid c) }) waits mid handles before r new after → GivesSo true room (m (context_at e c)) waits e handles before r new after
+    → GivesSo (sense true (record (m (context_at mid c)) { questions = rest (context_at mid c) }) waits) room handles (stage mid before) r (stage new after) → GivesSo (sense true (m (context_at e c)) waits) room handles (stage e before) r (stage new after)
 behind_at {A} room c m rest e handles before lines mid r new after failures traces is gives =
     behind room (m (context_at e c)) (rest (context_at e c)) e handles before lines mid r new after failures traces is
-    (subst (λ (x : Context). GivesSo true room (record (m x) { questions = rest x }) waits mid handles before r new after) (ap (λ (x : realms.Realm A). context_at x c) is) gives)
+    (subst (λ (x : Context). GivesSo (sense true (record (m x) { questions = rest x }) waits) room handles (stage mid before) r (stage new after)) (ap (λ (x : realms.Realm A). context_at x c) is) gives)
 
 -- A row is the next question, and refuses: the lines of its demands are held.
 pub row_refuses : {A : Type 0} (room : ℕ) (m : Meaning) (demands : Sight → List (Option Demand)) (others : List Question) (e : realms.Realm A) (handles : FileHandles) (before : Buffer) (new : realms.Realm A)
     → all_granted (judged_of e.tree.world) m.caller (demands (whole (realm_of e))) ≡ false
     → new ≡ holding (demand_lines (judged_of e.tree.world) m.caller m.number (demands (whole (realm_of e)))) e
-    → GivesSo true room (record m { questions = Row demands ∷ others }) waits e handles before (Err statuses.Access) new before
+    → GivesSo (sense true (record m { questions = Row demands ∷ others }) waits) room handles (stage e before) (Err statuses.Access) (stage new before)
 row_refuses {A} room m demands others e handles before new refused is =
-    subst (λ (x : realms.Realm A). GivesSo true room (record m { questions = Row demands ∷ others }) waits e handles before (Err statuses.Access) x before) (sym is) (record {
+    subst (λ (x : realms.Realm A). GivesSo (sense true (record m { questions = Row demands ∷ others }) waits) room handles (stage e before) (Err statuses.Access) (stage x before)) (sym is) (record {
       answered = record {
         outcome = λ told. rw refused refl;
         log = λ told. rw refused (ap (λ l. record e.tree.log { held = e.tree.log.held ++ l }) (sym (append-nil (demand_lines (judged_of e.tree.world) m.caller m.number (demands (whole (realm_of e)))))));
@@ -83,10 +83,10 @@ row_refuses {A} room m demands others e handles before new refused is =
 pub row_refuses_always : {A : Type 0} (room : ℕ) (m : Meaning) (demands : Sight → List (Option Demand)) (others : List Question) (e : realms.Realm A) (handles : FileHandles) (before : Buffer) (new : realms.Realm A) → m.questions ≡ Row demands ∷ others
     → all_granted (judged_of e.tree.world) m.caller (demands (whole (realm_of e))) ≡ false
     → new ≡ holding (demand_lines (judged_of e.tree.world) m.caller m.number (demands (whole (realm_of e)))) e
-    → GivesSo false room m waits e handles before (Err statuses.Access) new before
+    → GivesSo (sense false m waits) room handles (stage e before) (Err statuses.Access) (stage new before)
 row_refuses_always {A} room m demands others e handles before new asks refused is =
-    subst (λ (x : realms.Realm A). GivesSo false room m waits e handles before (Err statuses.Access) x before) (sym is)
-    (subst (λ (q : List Question). GivesSo false room (record m { questions = q }) waits e handles before (Err statuses.Access) (holding (demand_lines (judged_of e.tree.world) m.caller m.number (demands (whole (realm_of e)))) e) before) (sym asks) (record {
+    subst (λ (x : realms.Realm A). GivesSo (sense false m waits) room handles (stage e before) (Err statuses.Access) (stage x before)) (sym is)
+    (subst (λ (q : List Question). GivesSo (sense false (record m { questions = q }) waits) room handles (stage e before) (Err statuses.Access) (stage (holding (demand_lines (judged_of e.tree.world) m.caller m.number (demands (whole (realm_of e)))) e) before)) (sym asks) (record {
       answered = record {
         outcome = rw refused refl;
         log = rw refused (ap (λ l. record e.tree.log { held = e.tree.log.held ++ l }) (sym (append-nil (demand_lines (judged_of e.tree.world) m.caller m.number (demands (whole (realm_of e)))))));

@@ -25,7 +25,7 @@ use Rattle.compound_run.specs.Runs.{waits}
 use Rattle.compound_run.specs.Create as specs
 use Rattle.compound_run.specs.Create.{Draft, can_add, created, list_at, making, with_created}
 use Rattle.compound_run.specs.Lists.{new_fits, new_list}
-use Rattle.compound_run.specs.Views.{GivesSo, realm_of, settings_of}
+use Rattle.compound_run.specs.Views.{GivesSo, realm_of, settings_of, stage, sense}
 use Rattle.compound_run.proofs.Opening.{wanting}
 
 pub world_created : {A : Type 0} (c : Context) (h : FileHandles) (v : Value create_args) (new : NewObject A) (m : Draft) (want : Wanted) (w : World) (d : ℕ) (a : At)
@@ -53,7 +53,7 @@ module _ {A : Type 0} (room : ℕ) (c : Context) (h : FileHandles) (v : Value cr
 
   pub not_added : {T : Type 0} (status : Status) (r : Result T Status) → r ≡ Err status
       → (can_add (sight_of e) d ≡ false → r ≡ Err statuses.NoSpc) → (can_add (sight_of e) d ≡ true → IsOkUnless r statuses.Delay)
-      → new ≡ e → GivesSo true room (making v d c h) waits e h out (Err status) new out
+      → new ≡ e → GivesSo (sense true (making v d c h) waits) room h (stage e out) (Err status) (stage new out)
   not_added status r is full space stays = record {
     answered = record {
       outcome = λ other. ap (λ f. told f ((making v d c h).answer (sight_of e))) (sym (fails ∙ wanting (can_add (sight_of e) d) status r is full space (λ same. other (ap (λ x. Err x) same))));

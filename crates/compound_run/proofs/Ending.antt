@@ -18,7 +18,7 @@ use Rattle.compound_run.specs.Meaning.{Meaning}
 use Rattle.compound_run.specs.Operations.{meaning, may_delay}
 use Rattle.compound_run.specs.Runs.{Point, Answered, Steps, Unless, outcome, traced, waits}
 use Rattle.compound_run.specs.Telling.{is_delay, is_delay_status}
-use Rattle.compound_run.specs.Views.{GivesSo, handles_after, point_at, realm_of, told_as}
+use Rattle.compound_run.specs.Views.{GivesSo, handles_after, point_at, realm_of, told_as, stage, sense}
 use Rattle.compound_run.proofs.Exactly.{never_delays}
 
 err_same : (a b : Status) → ◌≡◌ {A = Result Outcome Status} (Err a) (Err b) → a ≡ b
@@ -84,7 +84,7 @@ told_delay m r (Err status) = refl
 
 pub ends_so : {A : Type 0} (may : Bool) (room : ℕ) (m : Meaning) (e : realms.Realm A) (h : FileHandles) (before : Buffer) (r : Result FileHandles Status) (e' : realms.Realm A) (after : Buffer) (tree : Guarded)
     → tree ≡ record e'.tree { log = settled (not (is_delay r)) e'.tree.log }
-    → GivesSo may room m waits e h before r e' after → GivesSo may room m (settled true) e h before r (record e' { tree = tree }) after
+    → GivesSo (sense may m waits) room h (stage e before) r (stage e' after) → GivesSo (sense may m (settled true)) room h (stage e before) r (stage (record e' { tree = tree }) after)
 ends_so {A} may room m e h before r e' after tree is gives = record {
   answered = subst (λ t. Answered may m (settled true) (point_at e h) (told_as m (realm_of e) r) (point_at (record e' { tree = t }) (handles_after h r))) (sym all)
       (ends may m (point_at e h) (told_as m (realm_of e) r) (point_at e' (handles_after h r)) gives.answered);

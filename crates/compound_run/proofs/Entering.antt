@@ -13,7 +13,7 @@ use Rattle.compound_run.specs.Limits.{MIN_ROOM, REFUSAL_ROOM}
 use Rattle.compound_run.specs.Faults.{IsFault, MayFault, first_fault}
 use Rattle.compound_run.specs.Meaning.{Meaning, too_big_for}
 use Rattle.compound_run.specs.Operations.{entered, entry_fault_in, place_fault_in, room_fault_in, is_run}
-use Rattle.compound_run.specs.Views.{GivesSo, HasRoom, handles_after, IfRun, point_at, realm_of, told_as}
+use Rattle.compound_run.specs.Views.{GivesSo, HasRoom, handles_after, IfRun, point_at, realm_of, told_as, stage, sense}
 use Rattle.compound_run.specs.Runs.{Point, Answered, waits}
 
 entered_freely : (takes : Bool) (may : MayFault None) (m : Meaning) (old : Point) (r : Result Outcome Status) (new : Point)
@@ -63,7 +63,7 @@ stops false (Some other) may m old status is = subst (λ s. Answered false (ente
 -- ---- the result of the code
 
 pub enters_so : {A : Type 0} (takes : Bool) (fault : Option Status) (may : MayFault fault) (room : ℕ) (m : Meaning) (e : realms.Realm A) (h : FileHandles) (before : Buffer) (r : Result FileHandles Status) (e' : realms.Realm A) (after : Buffer) → fault ≡ None
-    → GivesSo takes room m waits e h before r e' after → GivesSo (takes && is_none fault) room (entered fault may m) waits e h before r e' after
+    → GivesSo (sense takes m waits) room h (stage e before) r (stage e' after) → GivesSo (sense (takes && is_none fault) (entered fault may m) waits) room h (stage e before) r (stage e' after)
 enters_so takes fault may room m e h before r e' after is gives = record {
   answered = enters takes fault may m (point_at e h) (told_as m (realm_of e) r) (point_at e' (handles_after h r)) is gives.answered;
   written = gives.written;
@@ -72,7 +72,7 @@ enters_so takes fault may room m e h before r e' after is gives = record {
 }
 
 pub stops_so : {A : Type 0} (takes : Bool) (fault : Option Status) (may : MayFault fault) (room : ℕ) (m : Meaning) (e : realms.Realm A) (h : FileHandles) (before : Buffer) (status : Status) → fault ≡ Some status
-    → GivesSo (takes && is_none fault) room (entered fault may m) waits e h before (Err status) e before
+    → GivesSo (sense (takes && is_none fault) (entered fault may m) waits) room h (stage e before) (Err status) (stage e before)
 stops_so takes fault may room m e h before status is = record { answered = stops takes fault may m (point_at e h) status is; written = tt; within = tt; unwritten = refl }
 
 -- an operation that is run has room for its result

@@ -22,10 +22,10 @@ use Rattle.compound_run.specs.declared.compound.Ended.{Ended}
 use Rattle.compound_run.specs.declared.realm.Realm as realms
 use Rattle.compound_run.specs.Context.{Context, no_handles}
 use Rattle.compound_run.specs.Runs.{Given, Runs, status_of, result_bytes, results_bytes}
-use Rattle.compound_run.specs.Compound.{head, last_status, together}
+use Rattle.compound_run.specs.Compound.{head, last_status, together, series}
 use Rattle.compound_run.specs.Sequence.{keeping}
 use Rattle.compound_run.specs.SessionViews.{SequencedTo, SequencedBehind, SequencedKept, WritesWithin}
-use Rattle.compound_run.specs.Views.{point_at}
+use Rattle.compound_run.specs.Views.{point_at, stage}
 use Rattle.compound_run.specs.Written.{RunGives}
 use Rattle.compound_run.proofs.Staying.{runs_stay}
 
@@ -36,8 +36,8 @@ last_behind given (next ∷ results) ok = refl
 
 -- operations that are run after a result that is OK
 pub sequenced : {A : Type 0} (most : ℕ) (c : Context) (room : ℕ) (tag : List ℕ) (number : ℕ) (o : Outcome) (operations : List ℕ) (old new : realms.Realm A) (before mid after : Buffer) (end : Ended)
-    → c.position ≡ 1 → c.room ≡ room → Appends before mid (result_bytes (record { number = number; outcome = Ok o })) → RunGives c operations old mid end new after → length after.bytes ≤ most
-    → SequencedBehind most (record c { room = room }) tag (record { number = number; outcome = Ok o }) operations old before end new after
+    → c.position ≡ 1 → c.room ≡ room → Appends before mid (result_bytes (record { number = number; outcome = Ok o })) → RunGives c operations (stage old mid) end (stage new after) → length after.bytes ≤ most
+    → SequencedBehind most (series tag (record c { room = room }) operations) (record { number = number; outcome = Ok o }) (stage old before) end (stage new after)
 sequenced {A} most c room tag number o operations old new before mid after end second is appends r within = (
   result_bytes given ++ results_bytes r.results,
   (r.handles, (r.results, subst (λ x. Runs (record c { room = x }) (c.count - c.position) operations (point_at old no_handles) r.results (point_at new r.handles)) is r.runs, told)),
@@ -91,12 +91,12 @@ longer_by tag start first tagged begun p q r =
 
 pub sequenced_within : {A : Type 0} (limit most : ℕ) (c : Context) (room other : ℕ) (tag : List ℕ) (given : Given) (operations : List ℕ) (old realm : realms.Realm A) (start first tagged begun done counted new : Buffer) (end : Ended)
     → Appends start first zeros → Appends first tagged (tag_bytes tag) → Appends tagged begun zeros
-    → SequencedBehind most (record c { room = room }) tag given operations old begun end realm done
+    → SequencedBehind most (series tag (record c { room = room }) operations) given (stage old begun) end (stage realm done)
     → Fills done counted (length tagged.bytes) (to_be_bytes w32 end.ran) → Fills counted new (length start.bytes) (word end.status) → room ≡ other → most ≤ length start.bytes + limit
-    → WritesWithin limit (λ bytes. SequencedTo (record c { room = other }) tag given operations old bytes realm) start new
+    → WritesWithin limit (λ bytes. SequencedTo (series tag (record c { room = other }) operations) given old bytes realm) start new
 sequenced_within {A} limit most c room other tag given operations old realm start first tagged begun done counted new end p q r s f g is within = (
   head end.status tag end.ran ++ s.0,
-  subst (λ x. SequencedTo (record c { room = x }) tag given operations old (head end.status tag end.ran ++ s.0) realm) is s.1,
+  subst (λ x. SequencedTo (series tag (record c { room = x }) operations) given old (head end.status tag end.ran ++ s.0) realm) is s.1,
   headed start first tagged begun done counted new end.status tag end.ran s.0 p q r s.2 f g,
   few,
 )
@@ -127,7 +127,7 @@ few_there r s session slot new n stands same few =
 
 -- no session is made or ended by the operations
 pub sessions_stay : {A : Type 0} (limit : ℕ) (c : Context) (tag : List ℕ) (given : Given) (operations : List ℕ) (old new : realms.Realm A) (before after : Buffer)
-    → WritesWithin limit (λ bytes. SequencedTo c tag given operations old bytes new) before after → new.clients.sessions ≡ old.clients.sessions
+    → WritesWithin limit (λ bytes. SequencedTo (series tag c operations) given old bytes new) before after → new.clients.sessions ≡ old.clients.sessions
 sessions_stay limit c tag given operations old new before after w = runs_stay c (c.count - c.position) operations (point_at old no_handles) w.1.1.0 (point_at new w.1.0) w.1.1.1
 
 -- the bytes that were appended
@@ -135,9 +135,9 @@ pub appended : (before after : Buffer) (item : List ℕ) → Appends before afte
 appended before after item p = ap (drop (length before.bytes)) p.behind ∙ drop_at before.bytes item (length before.bytes) refl
 
 pub kept_so : {A : Type 0} (limit other : ℕ) (c d : Context) (tag : List ℕ) (v : Value sequence_args) (given done : Given) (operations : List ℕ) (old mid new : realms.Realm A) (before after : Buffer) (start : ℕ)
-    → WritesWithin limit (λ bytes. SequencedTo c tag given operations old bytes mid) before after → limit ≡ other → c ≡ d → given ≡ done → start ≡ length before.bytes
+    → WritesWithin limit (λ bytes. SequencedTo (series tag c operations) given old bytes mid) before after → limit ≡ other → c ≡ d → given ≡ done → start ≡ length before.bytes
     → new ≡ record mid { clients = keeping v (drop start after.bytes) mid.clients }
-    → WritesWithin other (λ bytes. SequencedKept d tag v done operations old bytes new) before after
+    → WritesWithin other (λ bytes. SequencedKept (series tag d operations) v done old bytes new) before after
 kept_so {A} limit other c d tag v given done operations old mid new before after start w few is told from kept = (
   w.0,
   (mid, runs, kept ∙ ap (λ bytes. record mid { clients = keeping v bytes mid.clients }) same),
@@ -148,8 +148,8 @@ kept_so {A} limit other c d tag v given done operations old mid new before after
     same : drop start after.bytes ≡ w.0
     same = ap (λ n. drop n after.bytes) from ∙ appended before after w.0 w.2
 
-    runs : SequencedTo d tag done operations old w.0 mid
-    runs = subst (λ x. SequencedTo x tag done operations old w.0 mid) is (subst (λ x. SequencedTo c tag x operations old w.0 mid) told w.1)
+    runs : SequencedTo (series tag d operations) done old w.0 mid
+    runs = subst (λ x. SequencedTo (series tag x operations) done old w.0 mid) is (subst (λ x. SequencedTo (series tag c operations) x old w.0 mid) told w.1)
 
 -- the bytes that were appended are within the limit
 pub few_appended : {X : List ℕ → Type 0} (limit start : ℕ) (before after : Buffer) (w : WritesWithin limit X before after) → start ≡ length before.bytes → length (drop start after.bytes) ≤ limit

@@ -47,7 +47,7 @@ use Rattle.nfs_ops.specs.declared.op_kind.OpKind.TheVariants as kinds
 use Rattle.compound_run.specs.Asking.{sight_of}
 use Rattle.compound_run.specs.Questions.{all_granted, demand_lines}
 use Rattle.compound_run.specs.Runs.{spelled, waits}
-use Rattle.compound_run.specs.Views.{GivesSo, context_at, holding}
+use Rattle.compound_run.specs.Views.{GivesSo, context_at, holding, stage, sense}
 use Rattle.compound_run.specs.Listed.{IsNext, IsNextOf, PutsEntry, refused_of, written_entry}
 use Rattle.compound_run.specs.Says.{SaysAsked}
 use Rattle.compound_run.proofs.Behind.{row_refuses_always}
@@ -354,7 +354,7 @@ module _ {A : Type 0} (room : ℕ) (c : Context) (h : FileHandles) (v : Value re
   abbrev told : Result Listing (ListFault Demand)
   told = listed c v directory (sight_of e)
 
-  given_so : steps.Lists told room before after → GivesSo false room (listing_of v directory c h) waits e h before (Ok h) e after
+  given_so : steps.Lists told room before after → GivesSo (sense false (listing_of v directory c h) waits) room h (stage e before) (Ok h) (stage e after)
   unfolding spelled
   given_so lists = record {
     answered = record {
@@ -373,7 +373,7 @@ module _ {A : Type 0} (room : ℕ) (c : Context) (h : FileHandles) (v : Value re
     unwritten = tt;
   }
 
-  small_so : told ≡ Err TooSmall → GivesSo false room (listing_of v directory c h) waits e h before (Err statuses.TooSmall) e before
+  small_so : told ≡ Err TooSmall → GivesSo (sense false (listing_of v directory c h) waits) room h (stage e before) (Err statuses.TooSmall) (stage e before)
   small_so small = record {
     answered = record {
       outcome = rw small refl;
@@ -391,18 +391,18 @@ module _ {A : Type 0} (room : ℕ) (c : Context) (h : FileHandles) (v : Value re
     unwritten = refl;
   }
 
-  pub list_given : (new : realms.Realm A) → new ≡ e → steps.Lists told room before after → GivesSo false room (listing_of v directory c h) waits e h before (Ok h) new after
-  list_given new same lists = subst (λ (x : realms.Realm A). GivesSo false room (listing_of v directory c h) waits e h before (Ok h) x after) (sym same) (given_so lists)
+  pub list_given : (new : realms.Realm A) → new ≡ e → steps.Lists told room before after → GivesSo (sense false (listing_of v directory c h) waits) room h (stage e before) (Ok h) (stage new after)
+  list_given new same lists = subst (λ (x : realms.Realm A). GivesSo (sense false (listing_of v directory c h) waits) room h (stage e before) (Ok h) (stage x after)) (sym same) (given_so lists)
 
-  pub list_small : (new : realms.Realm A) → new ≡ e → told ≡ Err TooSmall → after ≡ before → GivesSo false room (listing_of v directory c h) waits e h before (Err statuses.TooSmall) new after
+  pub list_small : (new : realms.Realm A) → new ≡ e → told ≡ Err TooSmall → after ≡ before → GivesSo (sense false (listing_of v directory c h) waits) room h (stage e before) (Err statuses.TooSmall) (stage new after)
   list_small new same small stays =
-      subst (λ (x : realms.Realm A). GivesSo false room (listing_of v directory c h) waits e h before (Err statuses.TooSmall) x after) (sym same)
-      (subst (λ (b : Buffer). GivesSo false room (listing_of v directory c h) waits e h before (Err statuses.TooSmall) e b) (sym stays) (small_so small))
+      subst (λ (x : realms.Realm A). GivesSo (sense false (listing_of v directory c h) waits) room h (stage e before) (Err statuses.TooSmall) (stage x after)) (sym same)
+      (subst (λ (b : Buffer). GivesSo (sense false (listing_of v directory c h) waits) room h (stage e before) (Err statuses.TooSmall) (stage e b)) (sym stays) (small_so small))
 
-  pub list_refused : (d : Demand) (new : realms.Realm A) → told ≡ Err (Refused d) → after ≡ before → new ≡ holding (demand_lines (world.judged_of e.tree.world) c.caller (row kinds.ReadDir).number (Some d ∷ [])) e → GivesSo false room (listing_of v directory c h) waits e h before (Err statuses.Access) new after
+  pub list_refused : (d : Demand) (new : realms.Realm A) → told ≡ Err (Refused d) → after ≡ before → new ≡ holding (demand_lines (world.judged_of e.tree.world) c.caller (row kinds.ReadDir).number (Some d ∷ [])) e → GivesSo (sense false (listing_of v directory c h) waits) room h (stage e before) (Err statuses.Access) (stage new after)
   list_refused d new refused stays is =
       let not : is_granted (decision (sight_of e).lists c.caller d) ≡ false = what_refuses c v directory (sight_of e) d refused in
-      subst (λ (b : Buffer). GivesSo false room (listing_of v directory c h) waits e h before (Err statuses.Access) new b) (sym stays)
+      subst (λ (b : Buffer). GivesSo (sense false (listing_of v directory c h) waits) room h (stage e before) (Err statuses.Access) (stage new b)) (sym stays)
       (row_refuses_always room (listing_of v directory c h) (λ s. refused_in (listed c v directory s) ∷ []) (fits_some c v directory ∷ []) e h before new refl
       (ap (λ t. all_granted (sight_of e).lists c.caller (refused_in t ∷ [])) refused ∙ ap (λ b. b && true) not)
       (is ∙ ap (λ t. holding (demand_lines (world.judged_of e.tree.world) c.caller (row kinds.ReadDir).number (refused_in t ∷ [])) e) (sym refused)))

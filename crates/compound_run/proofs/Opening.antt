@@ -34,7 +34,7 @@ use Rattle.compound_run.specs.Stateids.{client_of}
 use Rattle.compound_run.specs.Open.{access_of, file_in, file_of, name_in, wanted, risen, with_reopened, with_open, stateid_of, found, opening, is_permitted, is_within, has_space_for, last_questions, result_on, opened_on, change_of}
 use Rattle.compound_run.specs.Opening.{IsBefore, IsPlace, MakesFile, placed, placed_stateid}
 use Rattle.compound_run.specs.Runs.{spelled, waits}
-use Rattle.compound_run.specs.Views.{GivesSo, realm_of, settings_of}
+use Rattle.compound_run.specs.Views.{GivesSo, realm_of, settings_of, stage, sense}
 
 -- ---- the outcome of the last questions
 
@@ -61,7 +61,7 @@ module _ {A : Type 0} (room : ℕ) (v : Value open_args) (c : Context) (h : File
   -- OPEN is refused, or delayed, and nothing has changed
   pub refused : (status : Status) → realm_of new ≡ realm_of e → new.tree.log ≡ e.tree.log → settings_of new ≡ settings_of e
       → (status ≢ statuses.Delay → failure c.caller (sight_of e) (last_questions v c h) ≡ Some status)
-      → GivesSo true room (opening v c h) waits e h before (Err status) new before
+      → GivesSo (sense true (opening v c h) waits) room h (stage e before) (Err status) (stage new before)
   refused status realm log settings fails = record {
     answered = record {
       outcome = λ other. ap (λ f. told f ((opening v c h).answer (sight_of e))) (sym (fails (λ same. other (ap (λ x. Err x) same))));
@@ -83,7 +83,7 @@ module _ {A : Type 0} (room : ℕ) (v : Value open_args) (c : Context) (h : File
   pub given : (t : Option ℕ) (after : Buffer) → found v h (sight_of e) ≡ t → is_permitted c v t ≡ true → is_within c v t ≡ true → has_space_for c v (here h) t (sight_of e) ≡ true
       → realm_of new ≡ opened_on c v (here h) t (realm_of e) → new.tree.log ≡ e.tree.log → settings_of new ≡ settings_of e
       → Appends before after (spelled (Done kinds.Open (result_on c v (here h) t (sight_of e)))) → length after.bytes ≤ length before.bytes + room
-      → GivesSo true room (opening v c h) waits e h before (Ok (record h { current = Some (unwrap_or t e.tree.world.next_number) })) new after
+      → GivesSo (sense true (opening v c h) waits) room h (stage e before) (Ok (record h { current = Some (unwrap_or t e.tree.world.next_number) })) (stage new after)
   given t after is permitted within space realm log settings written short = record {
     answered = record {
       outcome = λ other. ap (λ f. told f ((opening v c h).answer (sight_of e))) (sym (fails_by v c h (sight_of e) t is true true true permitted within space));

@@ -16,11 +16,11 @@ use Rattle.compound_run.specs.Faults.{first_fault}
 use Rattle.compound_run.specs.Questions.{told, lines_unless}
 use Rattle.compound_run.specs.Runs.{waits}
 use Rattle.compound_run.specs.Stateids.{client_of}
-use Rattle.compound_run.specs.Views.{GivesSo}
+use Rattle.compound_run.specs.Views.{GivesSo, stage, sense}
 use Rattle.compound_run.proofs.Acting.{refusal_is}
 
 isnt_first : {A : Type 0} (room : ℕ) (c : Context) (h : FileHandles) (e : realms.Realm A) (out : Buffer) (status : Status) → reclaim_refusal e.clients (client_of c) ≡ Some status
-    → GivesSo false room (reclaim_complete false c h) waits e h out (Err status) e out
+    → GivesSo (sense false (reclaim_complete false c h) waits) room h (stage e out) (Err status) (stage e out)
 isnt_first room c h e out status is = record {
   answered = record {
     outcome = ap (λ f. told (first_fault f None) (Done kinds.ReclaimComplete tt)) (sym is);
@@ -45,9 +45,9 @@ isnt_first room c h e out status is = record {
 pub isnt_reclaimed : {A : Type 0} (room : ℕ) (one_fs : Bool) (c : Context) (h : FileHandles) (e : realms.Realm A) (out : Buffer) (status : Status) (answer : Result FileHandles Status) → answer ≡ Err status
     → (client : ℕ) → client ≡ client_of c → (registry : Registry) → one_fs ≡ false
     → MatchOption (reclaim_refusal e.clients client) (IsOk {T = Unit {0}} {E = Status} (Err status)) (λ s. ◌≡◌ {A = Result (Unit {0}) Status} (Err status) (Err s))
-    → registry ≡ e.clients → GivesSo false room (reclaim_complete one_fs c h) waits e h out answer (record e { clients = registry }) out
+    → registry ≡ e.clients → GivesSo (sense false (reclaim_complete one_fs c h) waits) room h (stage e out) answer (stage (record e { clients = registry }) out)
 isnt_reclaimed {A} room one_fs c h e out status answer told client is registry all refused same =
-    subst (λ r. GivesSo false room (reclaim_complete one_fs c h) waits e h out r (record e { clients = registry }) out) (sym told)
-    (subst (λ b. GivesSo false room (reclaim_complete b c h) waits e h out (Err status) (record e { clients = registry }) out) (sym all)
-    (subst (λ r. GivesSo false room (reclaim_complete false c h) waits e h out (Err status) (record e { clients = r }) out) (sym same)
+    subst (λ r. GivesSo (sense false (reclaim_complete one_fs c h) waits) room h (stage e out) r (stage (record e { clients = registry }) out)) (sym told)
+    (subst (λ b. GivesSo (sense false (reclaim_complete b c h) waits) room h (stage e out) (Err status) (stage (record e { clients = registry }) out)) (sym all)
+    (subst (λ r. GivesSo (sense false (reclaim_complete false c h) waits) room h (stage e out) (Err status) (stage (record e { clients = r }) out)) (sym same)
     (isnt_first room c h e out status (ap (reclaim_refusal e.clients) (sym is) ∙ refusal_is (reclaim_refusal e.clients client) status refused))))

@@ -25,14 +25,14 @@ use Rattle.compound_run.specs.declared.realm.Realm as realms
 use Rattle.compound_run.specs.declared.in_session.Coming.{Coming}
 use Rattle.compound_run.specs.Limits.{MAX_RESULTS, MINOR_VERSION}
 use Rattle.compound_run.specs.Context.{no_handles}
-use Rattle.compound_run.specs.Compound.{args_form, args_in}
+use Rattle.compound_run.specs.Compound.{args_form, args_in, series}
 use Rattle.compound_run.specs.State.{State, Call, start}
 use Rattle.compound_run.specs.Views.{point_at, realm_of, settings_of, state_of}
 use Rattle.compound_run.specs.Beginning.{Beginning, Ends, Follows, beginning}
 use Rattle.compound_run.specs.CreateSession.{kept_for, created_before, create_of, session_made}
 use Rattle.compound_run.specs.Sequence.{sequence_done}
 use Rattle.compound_run.specs.Sessions.{told_by, opens_without, with_registry}
-use Rattle.compound_run.specs.InSession.{Reply, ActsTo, RunsTo, RunsAlone, RunsOnSlot, RunsBy, RunsBegun, RunsCall, RunsOf, AnswersInSession, begun_in, in_registry, fate, fate_of, fate_begun, fate_alone, fate_by, given_alone, again}
+use Rattle.compound_run.specs.InSession.{Reply, ActsTo, RunsTo, RunsAlone, RunsOnSlot, RunsBy, RunsBegun, RunsCall, RunsOf, AnswersInSession, begun_in, in_registry, fate, fate_of, fate_begun, fate_alone, fate_by, given_alone, again, sequenced}
 use Rattle.compound_run.specs.SessionViews.{AnswersAs, IsOfClients, SequencedKept, Writes, WritesWithin, call_of, coming_behind, lone_view}
 
 -- ---- a new call of a slot
@@ -48,8 +48,8 @@ begins_so e registry settled = λ i. record {
 
 on_slot : {A : Type 0} (call : Coming) (v : Value sequence_args) (operations : List ℕ) (new : NewCall) (e begun f : realms.Realm A) (bytes : List ℕ) → e.tree.log.held ≡ []
     → begun ≡ record e { clients = begun_in (realm_of e) (call_of call) call.compound.count v operations } → length bytes ≤ new.reply_size - 24
-    → SequencedKept (coming_behind e.tree.book call v new) call.compound.tag.now v (sequence_done v new.highest_slot) operations begun bytes f
-    → RunsOnSlot (state_of e) (call_of call) call.compound.tag.now call.compound.count v operations new bytes (state_of f)
+    → SequencedKept (series call.compound.tag.now (coming_behind e.tree.book call v new) operations) v (sequence_done v new.highest_slot) begun bytes f
+    → RunsOnSlot (state_of e) (sequenced (call_of call) call.compound.tag.now call.compound.count v operations) new bytes (state_of f)
 on_slot call v operations new e begun f bytes settled is few kept =
     let context = coming_behind e.tree.book call v new in
     let tag = call.compound.tag.now in
@@ -58,21 +58,21 @@ on_slot call v operations new e begun f bytes settled is few kept =
     let end = point_at kept.0 kept.1.0 in
     let from : point_at begun no_handles ≡ start (in_registry registry (state_of e)) = ap (λ x. point_at x no_handles) is ∙ begins_so e registry settled in (
       end,
-      subst (λ p. RunsTo context tag done operations p bytes end) from kept.1.1,
+      subst (λ p. RunsTo (series tag context operations) done p bytes end) from kept.1.1,
       ap state_of kept.2,
       few,
     )
 
 pub answers_new : {A : Type 0} (call : Coming) (v : Value sequence_args) (operations : List ℕ) (new : NewCall) (b : Begin) (e begun f : realms.Realm A) (before after : Buffer) → e.tree.log.held ≡ []
     → begins.New new ≡ b → begun ≡ record e { clients = begun_in (realm_of e) (call_of call) call.compound.count v operations } → new.reply_size ≤ 65536
-    → WritesWithin (new.reply_size - 24) (λ bytes. SequencedKept (coming_behind e.tree.book call v new) call.compound.tag.now v (sequence_done v new.highest_slot) operations begun bytes f) before after
-    → WritesWithin MAX_RESULTS (λ bytes. AnswersAs (fate_by call.compound.tag.now v e.clients b) (RunsBy b (call_of call) call.compound.tag.now call.compound.count v operations (state_of e)) (state_of e) bytes (state_of f)) before after
+    → WritesWithin (new.reply_size - 24) (λ bytes. SequencedKept (series call.compound.tag.now (coming_behind e.tree.book call v new) operations) v (sequence_done v new.highest_slot) begun bytes f) before after
+    → WritesWithin MAX_RESULTS (λ bytes. AnswersAs (fate_by call.compound.tag.now v e.clients b) (RunsBy b (sequenced (call_of call) call.compound.tag.now call.compound.count v operations) (state_of e)) (state_of e) bytes (state_of f)) before after
 answers_new {A} call v operations new b e begun f before after settled told is most w =
     let s = state_of e in
     let t = state_of f in
     let tag = call.compound.tag.now in (
       w.0,
-      subst (λ x. AnswersAs (fate_by tag v e.clients x) (RunsBy x (call_of call) tag call.compound.count v operations s) s w.0 t) told (on_slot call v operations new e begun f w.0 settled is w.3 w.1),
+      subst (λ x. AnswersAs (fate_by tag v e.clients x) (RunsBy x (sequenced (call_of call) tag call.compound.count v operations) s) s w.0 t) told (on_slot call v operations new e begun f w.0 settled is w.3 w.1),
       w.2,
       omega (arith, w.3, most),
     )

@@ -14,7 +14,7 @@ use Rattle.compound_run.specs.Context.{Context, behind, no_handles}
 use Rattle.compound_run.specs.Runs.{Point, Given, Steps, Runs, status_of, result_bytes, results_bytes}
 use Rattle.compound_run.specs.Compound.{last_status}
 use Rattle.compound_run.specs.Telling.{IsToldBy}
-use Rattle.compound_run.specs.Views.{point_at}
+use Rattle.compound_run.specs.Views.{point_at, stage}
 use Rattle.compound_run.specs.Written.{StepGives, RunGives}
 
 -- the context of the operation of this position
@@ -129,7 +129,7 @@ more_ok b s r below number (Err status) e h out is steps appends fits tells = ab
 
 -- the result of a step, at the next operation of the bytes
 abbrev pub StepOf : {A : Type 0} → Begun A → Stand A → ℕ → Operation → Result FileHandles Status → realms.Realm A → FileHandles → Buffer → Type 0
-StepOf b s room op answer e h out = StepGives (at b.context s.position room) op (point_at s.realm s.handles) s.out answer (point_at e h) out
+StepOf b s room op answer e h out = StepGives (at b.context s.position room) op (stage (point_at s.realm s.handles) s.out) answer (stage (point_at e h) out)
 
 pub goes_on : {A : Type 0} (b : Begun A) (s : Stand A) → Running b s → s.position < b.context.count → (room : ℕ) → room ≡ room_at b s
     → (op : Operation) (rest : List ℕ) (e : realms.Realm A) (h : FileHandles) (out : Buffer) → (op, rest) ≡ next_at s.rest → StepOf b s room op (Ok h) e h out
@@ -143,7 +143,7 @@ last_err : {A : Type 0} (b : Begun A) (s : Stand A) → Running b s → s.positi
     → (number : ℕ) (outcome : Result Outcome Status) (status : Status) (e : realms.Realm A) (h : FileHandles) (out : Buffer)
     → number ≡ number_of (next_at s.rest).0 → Steps (here_at b s) (next_at s.rest).0 (point_at s.realm s.handles) outcome (point_at e h)
     → Appends s.out out (result_bytes (record { number = number; outcome = outcome })) → length out.bytes ≤ length s.out.bytes + room_at b s + REFUSAL_ROOM → IsToldBy {A = FileHandles} (Err status) outcome
-    → RunGives b.context b.operations b.realm b.out (record { status = status; ran = s.position + 1 }) e out
+    → RunGives b.context b.operations (stage b.realm b.out) (record { status = status; ran = s.position + 1 }) (stage e out)
 last_err b s r below number (Ok o) status e h out is steps appends within tells = absurd tells
 last_err b s r below number (Err told) status e h out is steps appends within tells =
     let given : Given = record { number = number; outcome = Err told } in
@@ -159,13 +159,13 @@ last_err b s r below number (Err told) status e h out is steps appends within te
 
 pub ends_with : {A : Type 0} (b : Begun A) (s : Stand A) → Running b s → s.position < b.context.count → (room : ℕ) → room ≡ room_at b s
     → (op : Operation) (rest : List ℕ) (status : Status) (e : realms.Realm A) (h : FileHandles) (out : Buffer) → (op, rest) ≡ next_at s.rest → StepOf b s room op (Err status) e h out
-    → RunGives b.context b.operations b.realm b.out (record { status = status; ran = s.position + 1 }) e out
+    → RunGives b.context b.operations (stage b.realm b.out) (record { status = status; ran = s.position + 1 }) (stage e out)
 ends_with b s r below room is_room op rest status e h out is gives =
     let g = subst (λ x. StepOf b s x op (Err status) e h out) is_room gives in
     last_err b s r below (number_of op) g.outcome status e h out (ap (λ x. number_of x.0) is) (subst (λ o. Steps (here_at b s) o (point_at s.realm s.handles) g.outcome (point_at e h)) (ap (λ x. x.0) is) g.steps) g.written g.within g.tells
 
 pub ends_whole : {A : Type 0} (b : Begun A) (s : Stand A) → Running b s → s.position ≡ b.context.count
-    → RunGives b.context b.operations b.realm b.out (record { status = statuses.Ok; ran = b.context.count }) s.realm s.out
+    → RunGives b.context b.operations (stage b.realm b.out) (record { status = statuses.Ok; ran = b.context.count }) (stage s.realm s.out)
 ends_whole b s r all = record {
   handles = s.handles;
   results = r.results;

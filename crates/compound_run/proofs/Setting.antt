@@ -35,7 +35,7 @@ use Rattle.compound_run.specs.Rows.{sized_facts}
 use Rattle.compound_run.specs.Runs.{spelled, waits}
 use Rattle.compound_run.specs.Setattr.{setattr, sent, size_fault, size_fits, has_counts, sets_list, sized, listed, set_on, setting, with_attributes}
 use Rattle.compound_run.specs.Sight.{kind_at}
-use Rattle.compound_run.specs.Views.{GivesSo, holding, realm_of, with_world}
+use Rattle.compound_run.specs.Views.{GivesSo, holding, realm_of, with_world, stage, sense}
 
 live : (o : Option Object) → IsSome o → is_some (option_map (λ o. o.kind) o) ≡ true
 live None is = cc
@@ -44,7 +44,7 @@ live (Some o) is = refl
 -- the attributes that are sent have a fault
 pub not_wanted : {A : Type 0} (room : ℕ) (c : Context) (h : FileHandles) (v : Value setattr_args) (e : realms.Realm A) (out : Buffer) (number : ℕ) (status : Status)
     → h.current ≡ Some number → IsSome (object e.tree.world number) → (status ≢ statuses.Delay → sent c v (kind_at (sight_of e) number) ≡ Err status)
-    → GivesSo true room (setattr v c h) waits e h out (Err status) e out
+    → GivesSo (sense true (setattr v c h) waits) room h (stage e out) (Err status) (stage e out)
 not_wanted room c h v e out number status is_here there wrong = record {
   answered = record {
     outcome = λ apart. rw is_here (rw (live (object e.tree.world number) there) (rw (wrong (λ is. apart (ap Err is))) refl));
@@ -65,7 +65,7 @@ not_wanted room c h v e out number status is_here there wrong = record {
 -- its size can't be set
 pub not_sized : {A : Type 0} (room : ℕ) (c : Context) (h : FileHandles) (v : Value setattr_args) (e : realms.Realm A) (out : Buffer) (number : ℕ) (wanted : Wanted) (status : Status)
     → h.current ≡ Some number → IsSome (object e.tree.world number) → sent c v (kind_at (sight_of e) number) ≡ Ok wanted → size_fault wanted.size c number (set_stateid v) (sight_of e) ≡ Some status
-    → GivesSo true room (setattr v c h) waits e h out (Err status) e out
+    → GivesSo (sense true (setattr v c h) waits) room h (stage e out) (Err status) (stage e out)
 not_sized room c h v e out number wanted status is_here there is_wanted wrong = record {
   answered = record {
     outcome = λ apart. rw is_here (rw (live (object e.tree.world number) there) (rw is_wanted (rw wrong refl)));
@@ -115,12 +115,12 @@ module _ {A : Type 0} (c : Context) (h : FileHandles) (v : Value setattr_args) (
       → bounded ≡ true → mid ≡ holding (demand_lines (judged_of e.tree.world) c.caller (row kinds.SetAttr).number (demanded v h e wanted)) e
       → new ≡ with_world (setting (here h) wanted (at c mid.tree.world) mid.tree.world) mid
       → Appends out out' (spelled (Done kinds.SetAttr (set_of (set_attributes v)))) → length out'.bytes ≤ length out.bytes + room
-      → GivesSo true room (setattr v c h) waits e h out (Ok h) new out'
+      → GivesSo (sense true (setattr v c h) waits) room h (stage e out) (Ok h) (stage new out')
   gives_set room mid new out out' within_bounds holds is_set written within =
       let lines = demand_lines (judged_of e.tree.world) c.caller (row kinds.SetAttr).number (demanded v h e wanted) in
       let end : realms.Realm A = with_world (setting (here h) wanted (at c e.tree.world) e.tree.world) (holding lines e) in
       let ends : new ≡ end = is_set ∙ (λ i. with_world (setting (here h) wanted (at c (holds i).tree.world) (holds i).tree.world) (holds i)) in
-      subst (λ (x : realms.Realm A). GivesSo true room (setattr v c h) waits e h out (Ok h) x out') (sym ends) (record {
+      subst (λ (x : realms.Realm A). GivesSo (sense true (setattr v c h) waits) room h (stage e out) (Ok h) (stage x out')) (sym ends) (record {
         answered = record {
           outcome = λ apart. ap (λ f. told f (Done kinds.SetAttr (set_of (set_attributes v)))) (sym (fails ∙ ap (λ b. cond b None (Some statuses.NoSpc)) within_bounds));
           log = λ apart. ap (λ l. held l e.tree.log) (sym its_lines);
@@ -140,10 +140,10 @@ module _ {A : Type 0} (c : Context) (h : FileHandles) (v : Value setattr_args) (
   refuses_set : (room : ℕ) (mid new : realms.Realm A) (out : Buffer) (status : Status)
       → (status ≢ statuses.Delay → (status ≡ statuses.NoSpc) × (bounded ≡ false))
       → mid ≡ holding (demand_lines (judged_of e.tree.world) c.caller (row kinds.SetAttr).number (demanded v h e wanted)) e → new ≡ mid
-      → GivesSo true room (setattr v c h) waits e h out (Err status) new out
+      → GivesSo (sense true (setattr v c h) waits) room h (stage e out) (Err status) (stage new out)
   refuses_set room mid new out status unfit holds stays =
       let lines = demand_lines (judged_of e.tree.world) c.caller (row kinds.SetAttr).number (demanded v h e wanted) in
-      subst (λ (x : realms.Realm A). GivesSo true room (setattr v c h) waits e h out (Err status) x out) (sym (stays ∙ holds)) (record {
+      subst (λ (x : realms.Realm A). GivesSo (sense true (setattr v c h) waits) room h (stage e out) (Err status) (stage x out)) (sym (stays ∙ holds)) (record {
         answered = record {
           outcome = λ apart.
               let none = unfit (λ is. apart (ap Err is)) in
@@ -174,7 +174,7 @@ pub attributes_set : {A : Type 0} (room : ℕ) (c : Context) (h : FileHandles) (
     → set_fits wanted (kind_at (sight_of mid) number) (list_at mid.tree.world number) ≡ true
     → new ≡ with_world (setting number wanted (at c mid.tree.world) mid.tree.world) mid
     → Appends out out' (spelled (Done kinds.SetAttr (set_of (set_attributes v)))) → length out'.bytes ≤ length out.bytes + room
-    → GivesSo true room (setattr v c h) waits e h out (Ok h) new out'
+    → GivesSo (sense true (setattr v c h) waits) room h (stage e out) (Ok h) (stage new out')
 attributes_set room c h v e mid new out out' number wanted is_here there is_wanted size granted holds fits counts bounds is_set written within =
     let same : number ≡ here h = sym (ap (λ n. unwrap_or n 0) is_here) in
     gives_set c h v e wanted (ap is_some is_here)
@@ -199,7 +199,7 @@ pub attributes_refused : {A : Type 0} (room : ℕ) (c : Context) (h : FileHandle
     → has_counts wanted (sight_of mid) ≡ true
     → (status ≢ statuses.Delay → (status ≡ statuses.NoSpc) × (set_fits wanted (kind_at (sight_of mid) number) (list_at mid.tree.world number) ≡ false))
     → new ≡ mid
-    → GivesSo true room (setattr v c h) waits e h out (Err status) new out
+    → GivesSo (sense true (setattr v c h) waits) room h (stage e out) (Err status) (stage new out)
 attributes_refused room c h v e mid new out number wanted status is_here there is_wanted size granted holds fits counts unfit stays =
     let same : number ≡ here h = sym (ap (λ n. unwrap_or n 0) is_here) in
     let bounds : set_fits wanted (kind_at (sight_of e) (here h)) (list_at e.tree.world (here h)) ≡ set_fits wanted (kind_at (sight_of mid) number) (list_at mid.tree.world number) =

@@ -7,6 +7,7 @@ use Rattle.nfs_types.specs.declared.status.Status.{Status}
 use Rattle.nfs_types.specs.declared.status.Status.TheVariants as statuses
 use Rattle.nfs_types.specs.Status.{number_of as status_number}
 use Rattle.compound_run.specs.Limits.{MAX_TAG, MINOR_VERSION, REPLY_HEADER, REFUSAL_ROOM}
+use Rattle.compound_run.specs.Context.{Context}
 use Rattle.compound_run.specs.Runs.{Given, status_of, results_bytes}
 
 -- COMPOUND4args up to the operations: a tag, the minor version, and how many operations follow
@@ -42,6 +43,15 @@ last_status (given ∷ next ∷ results) = last_status (next ∷ results)
 -- the results of a COMPOUND
 abbrev pub together : List ℕ → List Given → List ℕ
 together tag results = head (last_status results) tag (length results) ++ results_bytes results
+
+-- operations that are run in turn: the tag of their COMPOUND, the context of the first of them, and their bytes
+pub record Series : Type 0 where
+  pub tag : List ℕ
+  pub context : Context
+  pub operations : List ℕ
+
+abbrev pub series : List ℕ → Context → List ℕ → Series
+series tag c operations = record { tag = tag; context = c; operations = operations }
 
 -- Another minor version is refused before any operation, and then more operations than these.
 abbrev pub opening_fault : ℕ → ℕ → ℕ → Option Status

@@ -23,7 +23,7 @@ use Rattle.compound_run.specs.Realm.{Realm}
 use Rattle.compound_run.specs.Context.{Context}
 use Rattle.compound_run.specs.Runs as runs
 use Rattle.compound_run.specs.Runs.{Point, Given}
-use Rattle.compound_run.specs.Compound.{args_form, args_in, head, together}
+use Rattle.compound_run.specs.Compound.{Series, args_form, args_in, head, series, together}
 use Rattle.compound_run.specs.State.{State, Call, start, left}
 use Rattle.compound_run.specs.Sessions.{session_of, told_by, with_registry}
 use Rattle.compound_run.specs.Beginning.{Beginning, Ends, Refuses, Acts, Follows, beginning}
@@ -61,12 +61,12 @@ ActsTo caller op tag old bytes new =
 
 -- ---- operations after a SEQUENCE
 
--- The operations are run in turn from this context of the first, and their results are put after
--- that of SEQUENCE.
-abbrev pub RunsTo : Context → List ℕ → Given → List ℕ → Point → List ℕ → Point → Type 0
-RunsTo c tag given operations old bytes new =
-    (results : List Given) × runs.Runs c (c.count - c.position) operations old results new
-    × (bytes ≡ together tag (given ∷ results))
+-- The operations are run in turn, and their results are put after that of SEQUENCE.
+abbrev pub RunsTo : Series → Given → Point → List ℕ → Point → Type 0
+RunsTo s given old bytes new =
+    (results : List Given)
+    × runs.Runs s.context (s.context.count - s.context.position) s.operations old results new
+    × (bytes ≡ together s.tag (given ∷ results))
 
 -- the realm with other clients and sessions
 abbrev pub in_registry : Registry → State → State
@@ -97,14 +97,28 @@ context_behind s call tag count v new = record {
   room = room_behind tag v new;
 }
 
+-- a call that begins with a SEQUENCE: its tag, how many operations it has, the arguments of SEQUENCE, and the bytes of
+-- those after it
+pub record Sequenced : Type 0 where
+  pub call : Call
+  pub tag : List ℕ
+  pub count : ℕ
+  pub sequence : Value sequence_args
+  pub operations : List ℕ
+
+abbrev pub sequenced : Call → List ℕ → ℕ → Value sequence_args → List ℕ → Sequenced
+sequenced call tag count v operations =
+    record { call = call; tag = tag; count = count; sequence = v; operations = operations }
+
 -- The operations are run in the realm after the beginning of the call, and at the end its slot
 -- keeps all results. They are no more than a reply of the granted size may have.
-abbrev pub RunsOnSlot : State → Call → List ℕ → ℕ → Value sequence_args → List ℕ → NewCall → List ℕ → State → Type 0
-RunsOnSlot old call tag count v operations granted bytes new =
+abbrev pub RunsOnSlot : State → Sequenced → NewCall → List ℕ → State → Type 0
+RunsOnSlot old c granted bytes new =
     (end : Point)
-    × RunsTo (context_behind old call tag count v granted) tag (sequence_done v granted.highest_slot) operations
-    (start (in_registry (begun_in old.realm call count v operations) old)) bytes end
-    × (new ≡ in_registry (keeping v bytes end.realm.registry) (left old end))
+    × RunsTo (series c.tag (context_behind old c.call c.tag c.count c.sequence granted) c.operations)
+    (sequence_done c.sequence granted.highest_slot)
+    (start (in_registry (begun_in old.realm c.call c.count c.sequence c.operations) old)) bytes end
+    × (new ≡ in_registry (keeping c.sequence bytes end.realm.registry) (left old end))
     × (length bytes ≤ granted.reply_size - REPLY_HEADER)
 
 -- ---- the fate of a call, which is known before any operation is run
@@ -146,18 +160,17 @@ abbrev pub RunsAlone : Call → List ℕ → Operation → State → List ℕ �
 RunsAlone call tag op old bytes new =
     ActsTo call.caller op tag old.realm bytes new.realm × (new ≡ record old { realm = new.realm })
 
-abbrev pub RunsBy : Begin → Call → List ℕ → ℕ → Value sequence_args → List ℕ → State → List ℕ → State → Type 0
-RunsBy (begins.New new_call) call tag count v operations old bytes new =
-    RunsOnSlot old call tag count v operations new_call bytes new
-RunsBy begins.Repeat call tag count v operations old bytes new = ⊥
-RunsBy (begins.Refused status) call tag count v operations old bytes new = ⊥
+abbrev pub RunsBy : Begin → Sequenced → State → List ℕ → State → Type 0
+RunsBy (begins.New granted) c old bytes new = RunsOnSlot old c granted bytes new
+RunsBy begins.Repeat c old bytes new = ⊥
+RunsBy (begins.Refused status) c old bytes new = ⊥
 
 abbrev pub RunsBegun : Call → List ℕ → ℕ → Beginning → State → List ℕ → State → Type 0
 RunsBegun call tag count (Ends status) old bytes new = ⊥
 RunsBegun call tag count (Refuses number status) old bytes new = ⊥
 RunsBegun call tag count (Acts op) old bytes new = RunsAlone call tag op old bytes new
 RunsBegun call tag count (Follows v operations) old bytes new =
-    RunsBy (begin_in old.realm call count v operations) call tag count v operations old bytes new
+    RunsBy (begin_in old.realm call count v operations) (sequenced call tag count v operations) old bytes new
 
 abbrev pub RunsOf : Call → Option (Value args_form × List ℕ) → State → Reply → State → Type 0
 RunsOf call None old reply new = ⊥

@@ -27,13 +27,14 @@ use Rattle.compound_run.specs.Limits.{MIN_ROOM}
 use Rattle.compound_run.specs.Realm.{Realm}
 use Rattle.compound_run.specs.Context.{Context, no_handles}
 use Rattle.compound_run.specs.Runs.{Given, result_bytes, status_in}
-use Rattle.compound_run.specs.Compound.{head}
+use Rattle.compound_run.specs.Compound.{Series, head}
 use Rattle.compound_run.specs.Telling.{IsToldBy}
-use Rattle.compound_run.specs.Views.{called, point_at}
+use Rattle.compound_run.specs.Views.{Stage, called, point_at}
 use Rattle.compound_run.specs.Beginning.{Beginning, Ends, Refuses, Acts, Follows, beginning}
 use Rattle.compound_run.specs.State.{State, Call}
 use Rattle.compound_run.specs.Sequence.{calling_by, room_behind, keeping}
 use Rattle.compound_run.specs.InSession.{Reply, ActsAlone, RunsTo, RunsBy, RunsBegun, begin_in, fate_by, fate_begun}
+use Rattle.compound_run.specs.InSession.{sequenced}
 
 -- ---- the beginning of a COMPOUND
 
@@ -85,17 +86,16 @@ WritesWithin limit answers before after =
 
 -- ---- operations after a SEQUENCE
 
-abbrev pub SequencedTo : {A : Type 0} → Context → List ℕ → Given → List ℕ → realms.Realm A → List ℕ → realms.Realm A
-    → Type 0
-SequencedTo c tag given operations old bytes new =
-    (handles : FileHandles) × RunsTo c tag given operations (point_at old no_handles) bytes (point_at new handles)
+abbrev pub SequencedTo : {A : Type 0} → Series → Given → realms.Realm A → List ℕ → realms.Realm A → Type 0
+SequencedTo s given old bytes new =
+    (handles : FileHandles) × RunsTo s given (point_at old no_handles) bytes (point_at new handles)
 
 -- The results are put after the buffer's bytes; with a head in front they would be the answer.
-abbrev pub SequencedBehind : {A : Type 0} → ℕ → Context → List ℕ → Given → List ℕ → realms.Realm A → Buffer → Ended
-    → realms.Realm A → Buffer → Type 0
-SequencedBehind most c tag given operations old before end new after =
-    (results : List ℕ) × SequencedTo c tag given operations old (head end.status tag end.ran ++ results) new
-    × Appends before after results × (length after.bytes ≤ most)
+abbrev pub SequencedBehind : {A : Type 0} → ℕ → Series → Given → Stage (realms.Realm A) → Ended
+    → Stage (realms.Realm A) → Type 0
+SequencedBehind most s given old end new =
+    (results : List ℕ) × SequencedTo s given old.at (head end.status s.tag end.ran ++ results) new.at
+    × Appends old.out new.out results × (length new.out.bytes ≤ most)
 
 -- the result of SEQUENCE
 abbrev pub sequence_told : SequenceResult → Given
@@ -115,10 +115,10 @@ coming_behind book c v new = record {
 }
 
 -- The operations are run, and the slot keeps all results.
-abbrev pub SequencedKept : {A : Type 0} → Context → List ℕ → Value sequence_args → Given → List ℕ → realms.Realm A
-    → List ℕ → realms.Realm A → Type 0
-SequencedKept {A} c tag v given operations old bytes new =
-    (mid : realms.Realm A) × SequencedTo c tag given operations old bytes mid
+abbrev pub SequencedKept : {A : Type 0} → Series → Value sequence_args → Given → realms.Realm A → List ℕ
+    → realms.Realm A → Type 0
+SequencedKept {A} s v given old bytes new =
+    (mid : realms.Realm A) × SequencedTo s given old bytes mid
     × (new ≡ record mid { clients = keeping v bytes mid.clients })
 
 -- ---- a call
@@ -141,7 +141,7 @@ abbrev pub AnswersSequence : Coming → Value sequence_args → List ℕ → Sta
 AnswersSequence c v operations old bytes new =
     let begin = begin_in old.realm (call_of c) c.compound.count v operations in
     AnswersAs (fate_by c.compound.tag.now v old.realm.registry begin)
-    (RunsBy begin (call_of c) c.compound.tag.now c.compound.count v operations old) old bytes new
+    (RunsBy begin (sequenced (call_of c) c.compound.tag.now c.compound.count v operations) old) old bytes new
 
 -- any COMPOUND
 abbrev pub AnswersComing : Coming → State → List ℕ → State → Type 0

@@ -25,7 +25,7 @@ use Rattle.compound_run.specs.declared.opens.Open.{Open}
 use Rattle.compound_run.specs.declared.server.Args.{Args}
 use Rattle.compound_run.specs.declared.step.Step as steps
 use Rattle.access_guard.specs.declared.line.Line.{Line}
-use Rattle.access_guard.specs.Log.{Log, held}
+use Rattle.access_guard.specs.Log.{Log, held, settled}
 use Rattle.compound_run.specs.Known.{Known}
 use Rattle.compound_run.specs.Limits.{MIN_ROOM, REFUSAL_ROOM}
 use Rattle.compound_run.specs.Realm.{Realm, Opened}
@@ -33,6 +33,7 @@ use Rattle.compound_run.specs.Context.{Context}
 use Rattle.compound_run.specs.Settings.{Settings}
 use Rattle.compound_run.specs.Sight.{whole}
 use Rattle.compound_run.specs.Meaning.{Meaning}
+use Rattle.compound_run.specs.Operations.{body, may_delay, meaning, takes_memory_in}
 use Rattle.compound_run.specs.Runs.{Point, Answered, spelled, waits}
 use Rattle.compound_run.specs.Create.{Draft}
 use Rattle.compound_run.specs.Compound.{args_form}
@@ -121,38 +122,62 @@ abbrev pub handles_after : FileHandles → Result FileHandles Status → FileHan
 handles_after before (Ok handles) = handles
 handles_after before (Err status) = before
 
+-- where a run stands, and what is written by then
+pub record Stage (X : Type 0) : Type 0 where
+  pub at : X
+  pub out : Buffer
+
+abbrev pub stage : {X : Type 0} → X → Buffer → Stage X
+stage x out = record { at = x; out = out }
+
+-- how an operation is answered: whether it may be DELAY, by which meaning, and what becomes of its lines
+pub record Sense : Type 0 where
+  pub may : Bool
+  pub meaning : Meaning
+  pub ends : Log → Log
+
+abbrev pub sense : Bool → Meaning → (Log → Log) → Sense
+sense may m ends = record { may = may; meaning = m; ends = ends }
+
+-- once it has its place, and room for its result; or before that; or with its end
+abbrev pub by_body : Context → FileHandles → Operation → Sense
+by_body c handles op = sense (takes_memory_in c op) (body c handles op) waits
+
+abbrev pub by_meaning : Context → FileHandles → Operation → Sense
+by_meaning c handles op = sense (may_delay c op) (meaning c handles op) waits
+
+abbrev pub by_run : Context → FileHandles → Operation → Sense
+by_run c handles op = sense (may_delay c op) (meaning c handles op) (settled true)
+
 -- An operation is answered, and where it is OK its result is written, in its room; else nothing is.
-pub record GivesSo {A : Type 0} (may : Bool) (room : ℕ) (m : Meaning) (ends : Log → Log) (old : realms.Realm A)
-    (handles : FileHandles) (before : Buffer) (result : Result FileHandles Status) (new : realms.Realm A)
-    (after : Buffer) : Type 0 where
-  pub answered : Answered may m ends (point_at old handles) (told_as m (realm_of old) result)
-      (point_at new (handles_after handles result))
-  pub written : OnOk result (Appends before after (spelled (m.answer (whole (realm_of old)))))
-  pub within : OnOk result (length after.bytes ≤ length before.bytes + room)
-  pub unwritten : OnErr result (after ≡ before)
+pub record GivesSo {A : Type 0} (s : Sense) (room : ℕ) (handles : FileHandles) (old : Stage (realms.Realm A))
+    (result : Result FileHandles Status) (new : Stage (realms.Realm A)) : Type 0 where
+  pub answered : Answered s.may s.meaning s.ends (point_at old.at handles) (told_as s.meaning (realm_of old.at) result)
+      (point_at new.at (handles_after handles result))
+  pub written : OnOk result (Appends old.out new.out (spelled (s.meaning.answer (whole (realm_of old.at)))))
+  pub within : OnOk result (length new.out.bytes ≤ length old.out.bytes + room)
+  pub unwritten : OnErr result (new.out ≡ old.out)
+
+-- the answer of an operation at its place, by its sense there
+abbrev pub GivesAt : {A : Type 0} → steps.Step → (Context → FileHandles → Sense) → Stage (realms.Realm A)
+    → Result FileHandles Status → Stage (realms.Realm A) → Type 0
+GivesAt step s old result new =
+    GivesSo (s (context_at old.at step.context) step.handles) step.context.room step.handles old result new
 
 -- the answer of an operation that takes no memory, before its end
-abbrev pub Gives : {A : Type 0} → steps.Step → (Context → FileHandles → Meaning) → realms.Realm A → Buffer
-    → Result FileHandles Status → realms.Realm A → Buffer → Type 0
-Gives step m old before result new after =
-    GivesSo false step.context.room (m (context_at old step.context) step.handles) waits old step.handles before
-    result new after
+abbrev pub Gives : {A : Type 0} → steps.Step → (Context → FileHandles → Meaning) → Stage (realms.Realm A)
+    → Result FileHandles Status → Stage (realms.Realm A) → Type 0
+Gives step m old result new = GivesAt step (λ c handles. sense false (m c handles) waits) old result new
 
 -- an operation that takes memory may answer DELAY
-abbrev pub GivesOrDelays : {A : Type 0} → steps.Step → (Context → FileHandles → Meaning) → realms.Realm A → Buffer
-    → Result FileHandles Status → realms.Realm A → Buffer → Type 0
-GivesOrDelays step m old before result new after =
-    GivesSo true step.context.room (m (context_at old step.context) step.handles) waits old step.handles before result
-    new after
+abbrev pub GivesOrDelays : {A : Type 0} → steps.Step → (Context → FileHandles → Meaning) → Stage (realms.Realm A)
+    → Result FileHandles Status → Stage (realms.Realm A) → Type 0
+GivesOrDelays step m old result new = GivesAt step (λ c handles. sense true (m c handles) waits) old result new
 
--- the answer of an operation that may be delayed, by its meaning at its place
-abbrev pub GivesBy : {A : Type 0} → (Context → Operation → Bool) → (Context → FileHandles → Operation → Meaning)
-    → (Log → Log) → steps.Step → Op
-    → realms.Realm A → Buffer → Result FileHandles Status → realms.Realm A → Buffer → Type 0
-GivesBy delays means ends step op old before result new after =
-    let context = context_at old step.context in
-    GivesSo (delays context (op_view op)) step.context.room (means context step.handles (op_view op)) ends old
-    step.handles before result new after
+-- any operation is answered so
+abbrev pub GivesBy : {A : Type 0} → (Context → FileHandles → Operation → Sense) → steps.Step → Op
+    → Stage (realms.Realm A) → Result FileHandles Status → Stage (realms.Realm A) → Type 0
+GivesBy s step op old result new = GivesAt step (λ c handles. s c handles (op_view op)) old result new
 
 -- there is room for the result of an operation that is run, and for a refusal
 abbrev pub HasRoom : code.Context → Buffer → Type 0

@@ -11,47 +11,47 @@ use Rattle.compound_run.specs.Limits.{MAX_RESULTS, REFUSAL_ROOM}
 use Rattle.compound_run.specs.Context.{Context, no_handles}
 use Rattle.compound_run.specs.Runs.{Point, Given, Steps, Runs, result_bytes, results_bytes}
 use Rattle.compound_run.specs.Telling.{IsToldBy}
-use Rattle.compound_run.specs.Compound.{head, together, last_status}
-use Rattle.compound_run.specs.Views.{point_at}
+use Rattle.compound_run.specs.Compound.{Series, head, together, last_status}
+use Rattle.compound_run.specs.Views.{Stage, point_at}
 
 -- An operation is run at its place, and its result is written.
-pub record StepGives {A : Type 0} (c : Context) (op : Operation) (old : Point) (before : Buffer)
-    (answer : Result A Status) (new : Point) (after : Buffer) : Type 0 where
+pub record StepGives {A : Type 0} (c : Context) (op : Operation) (old : Stage Point) (answer : Result A Status)
+    (new : Stage Point) : Type 0 where
   pub outcome : Result Outcome Status
-  pub steps : Steps c op old outcome new
-  pub written : Appends before after (result_bytes (record { number = number_of op; outcome = outcome }))
-  pub fits : OnOk answer (length after.bytes ≤ length before.bytes + c.room)
-  pub within : length after.bytes ≤ length before.bytes + c.room + REFUSAL_ROOM
+  pub steps : Steps c op old.at outcome new.at
+  pub written : Appends old.out new.out (result_bytes (record { number = number_of op; outcome = outcome }))
+  pub fits : OnOk answer (length new.out.bytes ≤ length old.out.bytes + c.room)
+  pub within : length new.out.bytes ≤ length old.out.bytes + c.room + REFUSAL_ROOM
   pub tells : IsToldBy answer outcome
 
 -- Operations are run in turn, and their results are written.
-pub record RunGives {A : Type 0} (c : Context) (operations : List ℕ) (old : realms.Realm A) (before : Buffer)
-    (end : Ended) (new : realms.Realm A) (after : Buffer) : Type 0 where
+pub record RunGives {A : Type 0} (c : Context) (operations : List ℕ) (old : Stage (realms.Realm A)) (end : Ended)
+    (new : Stage (realms.Realm A)) : Type 0 where
   pub handles : FileHandles
   pub results : List Given
-  pub runs : Runs c (c.count - c.position) operations (point_at old no_handles) results (point_at new handles)
-  pub written : Appends before after (results_bytes results)
+  pub runs : Runs c (c.count - c.position) operations (point_at old.at no_handles) results (point_at new.at handles)
+  pub written : Appends old.out new.out (results_bytes results)
   pub status : end.status ≡ last_status results
   pub ran : end.ran ≡ c.position + length results
-  pub within : length after.bytes ≤ length before.bytes + c.room + REFUSAL_ROOM
+  pub within : length new.out.bytes ≤ length old.out.bytes + c.room + REFUSAL_ROOM
 
 -- The operations are refused before any is run, or run in turn: the results, and where they end.
-abbrev pub Opens : Option Status → List ℕ → Context → List ℕ → Point → List ℕ → Point → Type 0
-Opens (Some status) tag c operations old bytes new = (bytes ≡ head status tag 0) × (new ≡ old)
-Opens None tag c operations old bytes new =
-    (results : List Given) × Runs c c.count operations old results new × (bytes ≡ together tag results)
+abbrev pub Opens : Option Status → Series → Point → List ℕ → Point → Type 0
+Opens (Some status) s old bytes new = (bytes ≡ head status s.tag 0) × (new ≡ old)
+Opens None s old bytes new =
+    (results : List Given) × Runs s.context s.context.count s.operations old results new
+    × (bytes ≡ together s.tag results)
 
-abbrev pub OpensTo : {A : Type 0} → Option Status → List ℕ → Context → List ℕ → realms.Realm A → List ℕ
-    → realms.Realm A → Type 0
-OpensTo fault tag c operations old bytes new =
-    (handles : FileHandles) × Opens fault tag c operations (point_at old no_handles) bytes (point_at new handles)
+abbrev pub OpensTo : {A : Type 0} → Option Status → Series → realms.Realm A → List ℕ → realms.Realm A → Type 0
+OpensTo fault s old bytes new =
+    (handles : FileHandles) × Opens fault s (point_at old no_handles) bytes (point_at new handles)
 
 -- The results are put after the buffer's bytes; with a head in front they would be the answer.
-abbrev pub OpensBehind : {A : Type 0} → Option Status → List ℕ → Context → List ℕ → realms.Realm A → Buffer → Ended
-    → realms.Realm A → Buffer → Type 0
-OpensBehind fault tag c operations old before end new after =
-    (results : List ℕ) × OpensTo fault tag c operations old (head end.status tag end.ran ++ results) new
-    × Appends before after results × (length after.bytes ≤ length before.bytes + c.room + REFUSAL_ROOM)
+abbrev pub OpensBehind : {A : Type 0} → Option Status → Series → Stage (realms.Realm A) → Ended
+    → Stage (realms.Realm A) → Type 0
+OpensBehind fault s old end new =
+    (results : List ℕ) × OpensTo fault s old.at (head end.status s.tag end.ran ++ results) new.at
+    × Appends old.out new.out results × (length new.out.bytes ≤ length old.out.bytes + s.context.room + REFUSAL_ROOM)
 
 -- The answer is put after the buffer's bytes, and is within the limit of a reply.
 abbrev pub WritesAnswer : (List ℕ → Type 0) → Buffer → Buffer → Type 0

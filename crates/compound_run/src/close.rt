@@ -2,7 +2,7 @@
 ghost use Rattle.nfs_ops.specs.Views.{close_args_value};
 ghost use Rattle.compound_run.specs.Close.{close};
 ghost use Rattle.compound_run.specs.Stateids.{without_open};
-ghost use Rattle.compound_run.specs.Views.{Gives, HasRoom, opens_view};
+ghost use Rattle.compound_run.specs.Views.{Gives, HasRoom, opens_view, stage};
 ghost use Rattle.std.specs.Prelude.{◌≡◌, ◌==◌, not, filter};
 
 use crate::filehandles::FileHandles;
@@ -39,7 +39,8 @@ impl<A: Allocator + Copy> Realm<A> {
         out: &mut Writer<A>,
     ) -> Result<FileHandles, Status>
         requires room { HasRoom step.context out.old }
-        ensures { Gives step.entry (close (close_args_value args.now)) self.old out.old result self.new out.new }
+        ensures { Gives step.entry (close (close_args_value args.now)) (stage self.old out.old) result
+            (stage self.new out.new) }
     {
         let number = step.handles.current.ok_or(Status::NoFileHandle)?;
         if self.tree.object(number).is_none() {

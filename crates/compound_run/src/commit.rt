@@ -1,6 +1,6 @@
 //! COMMIT (RFC 8881, section 18.3).
 ghost use Rattle.compound_run.specs.Commit.{commit};
-ghost use Rattle.compound_run.specs.Views.{Gives, HasRoom};
+ghost use Rattle.compound_run.specs.Views.{Gives, HasRoom, stage};
 
 use crate::filehandles::FileHandles;
 use crate::operation_results::put_result;
@@ -16,7 +16,7 @@ impl<A: Allocator + Copy> Realm<A> {
     /// The data that were written into the current file are kept already.
     pub fn commit(&self, step: Step<'_>, out: &mut Writer<A>) -> Result<FileHandles, Status>
         requires room { HasRoom step.context out.old }
-        ensures { Gives step.entry commit self.now out.old result self.now out.new }
+        ensures { Gives step.entry commit (stage self.now out.old) result (stage self.now out.new) }
     {
         let number = step.handles.current.ok_or(Status::NoFileHandle)?;
         match self.tree.object(number).ok_or(Status::Stale)?.kind() {

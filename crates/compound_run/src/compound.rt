@@ -5,9 +5,9 @@ ghost use Rattle.xdr_wire.specs.Buffer.{Appends};
 ghost use Rattle.xdr_wire.specs.Reading.{read_at};
 ghost use Rattle.xdr_wire.specs.Xdr.{padded};
 ghost use Rattle.compound_run.specs.Limits as limits;
-ghost use Rattle.compound_run.specs.Compound.{args_form, args_in, first_room, opening_fault};
+ghost use Rattle.compound_run.specs.Compound.{args_form, args_in, first_room, opening_fault, series};
 ghost use Rattle.compound_run.specs.Written.{RunGives, OpensTo, OpensBehind, WritesAnswer};
-ghost use Rattle.compound_run.specs.Views.{arguments_of, context_at};
+ghost use Rattle.compound_run.specs.Views.{arguments_of, context_at, stage};
 
 use crate::context::Context;
 use crate::filehandles::FileHandles;
@@ -46,8 +46,8 @@ impl<A: Allocator + Copy> Realm<A> {
         requires settled { self.old.tree.log.held ≡ [] }
         requires place { context.position ≤ context.count }
         requires room { context.room + limits.REFUSAL_ROOM ≤ results.old.room }
-        ensures gives { RunGives (context_at self.old context.entry) operations.now self.old results.old result self.new
-            results.new }
+        ensures gives { RunGives (context_at self.old context.entry) operations.now (stage self.old results.old)
+            result (stage self.new results.new) }
         ensures settled { self.new.tree.log.held ≡ [] }
     {
         let end = results.capacity() - (results.room() - context.room);
@@ -125,9 +125,10 @@ impl<'a> CompoundArgs<'a> {
         requires least { context.room ≡ first_room limits.MAX_REPLY self.now.tag.now }
         requires room { context.room + limits.REFUSAL_ROOM ≤ out.old.room }
         ensures answers { OpensBehind (opening_fault limits.MAX_OPERATIONS self.now.minor_version self.now.count)
-            self.now.tag.now (record (context_at realm.old
-            context.entry) { room = first_room limits.MAX_REPLY self.now.tag.now }) self.now.operations.now realm.old
-            out.old result realm.new out.new }
+            (series self.now.tag.now
+            (record (context_at realm.old context.entry) { room = first_room limits.MAX_REPLY self.now.tag.now })
+            self.now.operations.now)
+            (stage realm.old out.old) result (stage realm.new out.new) }
         ensures settled { realm.new.tree.log.held ≡ [] }
     {
         if let Some(status) = self.fault() {
@@ -152,9 +153,11 @@ impl<'a> CompoundArgs<'a> {
         requires whole { context.room + limits.REFUSAL_ROOM ≡ limits.MAX_RESULTS }
         requires room { limits.MAX_RESULTS ≤ out.old.room }
         ensures answers { WritesAnswer (λ bytes. OpensTo
-            (opening_fault limits.MAX_OPERATIONS self.now.minor_version self.now.count) self.now.tag.now
+            (opening_fault limits.MAX_OPERATIONS self.now.minor_version self.now.count)
+            (series self.now.tag.now
             (record (context_at realm.old context.entry) { room = first_room limits.MAX_REPLY self.now.tag.now })
-            self.now.operations.now realm.old bytes realm.new) out.old out.new }
+            self.now.operations.now)
+            realm.old bytes realm.new) out.old out.new }
         ensures settled { realm.new.tree.log.held ≡ [] }
     {
         let end = out.capacity() - (out.room() - context.room);

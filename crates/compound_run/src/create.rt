@@ -14,7 +14,7 @@ ghost use Rattle.compound_run.specs.Create.{create, list_at, making};
 ghost use Rattle.compound_run.specs.Create as specs;
 ghost use Rattle.compound_run.specs.Lists.{IsFit, base_of, new_fits, new_list};
 ghost use Rattle.compound_run.specs.Views.{context_at, GivesOrDelays, HasRoom, realm_of, draft_view, wanted_view};
-ghost use Rattle.compound_run.specs.Views.{IsWanted};
+ghost use Rattle.compound_run.specs.Views.{IsWanted, stage};
 
 use crate::directory::Directory;
 use crate::filehandles::FileHandles;
@@ -242,8 +242,8 @@ impl<A: Allocator + Copy> Realm<A> {
         requires fits { length wanted.0.text.now ≤ most_bytes wanted.0.kind }
         requires free { child (whole (realm_of self.old)) directory.number args.now.name.bytes.now ≡ None }
         requires room { HasRoom step.context out.old }
-        ensures { GivesOrDelays step.entry (making (create_args_value args.now) directory.number) self.old out.old
-            result self.new out.new }
+        ensures { GivesOrDelays step.entry (making (create_args_value args.now) directory.number)
+            (stage self.old out.old) result (stage self.new out.new) }
     {
         let (draft, wanted) = wanted;
         let at = self.tick(step.context.now).ok_or(Status::NoSpc)?;
@@ -272,8 +272,8 @@ impl<A: Allocator + Copy> Realm<A> {
     ) -> Result<FileHandles, Status>
         requires settled { self.old.tree.log.held ≡ [] }
         requires room { HasRoom step.context out.old }
-        ensures { GivesOrDelays step.entry (create (create_args_value args.now)) self.old out.old result self.new
-            out.new }
+        ensures { GivesOrDelays step.entry (create (create_args_value args.now)) (stage self.old out.old) result
+            (stage self.new out.new) }
     {
         let directory = step.handles.current.ok_or(Status::NoFileHandle)?;
         let node = self.tree.object(directory).ok_or(Status::Stale)?;

@@ -8,7 +8,7 @@ ghost use Rattle.node_tree.specs.World.{object};
 ghost use Rattle.compound_run.specs.Asking.{sight_of};
 ghost use Rattle.compound_run.specs.Getattr.{getattr, told};
 ghost use Rattle.compound_run.specs.Says.{PutsWithin, given_outcome};
-ghost use Rattle.compound_run.specs.Views.{context_at, Gives, HasRoom};
+ghost use Rattle.compound_run.specs.Views.{context_at, Gives, HasRoom, stage};
 
 use crate::context::Context;
 use crate::filehandles::FileHandles;
@@ -68,7 +68,8 @@ impl<A: Allocator + Copy> Realm<A> {
     ) -> Result<FileHandles, Status>
         requires settled { self.old.tree.log.held ≡ [] }
         requires room { HasRoom step.context out.old }
-        ensures { Gives step.entry (getattr (getattr_args_value args.now)) self.old out.old result self.new out.new }
+        ensures { Gives step.entry (getattr (getattr_args_value args.now)) (stage self.old out.old) result
+            (stage self.new out.new) }
     {
         let number = step.handles.current.ok_or(Status::NoFileHandle)?;
         if self.tree.object(number).is_none() {

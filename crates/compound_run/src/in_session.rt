@@ -12,6 +12,7 @@ ghost use Rattle.compound_run.specs.Sequence.{keeping, sequence_done};
 ghost use Rattle.compound_run.specs.Sessions.{session_of};
 ghost use Rattle.compound_run.specs.SessionViews.{AnswersComing, AnswersSequence, SequencedKept, WritesWithin};
 ghost use Rattle.compound_run.specs.SessionViews.{coming_behind, sequence_told};
+ghost use Rattle.compound_run.specs.Compound.{series};
 
 use crate::compound::CompoundArgs;
 use crate::context::{Calling, Context};
@@ -102,9 +103,11 @@ impl<A: Allocator + Copy> Realm<A> {
         requires stands { StandsIn self.old.clients (session_of args.now.session) args.now.slot (begins.New new) }
         requires room { limits.MAX_RESULTS ≤ out.old.room }
         ensures answers { WritesWithin (new.reply_size - limits.REPLY_HEADER)
-            (λ bytes. SequencedKept (coming_behind self.old.tree.book call.entry (sequence_args_value args.now) new)
-            call.entry.compound.tag.now (sequence_args_value args.now)
-            (sequence_done (sequence_args_value args.now) new.highest_slot) operations.now self.old bytes self.new)
+            (λ bytes. SequencedKept
+            (series call.entry.compound.tag.now
+            (coming_behind self.old.tree.book call.entry (sequence_args_value args.now) new) operations.now)
+            (sequence_args_value args.now) (sequence_done (sequence_args_value args.now) new.highest_slot) self.old
+            bytes self.new)
             out.old out.new }
         ensures settled { self.new.tree.log.held ≡ [] }
     {

@@ -4,7 +4,7 @@ ghost use Rattle.nfs_ops.specs.Views.{link_args_value};
 ghost use Rattle.node_tree.specs.World.{object, kind_of, link_count};
 ghost use Rattle.compound_run.specs.Sight.{whole, child, directory_change};
 ghost use Rattle.compound_run.specs.Link.{link, naming};
-ghost use Rattle.compound_run.specs.Views.{GivesOrDelays, HasRoom, realm_of};
+ghost use Rattle.compound_run.specs.Views.{GivesOrDelays, HasRoom, realm_of, stage};
 
 use crate::directory::Directory;
 use crate::filehandles::FileHandles;
@@ -37,7 +37,8 @@ impl<A: Allocator + Copy> Realm<A> {
         requires free { child (whole (realm_of self.old)) directory.number name.now ≡ None }
         requires few { link_count self.old.tree.world.names linked < MAX_LINKS }
         requires room { HasRoom step.context out.old }
-        ensures { GivesOrDelays step.entry (naming name.now directory.number) self.old out.old result self.new out.new }
+        ensures { GivesOrDelays step.entry (naming name.now directory.number) (stage self.old out.old) result
+            (stage self.new out.new) }
     {
         let at = self.tick(step.context.now).ok_or(Status::NoSpc)?;
         self.add_name(directory.number, name, linked, at)?;
@@ -55,7 +56,8 @@ impl<A: Allocator + Copy> Realm<A> {
     ) -> Result<FileHandles, Status>
         requires settled { self.old.tree.log.held ≡ [] }
         requires room { HasRoom step.context out.old }
-        ensures { GivesOrDelays step.entry (link (link_args_value args.now)) self.old out.old result self.new out.new }
+        ensures { GivesOrDelays step.entry (link (link_args_value args.now)) (stage self.old out.old) result
+            (stage self.new out.new) }
     {
         let directory = step.handles.current.ok_or(Status::NoFileHandle)?;
         let node = self.tree.object(directory).ok_or(Status::Stale)?;

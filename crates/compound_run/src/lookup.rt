@@ -2,7 +2,7 @@
 ghost use Rattle.std.specs.Prelude.{◌≡◌, ◌+◌, ◌<◌, []};
 ghost use Rattle.nfs_ops.specs.Views.{lookup_args_value};
 ghost use Rattle.compound_run.specs.Lookup.{lookup};
-ghost use Rattle.compound_run.specs.Views.{Gives, HasRoom};
+ghost use Rattle.compound_run.specs.Views.{Gives, HasRoom, stage};
 
 use crate::filehandles::FileHandles;
 use crate::operation_results::put_result;
@@ -24,7 +24,8 @@ impl<A: Allocator + Copy> Realm<A> {
     ) -> Result<FileHandles, Status>
         requires settled { self.old.tree.log.held ≡ [] }
         requires room { HasRoom step.context out.old }
-        ensures { Gives step.entry (lookup (lookup_args_value args.now)) self.old out.old result self.new out.new }
+        ensures { Gives step.entry (lookup (lookup_args_value args.now)) (stage self.old out.old) result
+            (stage self.new out.new) }
     {
         let directory = step.handles.current.ok_or(Status::NoFileHandle)?;
         match self.tree.object(directory).ok_or(Status::Stale)?.kind() {

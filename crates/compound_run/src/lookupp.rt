@@ -1,7 +1,7 @@
 //! LOOKUPP (RFC 8881, section 18.14).
 ghost use Rattle.std.specs.Prelude.{◌≡◌, ◌+◌, ◌<◌, []};
 ghost use Rattle.compound_run.specs.Lookupp.{lookupp};
-ghost use Rattle.compound_run.specs.Views.{Gives, HasRoom};
+ghost use Rattle.compound_run.specs.Views.{Gives, HasRoom, stage};
 
 use crate::filehandles::FileHandles;
 use crate::operation_results::put_result;
@@ -18,7 +18,7 @@ impl<A: Allocator + Copy> Realm<A> {
     pub fn lookupp(&mut self, step: Step<'_>, out: &mut Writer<A>) -> Result<FileHandles, Status>
         requires settled { self.old.tree.log.held ≡ [] }
         requires room { HasRoom step.context out.old }
-        ensures { Gives step.entry lookupp self.old out.old result self.new out.new }
+        ensures { Gives step.entry lookupp (stage self.old out.old) result (stage self.new out.new) }
     {
         let directory = step.handles.current.ok_or(Status::NoFileHandle)?;
         match self.tree.object(directory).ok_or(Status::Stale)?.kind() {

@@ -17,7 +17,7 @@ ghost use Rattle.compound_run.specs.Open.{open_file, opening};
 ghost use Rattle.compound_run.specs.Opening.{HasPlace, IfByName, IsBefore, IsPlace, MakesFile};
 ghost use Rattle.compound_run.specs.Setattr as setting;
 ghost use Rattle.compound_run.specs.Sight.{child, directory_change, kind_at};
-ghost use Rattle.compound_run.specs.Views.{context_at, GivesOrDelays, HasRoom, realm_of, wanted_view, IsWanted};
+ghost use Rattle.compound_run.specs.Views.{context_at, GivesOrDelays, HasRoom, realm_of, wanted_view, IsWanted, stage};
 ghost use Rattle.compound_run.specs.Views.{settings_of};
 
 use crate::context::Context;
@@ -220,8 +220,8 @@ impl<A: Allocator + Copy> Realm<A> {
             wanted_view wanted }
         requires bounded { IfSome wanted.list IsBounded }
         requires room { HasRoom step.context out.old }
-        ensures { GivesOrDelays step.entry (opening (open_args_value args.now)) self.old out.old result self.new
-            out.new }
+        ensures { GivesOrDelays step.entry (opening (open_args_value args.now)) (stage self.old out.old) result
+            (stage self.new out.new) }
     {
         let caller = self.tree.member(step.context.caller);
         if !is_own(&caller, &wanted) {
@@ -306,8 +306,8 @@ impl<A: Allocator + Copy> Realm<A> {
             before }
         requires truncates { specs.truncates (context_at self.old step.context) (open_args_value args.now) ≡ truncates }
         requires room { HasRoom step.context out.old }
-        ensures { GivesOrDelays step.entry (opening (open_args_value args.now)) self.old out.old result self.new
-            out.new }
+        ensures { GivesOrDelays step.entry (opening (open_args_value args.now)) (stage self.old out.old) result
+            (stage self.new out.new) }
     {
         let place = self.place_found(step.context, args, file, truncates)?;
         let stateid = self.put_open(step.context, args.access % 256, place, file);
@@ -353,8 +353,8 @@ impl<A: Allocator + Copy> Realm<A> {
             wanted_view wanted }
         requires bounded { IfSome wanted.list IsBounded }
         requires room { HasRoom step.context out.old }
-        ensures { GivesOrDelays step.entry (opening (open_args_value args.now)) self.old out.old result self.new
-            out.new }
+        ensures { GivesOrDelays step.entry (opening (open_args_value args.now)) (stage self.old out.old) result
+            (stage self.new out.new) }
     {
         let truncates = is_truncating(&args.how, wanted.size);
         match (found, &args.claim) {
@@ -382,8 +382,8 @@ impl<A: Allocator + Copy> Realm<A> {
     ) -> Result<FileHandles, Status>
         requires settled { self.old.tree.log.held ≡ [] }
         requires room { HasRoom step.context out.old }
-        ensures { GivesOrDelays step.entry (open_file (open_args_value args.now)) self.old out.old result self.new
-            out.new }
+        ensures { GivesOrDelays step.entry (open_file (open_args_value args.now)) (stage self.old out.old) result
+            (stage self.new out.new) }
     {
         let current = step.handles.current.ok_or(Status::NoFileHandle)?;
         let node = self.tree.object(current).ok_or(Status::Stale)?;

@@ -1,7 +1,7 @@
 //! PUTFH (RFC 8881, section 18.19).
 ghost use Rattle.nfs_ops.specs.Views.{putfh_args_value};
 ghost use Rattle.compound_run.specs.Putfh.{putfh};
-ghost use Rattle.compound_run.specs.Views.{Gives, HasRoom};
+ghost use Rattle.compound_run.specs.Views.{Gives, HasRoom, stage};
 
 use crate::filehandles::FileHandles;
 use crate::operation_results::put_result;
@@ -21,7 +21,8 @@ impl<A: Allocator + Copy> Realm<A> {
         out: &mut Writer<A>,
     ) -> Result<FileHandles, Status>
         requires room { HasRoom step.context out.old }
-        ensures { Gives step.entry (putfh (putfh_args_value args.now)) self.now out.old result self.now out.new }
+        ensures { Gives step.entry (putfh (putfh_args_value args.now)) (stage self.now out.old) result
+            (stage self.now out.new) }
     {
         let number = args.handle.object()?;
         if self.tree.object(number).is_none() {

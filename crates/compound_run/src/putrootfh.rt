@@ -1,6 +1,6 @@
 //! PUTROOTFH (RFC 8881, section 18.21).
 ghost use Rattle.compound_run.specs.Putrootfh.{putrootfh};
-ghost use Rattle.compound_run.specs.Views.{Gives, HasRoom};
+ghost use Rattle.compound_run.specs.Views.{Gives, HasRoom, stage};
 
 use crate::filehandles::FileHandles;
 use crate::operation_results::put_result;
@@ -15,7 +15,7 @@ impl<A: Allocator + Copy> Realm<A> {
     /// The root becomes current.
     pub fn putrootfh(&self, step: Step<'_>, out: &mut Writer<A>) -> Result<FileHandles, Status>
         requires room { HasRoom step.context out.old }
-        ensures { Gives step.entry putrootfh self.now out.old result self.now out.new }
+        ensures { Gives step.entry putrootfh (stage self.now out.old) result (stage self.now out.new) }
     {
         put_result(OpResult::PutRootFh, out);
         Ok(FileHandles {

@@ -8,7 +8,7 @@ ghost use Rattle.compound_run.specs.Asking.{sight_of};
 ghost use Rattle.compound_run.specs.Read as specs;
 ghost use Rattle.compound_run.specs.Read.{read, gives};
 ghost use Rattle.compound_run.specs.Runs.{spelled};
-ghost use Rattle.compound_run.specs.Views.{context_at, Gives, HasRoom};
+ghost use Rattle.compound_run.specs.Views.{context_at, Gives, HasRoom, stage};
 
 use crate::context::Context;
 use crate::filehandles::FileHandles;
@@ -77,7 +77,8 @@ impl<A: Allocator + Copy> Realm<A> {
     ) -> Result<FileHandles, Status>
         requires settled { self.old.tree.log.held ≡ [] }
         requires room { HasRoom step.context out.old }
-        ensures { Gives step.entry (read (read_args_value args.now)) self.old out.old result self.new out.new }
+        ensures { Gives step.entry (read (read_args_value args.now)) (stage self.old out.old) result
+            (stage self.new out.new) }
     {
         let number = step.handles.current.ok_or(Status::NoFileHandle)?;
         match self.tree.object(number).ok_or(Status::Stale)?.kind() {

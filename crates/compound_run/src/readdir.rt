@@ -15,7 +15,7 @@ ghost use Rattle.access_guard.specs.Lists as access;
 ghost use Rattle.acl_list.specs.declared.mask.TheConstants.{READ_ATTRIBUTES, READ_ACL};
 ghost use Rattle.rpc_record.specs.Identity.{Identity};
 ghost use Rattle.compound_run.specs.Listed.{IsEntry, IsNextOf, PutsEntry, given_view, refused_of, written_entry};
-ghost use Rattle.compound_run.specs.Views.{context_at, Gives, HasRoom};
+ghost use Rattle.compound_run.specs.Views.{context_at, Gives, HasRoom, stage};
 ghost use Rattle.who_book.specs.Members.{member};
 
 use crate::context::Context;
@@ -260,8 +260,8 @@ impl<A: Allocator + Copy> Realm<A> {
     ) -> Result<FileHandles, Status>
         requires few { length self.old.tree.log.held ≤ MAX_FIRST_LINES }
         requires room { HasRoom step.context out.old }
-        ensures { Gives step.entry (listing_of (readdir_args_value args.now) directory) self.old out.old result self.new
-            out.new }
+        ensures { Gives step.entry (listing_of (readdir_args_value args.now) directory) (stage self.old out.old)
+            result (stage self.new out.new) }
     {
         match self.put_listing(step.context, directory, args, out) {
             Ok(()) => Ok(step.handles),
@@ -282,7 +282,8 @@ impl<A: Allocator + Copy> Realm<A> {
     ) -> Result<FileHandles, Status>
         requires settled { self.old.tree.log.held ≡ [] }
         requires room { HasRoom step.context out.old }
-        ensures { Gives step.entry (readdir (readdir_args_value args.now)) self.old out.old result self.new out.new }
+        ensures { Gives step.entry (readdir (readdir_args_value args.now)) (stage self.old out.old) result
+            (stage self.new out.new) }
     {
         let directory = step.handles.current.ok_or(Status::NoFileHandle)?;
         let node = self.tree.object(directory).ok_or(Status::Stale)?;

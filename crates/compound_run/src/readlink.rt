@@ -8,7 +8,7 @@ ghost use Rattle.nfs_ops.specs.Results.{Done};
 ghost use Rattle.nfs_ops.specs.declared.op_kind.OpKind.TheVariants as kinds;
 ghost use Rattle.compound_run.specs.Readlink.{readlink};
 ghost use Rattle.compound_run.specs.Runs.{spelled};
-ghost use Rattle.compound_run.specs.Views.{Gives, HasRoom};
+ghost use Rattle.compound_run.specs.Views.{Gives, HasRoom, stage};
 
 use crate::filehandles::FileHandles;
 use crate::realm::Realm;
@@ -85,7 +85,7 @@ impl<A: Allocator + Copy> Realm<A> {
     pub fn readlink(&mut self, step: Step<'_>, out: &mut Writer<A>) -> Result<FileHandles, Status>
         requires settled { self.old.tree.log.held ≡ [] }
         requires room { HasRoom step.context out.old }
-        ensures { Gives step.entry readlink self.old out.old result self.new out.new }
+        ensures { Gives step.entry readlink (stage self.old out.old) result (stage self.new out.new) }
     {
         let number = step.handles.current.ok_or(Status::NoFileHandle)?;
         match self.tree.object(number).ok_or(Status::Stale)?.kind() {

@@ -1,7 +1,7 @@
 //! RECLAIM_COMPLETE (RFC 8881, section 18.51).
 ghost use Rattle.nfs_ops.specs.Views.{reclaim_complete_args_value};
 ghost use Rattle.compound_run.specs.ReclaimComplete.{reclaim_complete};
-ghost use Rattle.compound_run.specs.Views.{Gives, HasRoom};
+ghost use Rattle.compound_run.specs.Views.{Gives, HasRoom, stage};
 
 use crate::filehandles::FileHandles;
 use crate::operation_results::put_result;
@@ -22,8 +22,8 @@ impl<A: Allocator + Copy> Realm<A> {
         out: &mut Writer<A>,
     ) -> Result<FileHandles, Status>
         requires room { HasRoom step.context out.old }
-        ensures { Gives step.entry (reclaim_complete (reclaim_complete_args_value args.now)) self.old out.old result
-            self.new out.new }
+        ensures { Gives step.entry (reclaim_complete (reclaim_complete_args_value args.now)) (stage self.old out.old)
+            result (stage self.new out.new) }
     {
         if args.one_fs {
             let number = step.handles.current.ok_or(Status::NoFileHandle)?;

@@ -2,7 +2,7 @@
 ghost use Rattle.std.specs.Prelude.{◌≡◌, ◌+◌, ◌<◌, []};
 ghost use Rattle.nfs_ops.specs.Views.{remove_args_value};
 ghost use Rattle.compound_run.specs.Remove.{remove};
-ghost use Rattle.compound_run.specs.Views.{Gives, HasRoom};
+ghost use Rattle.compound_run.specs.Views.{Gives, HasRoom, stage};
 
 use crate::directory::Directory;
 use crate::filehandles::FileHandles;
@@ -24,7 +24,8 @@ impl<A: Allocator + Copy> Realm<A> {
     ) -> Result<FileHandles, Status>
         requires settled { self.old.tree.log.held ≡ [] }
         requires room { HasRoom step.context out.old }
-        ensures { Gives step.entry (remove (remove_args_value args.now)) self.old out.old result self.new out.new }
+        ensures { Gives step.entry (remove (remove_args_value args.now)) (stage self.old out.old) result
+            (stage self.new out.new) }
     {
         let number = step.handles.current.ok_or(Status::NoFileHandle)?;
         let node = self.tree.object(number).ok_or(Status::Stale)?;

@@ -4,7 +4,7 @@ ghost use Rattle.nfs_ops.specs.Views.{rename_args_value};
 ghost use Rattle.compound_run.specs.Sight.{whole, child, directory_change};
 ghost use Rattle.node_tree.specs.World.{kind_of, is_one};
 ghost use Rattle.compound_run.specs.Rename.{rename, goes_below, can_replace, moving};
-ghost use Rattle.compound_run.specs.Views.{GivesOrDelays, HasRoom, realm_of};
+ghost use Rattle.compound_run.specs.Views.{GivesOrDelays, HasRoom, realm_of, stage};
 
 use crate::directory::Directory;
 use crate::filehandles::FileHandles;
@@ -48,8 +48,8 @@ impl<A: Allocator + Copy> Realm<A> {
         requires above { goes_below (whole (realm_of self.old)) found.child target.number ≡ false }
         requires may { can_replace (whole (realm_of self.old)) found.child found.target ≡ true }
         requires room { HasRoom step.context out.old }
-        ensures { GivesOrDelays step.entry (moving (rename_args_value args.now) source.number target.number) self.old
-            out.old result self.new out.new }
+        ensures { GivesOrDelays step.entry (moving (rename_args_value args.now) source.number target.number)
+            (stage self.old out.old) result (stage self.new out.new) }
     {
         let at = self.tick(step.context.now).ok_or(Status::NoSpc)?;
         if !self
@@ -81,8 +81,8 @@ impl<A: Allocator + Copy> Realm<A> {
     ) -> Result<FileHandles, Status>
         requires settled { self.old.tree.log.held ≡ [] }
         requires room { HasRoom step.context out.old }
-        ensures { GivesOrDelays step.entry (rename (rename_args_value args.now)) self.old out.old result self.new
-            out.new }
+        ensures { GivesOrDelays step.entry (rename (rename_args_value args.now)) (stage self.old out.old) result
+            (stage self.new out.new) }
     {
         let to = step.handles.current.ok_or(Status::NoFileHandle)?;
         let node = self.tree.object(to).ok_or(Status::Stale)?;

@@ -1,6 +1,6 @@
 //! RESTOREFH (RFC 8881, section 18.27).
 ghost use Rattle.compound_run.specs.Restorefh.{restorefh};
-ghost use Rattle.compound_run.specs.Views.{Gives, HasRoom};
+ghost use Rattle.compound_run.specs.Views.{Gives, HasRoom, stage};
 
 use crate::filehandles::FileHandles;
 use crate::operation_results::put_result;
@@ -15,7 +15,7 @@ impl<A: Allocator + Copy> Realm<A> {
     /// The saved filehandle becomes current, and stays saved.
     pub fn restorefh(&self, step: Step<'_>, out: &mut Writer<A>) -> Result<FileHandles, Status>
         requires room { HasRoom step.context out.old }
-        ensures { Gives step.entry restorefh self.now out.old result self.now out.new }
+        ensures { Gives step.entry restorefh (stage self.now out.old) result (stage self.now out.new) }
     {
         let number = step.handles.saved.ok_or(Status::NoFileHandle)?;
         self.tree.object(number).ok_or(Status::Stale)?;

@@ -1,13 +1,12 @@
 //! One operation at its place (RFC 8881, section 16.2.3).
 ghost use Rattle.std.specs.Prelude.{◌≡◌, ◌+◌, ◌≤◌, [], true};
 ghost use Rattle.nfs_ops.specs.OpViews.{op_view};
-ghost use Rattle.compound_run.specs.Operations.{body, is_run, meaning, may_delay, takes_memory_in};
+ghost use Rattle.compound_run.specs.Operations.{is_run};
 ghost use Rattle.compound_run.specs.Operations as specs;
-ghost use Rattle.access_guard.specs.Log.{settled};
 ghost use Rattle.compound_run.specs.Limits as limits;
-ghost use Rattle.compound_run.specs.Runs.{waits};
 ghost use Rattle.compound_run.specs.Telling.{is_delay};
 ghost use Rattle.compound_run.specs.Views.{context_at, handles_after, point_at, GivesBy, HasRoom, IfRun};
+ghost use Rattle.compound_run.specs.Views.{stage, by_body, by_meaning, by_run};
 ghost use Rattle.compound_run.specs.Written.{StepGives};
 
 use crate::context::Context;
@@ -77,7 +76,7 @@ impl<A: Allocator + Copy> Realm<A> {
     ) -> Result<FileHandles, Status>
         requires settled { self.old.tree.log.held ≡ [] }
         requires room { IfRun (is_run (op_view op.now)) (HasRoom step.context out.old) }
-        ensures { GivesBy takes_memory_in body waits step.entry op.now self.old out.old result self.new out.new }
+        ensures { GivesBy by_body step.entry op.now (stage self.old out.old) result (stage self.new out.new) }
     {
         match op {
             Op::Access(args) => self.access(step, args, out),
@@ -124,7 +123,7 @@ impl<A: Allocator + Copy> Realm<A> {
     ) -> Result<FileHandles, Status>
         requires settled { self.old.tree.log.held ≡ [] }
         requires room { step.context.room + limits.REFUSAL_ROOM ≤ out.old.room }
-        ensures { GivesBy may_delay meaning waits step.entry op.now self.old out.old result self.new out.new }
+        ensures { GivesBy by_meaning step.entry op.now (stage self.old out.old) result (stage self.new out.new) }
     {
         if let Some(fault) = entry_fault(step.context, op) {
             return Err(fault);
@@ -141,8 +140,7 @@ impl<A: Allocator + Copy> Realm<A> {
     ) -> Result<FileHandles, Status>
         requires settled { self.old.tree.log.held ≡ [] }
         requires room { step.context.room + limits.REFUSAL_ROOM ≤ out.old.room }
-        ensures gives { GivesBy may_delay meaning (settled true) step.entry op.now self.old out.old result self.new
-            out.new }
+        ensures gives { GivesBy by_run step.entry op.now (stage self.old out.old) result (stage self.new out.new) }
         ensures settled { self.new.tree.log.held ≡ [] }
     {
         let result = self.answer(step, op, out);
@@ -160,8 +158,8 @@ impl<A: Allocator + Copy> Realm<A> {
         requires settled { self.old.tree.log.held ≡ [] }
         requires room { step.context.room + limits.REFUSAL_ROOM ≤ out.old.room }
         ensures gives { StepGives (context_at self.old step.entry.context) (op_view op.now)
-            (point_at self.old step.entry.handles) out.old result
-            (point_at self.new (handles_after step.entry.handles result)) out.new }
+            (stage (point_at self.old step.entry.handles) out.old) result
+            (stage (point_at self.new (handles_after step.entry.handles result)) out.new) }
         ensures settled { self.new.tree.log.held ≡ [] }
     {
         match self.run(step, op, out) {

@@ -3,11 +3,11 @@ ghost use Rattle.std.specs.Prelude.{◌≡◌, ◌+◌, ◌-◌, ◌≤◌, [], 
 ghost use Rattle.nfs_ops.specs.Results.{Done};
 ghost use Rattle.nfs_ops.specs.Views.{sequence_result_value};
 ghost use Rattle.nfs_ops.specs.declared.op_kind.OpKind.TheVariants as kinds;
-ghost use Rattle.compound_run.specs.Compound.{first_room};
+ghost use Rattle.compound_run.specs.Compound.{first_room, series};
 ghost use Rattle.compound_run.specs.Limits as limits;
 ghost use Rattle.compound_run.specs.Runs.{spelled};
 ghost use Rattle.compound_run.specs.SessionViews.{SequencedTo, SequencedBehind, WritesWithin, sequence_told};
-ghost use Rattle.compound_run.specs.Views.{context_at};
+ghost use Rattle.compound_run.specs.Views.{context_at, stage};
 
 use crate::compound::{CompoundArgs, Ended, put_tag, put_word};
 use crate::context::Context;
@@ -36,11 +36,10 @@ impl CompoundArgs<'_> {
         requires result { length out.old.bytes + limits.MIN_ROOM ≤ end }
         requires room { end + limits.REFUSAL_ROOM ≤ length out.old.bytes + out.old.room }
         ensures answers { SequencedBehind (end + limits.REFUSAL_ROOM)
-            (record (context_at realm.old context.entry) {
+            (series self.now.tag.now (record (context_at realm.old context.entry) {
               room = end - length out.old.bytes
                   - length (spelled (Done kinds.Sequence (sequence_result_value given)));
-            })
-            self.now.tag.now (sequence_told given) operations.now realm.old out.old result realm.new out.new }
+            }) operations.now) (sequence_told given) (stage realm.old out.old) result (stage realm.new out.new) }
         ensures settled { realm.new.tree.log.held ≡ [] }
     {
         put_result(OpResult::Sequence(given), out);
@@ -71,11 +70,10 @@ impl CompoundArgs<'_> {
         requires room { limit ≤ out.old.room }
         ensures answers { WritesWithin limit
             (λ bytes. SequencedTo
-            (record (context_at realm.old context.entry) {
+            (series self.now.tag.now (record (context_at realm.old context.entry) {
               room = first_room (limit + limits.REPLY_HEADER) self.now.tag.now
                   - length (spelled (Done kinds.Sequence (sequence_result_value given)));
-            })
-            self.now.tag.now (sequence_told given) operations.now realm.old bytes realm.new)
+            }) operations.now) (sequence_told given) realm.old bytes realm.new)
             out.old out.new }
         ensures settled { realm.new.tree.log.held ≡ [] }
     {

@@ -16,6 +16,7 @@ ghost use Rattle.compound_run.specs.Setattr.{setattr, sent_by, size_fault, size_
 ghost use Rattle.compound_run.specs.Setattr.{sets_owner, sets_any, stamps, sized, setting};
 ghost use Rattle.compound_run.specs.Permits.{Permits, permitted, entitled};
 ghost use Rattle.compound_run.specs.Views.{context_at, GivesOrDelays, HasRoom, wanted_view, with_world, IsWanted};
+ghost use Rattle.compound_run.specs.Views.{stage};
 
 use crate::context::Context;
 use crate::filehandles::FileHandles;
@@ -302,8 +303,8 @@ impl<A: Allocator + Copy> Realm<A> {
     ) -> Result<FileHandles, Status>
         requires settled { self.old.tree.log.held ≡ [] }
         requires room { HasRoom step.context out.old }
-        ensures { GivesOrDelays step.entry (setattr (setattr_args_value args.now)) self.old out.old result self.new
-            out.new }
+        ensures { GivesOrDelays step.entry (setattr (setattr_args_value args.now)) (stage self.old out.old) result
+            (stage self.new out.new) }
     {
         let number = step.handles.current.ok_or(Status::NoFileHandle)?;
         if self.tree.object(number).is_none() {

@@ -8,7 +8,7 @@ ghost use Rattle.node_tree.specs.World.{object};
 ghost use Rattle.compound_run.specs.Asking.{sight_of};
 ghost use Rattle.compound_run.specs.Verify.{verify, is_same, set_fault};
 ghost use Rattle.compound_run.specs.Says.{values_given};
-ghost use Rattle.compound_run.specs.Views.{context_at, GivesOrDelays, HasRoom};
+ghost use Rattle.compound_run.specs.Views.{context_at, GivesOrDelays, HasRoom, stage};
 ghost use Rattle.std.specs.Prelude.{IfOk};
 
 use crate::context::Context;
@@ -97,8 +97,8 @@ impl<A: Allocator + Copy> Realm<A> {
     ) -> Result<FileHandles, Status>
         requires settled { self.old.tree.log.held ≡ [] }
         requires room { HasRoom step.context out.old }
-        ensures { GivesOrDelays step.entry (verify (verify_args_value args.now)) self.old out.old result self.new
-            out.new }
+        ensures { GivesOrDelays step.entry (verify (verify_args_value args.now)) (stage self.old out.old) result
+            (stage self.new out.new) }
     {
         let number = step.handles.current.ok_or(Status::NoFileHandle)?;
         if self.tree.object(number).is_none() {

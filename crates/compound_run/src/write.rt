@@ -2,7 +2,7 @@
 ghost use Rattle.std.specs.Prelude.{◌≡◌, []};
 ghost use Rattle.nfs_ops.specs.Views.{write_args_value};
 ghost use Rattle.compound_run.specs.Write.{write, fits};
-ghost use Rattle.compound_run.specs.Views.{GivesOrDelays, HasRoom};
+ghost use Rattle.compound_run.specs.Views.{GivesOrDelays, HasRoom, stage};
 
 use crate::filehandles::FileHandles;
 use crate::operation_results::put_result;
@@ -34,8 +34,8 @@ impl<A: Allocator + Copy> Realm<A> {
     ) -> Result<FileHandles, Status>
         requires settled { self.old.tree.log.held ≡ [] }
         requires room { HasRoom step.context out.old }
-        ensures { GivesOrDelays step.entry (write (write_args_value args.now)) self.old out.old result self.new
-            out.new }
+        ensures { GivesOrDelays step.entry (write (write_args_value args.now)) (stage self.old out.old) result
+            (stage self.new out.new) }
     {
         let number = step.handles.current.ok_or(Status::NoFileHandle)?;
         match self.tree.object(number).ok_or(Status::Stale)?.kind() {

@@ -2,7 +2,7 @@
 use Rattle.std.proofs.Common.{◌≡◌, ℕ, ◌+◌, Bool, true, false, List, [], ◌∷◌, ◌++◌, length, Option, Some, None, refl, sym, ◌∙◌, ap, subst, arith, append_assoc, length-append}
 use Rattle.std.proofs.lemmas.List.{append-nil}
 use Rattle.journal.specs.Frames.{Bytes, Frame, frame_at, Stand}
-use Rattle.journal.specs.Files.{Content, IsRead, generation_at, contents, after_those, joined_to, if_whole}
+use Rattle.journal.specs.Files.{Content, IsRead, generation_at, contents, after_those, joined_to, if_whole, tail_with}
 
 -- Some frames of the file were read, and this comes of those that are left.
 pub record Goes (key generation : ℕ) (file : Bytes) (number : ℕ) (rest : Bytes) (whole : Bool) (parts records : List Bytes) : Type 0 where
@@ -28,7 +28,7 @@ goes key generation file number next rest after whole whole' parts parts' record
   joined = λ left. step left ∙ g.joined (f ∷ left) ∙ ap contents (sym (append_assoc g.before (f ∷ []) left));
 }
 
-pub ends : (key generation : ℕ) (file : Bytes) (number : ℕ) (rest : Bytes) (whole : Bool) (parts records : List Bytes) → generation ≡ generation_at key file → frame_at key generation number rest ≡ None → Goes key generation file number rest whole parts records → IsRead key file generation number rest whole parts records
+pub ends : (key generation : ℕ) (file : Bytes) (number : ℕ) (rest : Bytes) (whole : Bool) (parts records : List Bytes) → generation ≡ generation_at key file → frame_at key generation number rest ≡ None → Goes key generation file number rest whole parts records → IsRead key file generation (tail_with number rest) whole parts records
 ends key generation file number rest whole parts records is none g = record {
   frames = g.before;
   has = record {

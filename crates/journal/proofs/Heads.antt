@@ -1,12 +1,12 @@
 -- Heads of frames, and the bytes in front of what is left.
-use Rattle.std.proofs.Common.{◌≡◌, ◌≢◌, ◌⊎◌, inl, inr, ℕ, ◌<◌, ◌≤◌, ◌+◌, ◌*◌, Bool, true, false, List, [], ◌∷◌, ◌++◌, length, drop, Option, Some, None, Ok, Err, refl, sym, ◌∙◌, ap, subst, arith, append_assoc}
+use Rattle.std.proofs.Common.{◌≡◌, inl, inr, ℕ, ◌≤◌, ◌+◌, Bool, true, false, List, [], ◌∷◌, ◌++◌, Option, Some, None, Ok, Err, sym, ◌∙◌, ap, subst, arith, append_assoc}
 use Rattle.std.specs.Bool.{if◌then◌else◌}
 use Rattle.std.specs.Prelude.{◌==◌}
 use Rattle.std.proofs.lemmas.Bool.Decides.{nat_tests}
-use Rattle.xdr_wire.specs.Xdr.{Value, Xdr, hyper, pair, opaque, spelling}
+use Rattle.xdr_wire.specs.Xdr.{Value, hyper, pair, opaque, spelling}
 use Rattle.xdr_wire.proofs.Spelling.{again, spelled, begins_from_read}
 use Rattle.xdr_wire.specs.Reading.{Read, read_at}
-use Rattle.journal.specs.Digest.{digest, head_digest}
+use Rattle.journal.specs.Digest.{head_digest}
 use Rattle.journal.specs.declared.head.Head.{Head}
 use Rattle.journal.specs.Frames.{Bytes, Frame, VERSION, MAX_BODY, form, head_form, head_value, head_of, head_for, frame_of, framed, IsFit, fitting, fitting_head, frame_at, head_at, in_place, Stand}
 use Rattle.journal.specs.Crash.{AreMarked, IsHeadOf}

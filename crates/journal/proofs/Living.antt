@@ -9,12 +9,12 @@ use Rattle.std.proofs.Math.Seq.{drop-append-add}
 use Rattle.journal.specs.declared.head.Head.{Head}
 use Rattle.journal.specs.declared.disk.Slot.{Slot}
 use Rattle.journal.specs.declared.disk.Slot.TheVariants.{A, B}
-use Rattle.journal.specs.Disk.{Disk, settled, on_disk, AreRoom, MayLeave}
+use Rattle.journal.specs.Disk.{Act, Disk, settled, on_disk, AreRoom, MayLeave}
 use Rattle.journal.specs.Frames.{Bytes, Frame, END, head_at, all_framed, framed, AreFit, Holds}
-use Rattle.journal.specs.Files.{File, Has, Content, contents, with_part, bodies, rank, rank_of, generation_at, generation_in, Alarm, SaysSo}
+use Rattle.journal.specs.Files.{File, Has, Content, contents, with_part, bodies, rank, rank_of, generation_at, generation_in, tail_with, Alarm, SaysSo}
 use Rattle.journal.specs.Opening.{IsWrongAt, slot_of, greater, in_slot}
 use Rattle.journal.specs.Crash.{IsFront, IsWritten, Fluke, HeadFluke, IsHeadOf}
-use Rattle.journal.specs.Living.{IsKept, Chance, LiveLaw}
+use Rattle.journal.specs.Living.{LiveFile, IsLive, IsKept, Chance, Survives, LiveLaw}
 use Rattle.journal.proofs.Standing.{stand_framed, splits}
 use Rattle.journal.proofs.Zeros.{alarm_is_loose}
 use Rattle.journal.proofs.Crash.{crash_law}
@@ -169,13 +169,16 @@ module _ (key generation : ℕ) (kept later : List Frame) (checkpoint : Content)
       }
 
   -- where something is wrong it is an alarm in the live file
-  wrong : (unknown : Bool) (least na nb : ℕ) (sa sb : Bytes) (C : Type 0) → least ≡ generation → (Alarm key generation na unknown sa → C) → (Alarm key generation nb unknown sb → C) → IsWrongAt key unknown least na sa nb sb b → C
+  wrong : (unknown : Bool) (least na nb : ℕ) (sa sb : Bytes) (C : Type 0) → least ≡ generation → (Alarm key generation na unknown sa → C) → (Alarm key generation nb unknown sb → C) → IsWrongAt key unknown least (tail_with na sa) (tail_with nb sb) b → C
   wrong unknown least na nb sa sb C is first second (inl alarm) = first (subst (λ (n : ℕ). Alarm key n na unknown sa) is alarm)
   wrong unknown least na nb sa sb C is first second (inr (inl alarm)) = second (subst (λ (n : ℕ). Alarm key n nb unknown sb) is alarm)
   wrong unknown least na nb sa sb C is first second (inr (inr full)) = absurd (omega (arith, some, is, full.1))
 
-pub live_law : LiveLaw
-live_law key generation A kept later going checkpoint acts live a b m n =
+abbrev file_with : ℕ → ℕ → Slot → List Frame → List Frame → Content → LiveFile
+file_with key generation s kept later checkpoint = record { key = key; generation = generation; slot = s; kept = kept; later = later; checkpoint = checkpoint }
+
+by_slot : (key generation : ℕ) (s : Slot) (kept later : List Frame) (going : Bool) (checkpoint : Content) (acts : List Act) → IsLive (file_with key generation s kept later checkpoint) going acts → (a b : Bytes) → (m : MayLeave (on_disk A acts) a) → (n : MayLeave (on_disk B acts) b) → Survives (file_with key generation s kept later checkpoint) (on_disk s acts) (in_slot s m.more n.more) a b
+by_slot key generation A kept later going checkpoint acts live a b m n =
     let d = on_disk A acts in
     let passed = live.passed b n in (
       λ slot number content chosen.
@@ -198,7 +201,7 @@ live_law key generation A kept later going checkpoint acts live a b m n =
           (λ (chance : Chance key generation kept later d m.more). chance)
           (stays key generation kept later going checkpoint d live.written live.whole a m x refused.both.has_a),
     )
-live_law key generation B kept later going checkpoint acts live a b m n =
+by_slot key generation B kept later going checkpoint acts live a b m n =
     let d = on_disk B acts in
     let passed = live.passed a m in (
       λ slot number content chosen.
@@ -221,3 +224,8 @@ live_law key generation B kept later going checkpoint acts live a b m n =
           (λ (chance : Chance key generation kept later d n.more). chance)
           (stays key generation kept later going checkpoint d live.written live.whole b n y refused.both.has_b),
     )
+
+pub live_law : LiveLaw
+live_law file going acts live =
+    by_slot file.key file.generation file.slot file.kept file.later going file.checkpoint acts
+    (record { written = live.written; whole = live.whole; some = live.some; passed = live.passed })

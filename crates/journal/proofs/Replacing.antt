@@ -10,7 +10,7 @@ use Rattle.journal.specs.declared.disk.Slot.{Slot}
 use Rattle.journal.specs.declared.disk.Slot.TheVariants.{A, B}
 use Rattle.journal.specs.Disk.{Act, Synced, Emptied, Found, Disk, other, settled, on_disk, if_same, after_sync, AreZeros, MayLeave}
 use Rattle.journal.specs.Frames.{Bytes, Frame, head_at, frame_at, all_framed, Stand, Holds}
-use Rattle.journal.specs.Files.{File, Has, Content, contents, rank, rank_of, generation_at, generation_in, Alarm, SaysSo}
+use Rattle.journal.specs.Files.{File, Has, Content, contents, rank, rank_of, generation_at, generation_in, tail_with, Alarm, SaysSo}
 use Rattle.journal.specs.Opening.{Chooses, IsWrongAt, slot_of, greater, in_slot}
 use Rattle.journal.specs.Crash.{IsFront, IsWritten, Fluke, IsHeadOf}
 use Rattle.journal.specs.Replacing.{IsBase, ChanceInNew, IsOld, IsNew, ReplacingLaw, FinishLaw, StartLaw, RenewLaw}
@@ -169,7 +169,7 @@ not_both : A ≡ B → ⊥
 not_both e = cc
 
 -- where something is wrong it is an alarm in either file
-wrong : (key : ℕ) (unknown : Bool) (least na nb : ℕ) (sa sb b : Bytes) (C : Type 0) → (Alarm key least na unknown sa → C) → (Alarm key least nb unknown sb → C) → (least ≡ 0 → b ≢ [] → C) → IsWrongAt key unknown least na sa nb sb b → C
+wrong : (key : ℕ) (unknown : Bool) (least na nb : ℕ) (sa sb b : Bytes) (C : Type 0) → (Alarm key least na unknown sa → C) → (Alarm key least nb unknown sb → C) → (least ≡ 0 → b ≢ [] → C) → IsWrongAt key unknown least (tail_with na sa) (tail_with nb sb) b → C
 wrong key unknown least na nb sa sb b C first second full (inl alarm) = first alarm
 wrong key unknown least na nb sa sb b C first second full (inr (inl alarm)) = second alarm
 wrong key unknown least na nb sa sb b C first second full (inr (inr both)) = full both.1 both.2

@@ -18,6 +18,17 @@ generation_in (Some h) = h.generation
 abbrev pub generation_at : ℕ → Bytes → ℕ
 generation_at key bytes = generation_in (head_at key bytes)
 
+-- the end of a file: the number of its frames, and the bytes after them
+pub record Tail : Type 0 where
+  pub count : ℕ
+  pub rest : Bytes
+
+abbrev pub tail_with : ℕ → Bytes → Tail
+tail_with count rest = record { count = count; rest = rest }
+
+abbrev pub tail_of : File → Tail
+tail_of x = tail_with (length x.frames) x.rest
+
 -- this is what the bytes of a file have
 pub record Has (key : ℕ) (bytes : Bytes) (x : File) : Type 0 where
   pub generation_is : x.generation ≡ generation_at key bytes
@@ -95,11 +106,10 @@ abbrev pub if_whole : Bool → List Bytes → List Bytes → Option Content
 if_whole true parts records = Some (record { parts = parts; records = records })
 if_whole false parts records = None
 
--- This is what a file has: its generation, as many frames, the rest, whether its checkpoint is whole, and then its
--- parts and records.
-pub record IsRead (key : ℕ) (bytes : Bytes) (generation number : ℕ) (rest : Bytes) (whole : Bool)
+-- This is what a file has: its generation, its end, whether its checkpoint is whole, and then its parts and records.
+pub record IsRead (key : ℕ) (bytes : Bytes) (generation : ℕ) (tail : Tail) (whole : Bool)
     (parts records : List Bytes) : Type 0 where
   pub frames : List Frame
-  pub has : Has key bytes (record { generation = generation; frames = frames; rest = rest })
-  pub count : number ≡ length frames
+  pub has : Has key bytes (record { generation = generation; frames = frames; rest = tail.rest })
+  pub count : tail.count ≡ length frames
   pub content : contents frames ≡ if_whole whole parts records

@@ -6,6 +6,7 @@ use Rattle.xdr_wire.specs.Xdr.{Xdr, Value, hyper, opaque, pair, HasSpelling, spe
 use Rattle.xdr_wire.specs.Reading.{Read, read_at}
 use Rattle.journal.specs.declared.head.Head.{Head}
 use Rattle.journal.specs.declared.frames.Frame.{Frame as Lent}
+use Rattle.journal.specs.declared.frames.Frames.{Frames}
 use Rattle.journal.specs.Digest.{digest, head_digest}
 
 abbrev pub Bytes : Type 0
@@ -147,6 +148,7 @@ pub record Holds (key generation number : ℕ) (bytes : Bytes) (frames : List Fr
   pub no_more : frame_at key generation (number + length frames) rest ≡ None
 
 -- The next frame is taken from the bytes, or there is none and they stay.
-abbrev pub Takes : {X : Type 0} → (X → Frame) → ℕ → ℕ → ℕ → Option X → Bytes → Bytes → Type 0
-Takes view key generation number (Some f) old new = frame_at key generation number old ≡ Some (view f, new)
-Takes view key generation number None old new = (frame_at key generation number old ≡ None) × (new ≡ old)
+abbrev pub Takes : Frames → Option Lent → Frames → Type 0
+Takes old (Some f) new = frame_at old.key old.generation old.number old.rest.now ≡ Some (lent f, new.rest.now)
+Takes old None new =
+    (frame_at old.key old.generation old.number old.rest.now ≡ None) × (new.rest.now ≡ old.rest.now)

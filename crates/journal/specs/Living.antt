@@ -1,6 +1,6 @@
 -- While records are appended to one of two files, a crash leaves its checkpoint and a front of the
 -- records, unless a digest fits by chance.
-use Rattle.std.specs.Prelude.{◌≡◌, ◌⊎◌, ◌<◌, ℕ, Bool, true, List, ◌++◌, length, Option, Some}
+use Rattle.std.specs.Prelude.{◌≡◌, ◌⊎◌, ◌<◌, ℕ, Bool, true, List, [], ◌++◌, length, Option, Some}
 use Rattle.journal.specs.declared.disk.Slot.{Slot}
 use Rattle.journal.specs.declared.disk.Slot.TheVariants.{A, B}
 use Rattle.journal.specs.Disk.{Act, Disk, other, on_disk, MayLeave}
@@ -16,14 +16,34 @@ pub record IsPassed (key generation : ℕ) (bytes : Bytes) : Type 0 where
   pub quiet : (x : File) → Has key bytes x → (unknown : Bool) → Alarm key generation (length x.frames) unknown x.rest
       → ⊥
 
+-- A file that counts: its frames, of which the first are kept and later ones were appended, and the checkpoint and
+-- records that the kept ones are.
+pub record LiveFile : Type 0 where
+  pub key : ℕ
+  pub generation : ℕ
+  pub slot : Slot
+  pub kept : List Frame
+  pub later : List Frame
+  pub checkpoint : Content
+
+-- one all of whose frames are kept
+abbrev pub all_kept : ℕ → ℕ → Slot → List Frame → Content → LiveFile
+all_kept key generation s frames checkpoint = record {
+  key = key;
+  generation = generation;
+  slot = s;
+  kept = frames;
+  later = [];
+  checkpoint = checkpoint;
+}
+
 -- After these acts this file counts. Its checkpoint and the first records are kept, and later ones
 -- were appended. Whatever a crash leaves of the other file is passed by.
-pub record IsLive (key generation : ℕ) (s : Slot) (kept later : List Frame) (going : Bool) (checkpoint : Content)
-    (acts : List Act) : Type 0 where
-  pub written : IsWritten key generation kept later going (on_disk s acts)
-  pub whole : contents kept ≡ Some checkpoint
-  pub some : 0 < generation
-  pub passed : (old : Bytes) → MayLeave (on_disk (other s) acts) old → IsPassed key generation old
+pub record IsLive (file : LiveFile) (going : Bool) (acts : List Act) : Type 0 where
+  pub written : IsWritten file.key file.generation file.kept file.later going (on_disk file.slot acts)
+  pub whole : contents file.kept ≡ Some file.checkpoint
+  pub some : 0 < file.generation
+  pub passed : (old : Bytes) → MayLeave (on_disk (other file.slot) acts) old → IsPassed file.key file.generation old
 
 -- This file counts, with its checkpoint, all records that are kept, and a front of the later ones.
 pub record IsKept (s : Slot) (generation : ℕ) (later : List Frame) (checkpoint : Content) (slot : Slot) (number : ℕ)
@@ -42,15 +62,16 @@ Chance key generation kept later d more =
 
 -- **Unless a digest fits by chance, two things hold after a crash. What is chosen is a checkpoint
 -- and records that are a front of what was appended, with all that is kept. Nothing is refused.**
-abbrev pub Survives : ℕ → ℕ → Slot → List Frame → List Frame → Content → Disk → Bytes → Bytes → Bytes → Type 0
-Survives key generation s kept later checkpoint d more a b =
-    ((slot : Slot) (number : ℕ) (content : Option Content) → Chooses key a b slot number content
-    → IsKept s generation later checkpoint slot number content ⊎ Chance key generation kept later d more)
-    × ((unknown : Bool) → Refuses key a b unknown → Chance key generation kept later d more)
+abbrev pub Survives : LiveFile → Disk → Bytes → Bytes → Bytes → Type 0
+Survives file d more a b =
+    ((slot : Slot) (number : ℕ) (content : Option Content) → Chooses file.key a b slot number content
+    → IsKept file.slot file.generation file.later file.checkpoint slot number content
+    ⊎ Chance file.key file.generation file.kept file.later d more)
+    × ((unknown : Bool) → Refuses file.key a b unknown
+    → Chance file.key file.generation file.kept file.later d more)
 
 abbrev pub LiveLaw : Type 0
 LiveLaw =
-    (key generation : ℕ) (s : Slot) (kept later : List Frame) (going : Bool) (checkpoint : Content) (acts : List Act)
-    → IsLive key generation s kept later going checkpoint acts
+    (file : LiveFile) (going : Bool) (acts : List Act) → IsLive file going acts
     → (a b : Bytes) → (m : MayLeave (on_disk A acts) a) → (n : MayLeave (on_disk B acts) b)
-    → Survives key generation s kept later checkpoint (on_disk s acts) (in_slot s m.more n.more) a b
+    → Survives file (on_disk file.slot acts) (in_slot file.slot m.more n.more) a b

@@ -1,12 +1,12 @@
 -- Which of two files counts.
-use Rattle.std.specs.Prelude.{◌≡◌, ◌≢◌, ◌⊎◌, ℕ, Bool, true, false, [], length, nat_lt, if◌then◌else◌, Option, Result}
+use Rattle.std.specs.Prelude.{◌≡◌, ◌≢◌, ◌⊎◌, ℕ, Bool, true, false, [], nat_lt, if◌then◌else◌, Option, Result}
 use Rattle.std.specs.Prelude.{Ok, Err}
 use Rattle.journal.specs.declared.disk.Slot.{Slot}
 use Rattle.journal.specs.declared.disk.Slot.TheVariants.{A, B}
 use Rattle.journal.specs.declared.opening.OpenFault.{OpenFault}
 use Rattle.journal.specs.declared.opening.OpenFault.TheVariants.{Failed, Version, Damaged, Memory}
 use Rattle.journal.specs.Frames.{Bytes}
-use Rattle.journal.specs.Files.{File, Has, Content, contents, rank, Alarm}
+use Rattle.journal.specs.Files.{File, Tail, tail_of, Has, Content, contents, rank, Alarm}
 
 -- two files have this
 pub record Both (key : ℕ) (a b : Bytes) : Type 0 where
@@ -30,14 +30,14 @@ in_slot B x y = y
 -- rest of either stands a head, of no lesser generation than the file that counts, that has a
 -- version that isn't known or says that its file was longer. Or no checkpoint is whole, and the
 -- second file isn't empty, which is begun only after the first one is kept.
-abbrev pub IsWrongAt : ℕ → Bool → ℕ → ℕ → Bytes → ℕ → Bytes → Bytes → Type 0
-IsWrongAt key unknown least count_a rest_a count_b rest_b b =
-    Alarm key least count_a unknown rest_a ⊎ (Alarm key least count_b unknown rest_b
+abbrev pub IsWrongAt : ℕ → Bool → ℕ → Tail → Tail → Bytes → Type 0
+IsWrongAt key unknown least in_a in_b b =
+    Alarm key least in_a.count unknown in_a.rest ⊎ (Alarm key least in_b.count unknown in_b.rest
     ⊎ ((unknown ≡ false) × (least ≡ 0) × (b ≢ [])))
 
 abbrev pub IsWrong : ℕ → Bool → File → File → Bytes → Type 0
 IsWrong key unknown x y b =
-    IsWrongAt key unknown (greater (rank x) (rank y)) (length x.frames) x.rest (length y.frames) y.rest b
+    IsWrongAt key unknown (greater (rank x) (rank y)) (tail_of x) (tail_of y) b
 
 -- Nothing is wrong, and this file counts, with its generation and its content; neither, of generation 0, where the
 -- journal is new.
@@ -68,12 +68,9 @@ ChecksSo key least count rest (Err Damaged) = Alarm key least count false rest
 ChecksSo key least count rest (Err Memory) = ⊥
 
 -- a look at both files answers this
-abbrev pub ExaminesSo : ℕ → ℕ → ℕ → Bytes → ℕ → Bytes → Bytes → Result (Unit {0}) OpenFault → Type 0
-ExaminesSo key least count_a rest_a count_b rest_b b (Ok done) =
-    (unknown : Bool) → IsWrongAt key unknown least count_a rest_a count_b rest_b b → ⊥
-ExaminesSo key least count_a rest_a count_b rest_b b (Err Failed) = ⊥
-ExaminesSo key least count_a rest_a count_b rest_b b (Err Version) =
-    IsWrongAt key true least count_a rest_a count_b rest_b b
-ExaminesSo key least count_a rest_a count_b rest_b b (Err Damaged) =
-    IsWrongAt key false least count_a rest_a count_b rest_b b
-ExaminesSo key least count_a rest_a count_b rest_b b (Err Memory) = ⊥
+abbrev pub ExaminesSo : ℕ → ℕ → Tail → Tail → Bytes → Result (Unit {0}) OpenFault → Type 0
+ExaminesSo key least in_a in_b b (Ok done) = (unknown : Bool) → IsWrongAt key unknown least in_a in_b b → ⊥
+ExaminesSo key least in_a in_b b (Err Failed) = ⊥
+ExaminesSo key least in_a in_b b (Err Version) = IsWrongAt key true least in_a in_b b
+ExaminesSo key least in_a in_b b (Err Damaged) = IsWrongAt key false least in_a in_b b
+ExaminesSo key least in_a in_b b (Err Memory) = ⊥

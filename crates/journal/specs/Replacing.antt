@@ -8,7 +8,7 @@ use Rattle.journal.specs.Frames.{Bytes, Frame}
 use Rattle.journal.specs.Files.{File, Has, Content, contents, rank, Alarm}
 use Rattle.journal.specs.Opening.{Chooses, Refuses, in_slot}
 use Rattle.journal.specs.Crash.{IsFront, IsWritten, Fluke, HeadFluke}
-use Rattle.journal.specs.Living.{IsLive}
+use Rattle.journal.specs.Living.{IsLive, all_kept}
 
 -- A file with these bytes counts, with this generation and this content, and nothing of it says that something is
 -- wrong. Where the journal is new it is the second one, and empty, of generation 0.
@@ -68,7 +68,7 @@ FinishLaw =
     (key generation : ℕ) (s : Slot) (content : Option Content) (later : List Frame) (checkpoint : Content)
     (acts : List Act)
     → IsReplaced key generation s content later true acts → contents later ≡ Some checkpoint
-    → IsLive key (generation + 1) (other s) later [] true checkpoint (Synced (other s) ∷ acts)
+    → IsLive (all_kept key (generation + 1) (other s) later checkpoint) true (Synced (other s) ∷ acts)
 
 -- Two files that were found, of which one is chosen, are a base for a checkpoint in the other one.
 -- That one is emptied and then synced.
@@ -82,6 +82,6 @@ StartLaw =
 abbrev pub RenewLaw : Type 0
 RenewLaw =
     (key generation : ℕ) (s : Slot) (kept : List Frame) (content : Content) (checkpoint : Content) (acts : List Act)
-    → IsLive key generation s kept [] true checkpoint acts → (on_disk s acts).loose ≡ false
+    → IsLive (all_kept key generation s kept checkpoint) true acts → (on_disk s acts).loose ≡ false
     → contents kept ≡ Some content
     → IsReplaced key generation s (Some content) [] true (Synced (other s) ∷ Emptied (other s) ∷ acts)

@@ -1,7 +1,7 @@
 -- Acts of a disk empty a file of frames, append frames, and keep them.
-use Rattle.std.specs.Prelude.{◌≡◌, ◌≤◌, ℕ, true, false, List, [], ◌∷◌, ◌++◌, length}
+use Rattle.std.specs.Prelude.{◌≤◌, ℕ, true, false, List, [], ◌∷◌, ◌++◌, length}
 use Rattle.journal.specs.declared.disk.Slot.{Slot}
-use Rattle.journal.specs.Disk.{Act, Appended, Tore, Synced, Unsynced, Emptied, other, on_disk}
+use Rattle.journal.specs.Disk.{Act, Appended, Tore, Synced, Unsynced, Emptied, on_disk}
 use Rattle.journal.specs.Frames.{Frame, framed, IsFit}
 use Rattle.journal.specs.Crash.{IsWritten}
 

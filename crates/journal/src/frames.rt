@@ -1,6 +1,6 @@
 //! The frames at the front of a file's bytes, and the frames that are written.
 ghost use Rattle.std.specs.Prelude.{◌≡◌, ◌<◌, ◌+◌, ◌^◌, ◌↔◌, length, Err, IfOk, IfNone, OnSome};
-ghost use Rattle.journal.specs.Frames.{Takes, frame_with, lent, framed, IsFit, head_at};
+ghost use Rattle.journal.specs.Frames.{Takes, lent, framed, IsFit, head_at};
 ghost use Rattle.journal.specs.declared.frames.FrameFault.TheVariants as faults;
 
 use crate::digest::{digest_of, head_digest_of};
@@ -69,14 +69,13 @@ pub(crate) fn frame_bytes<A: Allocator>(
     key: u64,
     generation: u64,
     number: u64,
-    kind: u64,
-    safe: u64,
-    body: &[u8],
+    frame: Frame<'_>,
 ) -> Result<Writer<A>, FrameFault>
-    ensures framed { IfOk result (λ w. w.bytes ≡ framed key generation number (frame_with kind safe body.now)) }
-    ensures fit { IfOk result (λ w. IsFit key generation number (frame_with kind safe body.now)) }
-    ensures long { (result ≡ Err faults.TooLong) ↔ (67108864 < length body.now) }
+    ensures framed { IfOk result (λ w. w.bytes ≡ framed key generation number (lent frame.entry)) }
+    ensures fit { IfOk result (λ w. IsFit key generation number (lent frame.entry)) }
+    ensures long { (result ≡ Err faults.TooLong) ↔ (67108864 < length frame.entry.body.now) }
 {
+    let Frame { kind, safe, body } = frame;
     let Some(item) = Opaque::<MAX_BODY>::new(body) else {
         return Err(FrameFault::TooLong);
     };
@@ -103,8 +102,7 @@ impl<'a> Frames<'a> {
     #[tactic(auto, unfolding(crate::specs::Frames::frame_at))]
     pub fn next(&mut self) -> Option<Frame<'a>>
         requires { self.old.number + length self.old.rest.now < 2 ^ 64 }
-        ensures takes { Takes lent self.old.key self.old.generation self.old.number result self.old.rest.now
-            self.new.rest.now }
+        ensures takes { Takes self.old result self.new }
         ensures number { OnSome result (self.new.number ≡ self.old.number + 1) }
         ensures stays { IfNone result (self.new.number ≡ self.old.number) }
         ensures shorter { OnSome result (length self.new.rest.now < length self.old.rest.now) }

@@ -1,11 +1,12 @@
 //! Writing a checkpoint, and records after it.
 ghost use Rattle.std.specs.Prelude.{◌≡◌, ◌+◌, ◌==◌, false, if◌then◌else◌};
 ghost use Rattle.journal.specs.Disk.{other};
-ghost use Rattle.journal.specs.Frames.{PART, RECORD, frame_with};
+ghost use Rattle.journal.specs.Frames.{PART, RECORD, frame_with, lent};
 ghost use Rattle.journal.specs.Keeping.{BeginGives, FinishGives, FrameGives, SyncGives};
+ghost use Rattle.journal.specs.Keeping.{checkpoint_file, journal_file, passage};
 
 use crate::disk::{Disk, Slot};
-use crate::frames::{FrameFault, frame_bytes};
+use crate::frames::{Frame, FrameFault, frame_bytes};
 use crate::reading::END;
 use std::alloc::Allocator;
 use thiserror::Error;
@@ -57,6 +58,17 @@ pub struct Journal {
     pub has_failed: bool,
 }
 
+/// A file that frames are appended to.
+#[derive(Clone, Copy)]
+pub(crate) struct FrameFile {
+    key: u64,
+    slot: Slot,
+    generation: u64,
+    /// The number of frames that were appended.
+    number: u64,
+    has_failed: bool,
+}
+
 /// The other file.
 fn other_slot(slot: Slot) -> Slot
     ensures { result ≡ other slot }
@@ -67,42 +79,48 @@ fn other_slot(slot: Slot) -> Slot
     }
 }
 
-/// Appends the frame of a number to a file. The number and whether the disk has failed go on.
+/// Appends the next frame to a file. The number and whether the disk has failed go on.
 fn append_frame<D: Disk, A: Allocator>(
     disk: &mut D,
     alloc: A,
-    slot: Slot,
-    key: u64,
-    generation: u64,
-    number: &mut u64,
-    kind: u64,
-    safe: u64,
-    body: &[u8],
-    has_failed: &mut bool,
+    file: &mut FrameFile,
+    frame: Frame<'_>,
 ) -> Result<(), JournalFault>
-    ensures { FrameGives D.adds slot key generation number.old (frame_with kind safe body.now) has_failed.old number.new
-        has_failed.new result disk.old disk.new }
+    ensures { FrameGives (passage D.adds disk.old disk.new) file.old (lent frame.entry) result file.new }
 {
-    if *has_failed {
+    if file.has_failed {
         return Err(JournalFault::Failed);
     }
-    if *number == u64::MAX {
+    if file.number == u64::MAX {
         return Err(JournalFault::Full);
     }
-    let frame = match frame_bytes(alloc, key, generation, *number, kind, safe, body) {
-        Ok(frame) => frame,
+    let writer = match frame_bytes(alloc, file.key, file.generation, file.number, frame) {
+        Ok(writer) => writer,
         Err(FrameFault::TooLong) => return Err(JournalFault::TooLong),
         Err(FrameFault::Memory) => return Err(JournalFault::Memory),
     };
-    *number += 1;
-    if disk.append(slot, frame.bytes()) {
+    file.number += 1;
+    if disk.append(file.slot, writer.bytes()) {
         return Ok(());
     }
-    *has_failed = true;
+    file.has_failed = true;
     Err(JournalFault::Failed)
 }
 
 impl Checkpoint {
+    /// The file that its parts are appended to.
+    fn file(&self) -> FrameFile
+        ensures { result ≡ checkpoint_file self.now }
+    {
+        FrameFile {
+            key: self.key,
+            slot: self.slot,
+            generation: self.generation,
+            number: self.number,
+            has_failed: self.has_failed,
+        }
+    }
+
     /// Begins a checkpoint of the next generation in the other file than the one that counts, which
     /// has this slot and this generation. It empties the other file and syncs it. At an error the
     /// file that counts is as it was.
@@ -112,7 +130,7 @@ impl Checkpoint {
         slot: Slot,
         generation: u64,
     ) -> Result<Self, JournalFault>
-        ensures { BeginGives D.adds key slot generation result disk.old disk.new }
+        ensures { BeginGives (passage D.adds disk.old disk.new) key slot generation result }
     {
         if generation == u64::MAX {
             return Err(JournalFault::Full);
@@ -140,25 +158,22 @@ impl Checkpoint {
         alloc: A,
         bytes: &[u8],
     ) -> Result<(), JournalFault>
-        ensures gives { FrameGives D.adds self.old.slot self.old.key self.old.generation self.old.number
-            (frame_with PART 0 bytes.now) self.old.has_failed self.new.number self.new.has_failed result disk.old
-            disk.new }
+        ensures gives { FrameGives (passage D.adds disk.old disk.new) (checkpoint_file self.old)
+            (frame_with PART 0 bytes.now) result (checkpoint_file self.new) }
         ensures key { self.new.key ≡ self.old.key }
         ensures slot { self.new.slot ≡ self.old.slot }
         ensures generation { self.new.generation ≡ self.old.generation }
     {
-        append_frame(
-            disk,
-            alloc,
-            self.slot,
-            self.key,
-            self.generation,
-            &mut self.number,
-            PART,
-            0,
-            bytes,
-            &mut self.has_failed,
-        )
+        let mut file = self.file();
+        let frame = Frame {
+            kind: PART,
+            safe: 0,
+            body: bytes,
+        };
+        let done = append_frame(disk, alloc, &mut file, frame);
+        self.number = file.number;
+        self.has_failed = file.has_failed;
+        done
     }
 
     /// Ends the checkpoint and syncs its file, which counts from then on. Each crash until then leaves the other file
@@ -168,22 +183,15 @@ impl Checkpoint {
         disk: &mut D,
         alloc: A,
     ) -> Result<Journal, JournalFault>
-        ensures { FinishGives D.adds self result disk.old disk.new }
+        ensures { FinishGives (passage D.adds disk.old disk.new) self result }
     {
-        let mut number = self.number;
-        let mut has_failed = self.has_failed;
-        append_frame(
-            disk,
-            alloc,
-            self.slot,
-            self.key,
-            self.generation,
-            &mut number,
-            END,
-            0,
-            &[],
-            &mut has_failed,
-        )?;
+        let mut file = self.file();
+        let frame = Frame {
+            kind: END,
+            safe: 0,
+            body: &[],
+        };
+        append_frame(disk, alloc, &mut file, frame)?;
         if !disk.sync(self.slot) {
             return Err(JournalFault::Failed);
         }
@@ -191,14 +199,27 @@ impl Checkpoint {
             key: self.key,
             slot: self.slot,
             generation: self.generation,
-            number,
-            safe: number,
+            number: file.number,
+            safe: file.number,
             has_failed: false,
         })
     }
 }
 
 impl Journal {
+    /// The file that its records are appended to.
+    fn file(&self) -> FrameFile
+        ensures { result ≡ journal_file self.now }
+    {
+        FrameFile {
+            key: self.key,
+            slot: self.slot,
+            generation: self.generation,
+            number: self.number,
+            has_failed: self.has_failed,
+        }
+    }
+
     /// Appends a record, which isn't kept yet.
     pub fn append<D: Disk, A: Allocator>(
         &mut self,
@@ -206,33 +227,30 @@ impl Journal {
         alloc: A,
         bytes: &[u8],
     ) -> Result<(), JournalFault>
-        ensures gives { FrameGives D.adds self.old.slot self.old.key self.old.generation self.old.number
-            (frame_with RECORD self.old.safe bytes.now) self.old.has_failed self.new.number self.new.has_failed result
-            disk.old disk.new }
+        ensures gives { FrameGives (passage D.adds disk.old disk.new) (journal_file self.old)
+            (frame_with RECORD self.old.safe bytes.now) result (journal_file self.new) }
         ensures key { self.new.key ≡ self.old.key }
         ensures slot { self.new.slot ≡ self.old.slot }
         ensures generation { self.new.generation ≡ self.old.generation }
         ensures safe { self.new.safe ≡ self.old.safe }
     {
-        append_frame(
-            disk,
-            alloc,
-            self.slot,
-            self.key,
-            self.generation,
-            &mut self.number,
-            RECORD,
-            self.safe,
-            bytes,
-            &mut self.has_failed,
-        )
+        let mut file = self.file();
+        let frame = Frame {
+            kind: RECORD,
+            safe: self.safe,
+            body: bytes,
+        };
+        let done = append_frame(disk, alloc, &mut file, frame);
+        self.number = file.number;
+        self.has_failed = file.has_failed;
+        done
     }
 
     /// Keeps all records that were appended: each crash from now on leaves them. `false`: the disk has failed, now or
     /// before.
     pub fn sync<D: Disk>(&mut self, disk: &mut D) -> bool
-        ensures gives { SyncGives D.adds self.old.slot self.old.has_failed self.new.has_failed result disk.old
-            disk.new }
+        ensures gives { SyncGives (passage D.adds disk.old disk.new) self.old.slot self.old.has_failed
+            self.new.has_failed result }
         ensures key { self.new.key ≡ self.old.key }
         ensures slot { self.new.slot ≡ self.old.slot }
         ensures generation { self.new.generation ≡ self.old.generation }

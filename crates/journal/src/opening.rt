@@ -1,7 +1,7 @@
 //! Which of two files counts, and what it has.
 ghost use Rattle.std.specs.Prelude.{◌≡◌, ◌∷◌, [], List, map, if◌then◌else◌, MatchResult, false};
-ghost use Rattle.journal.specs.Files.{if_whole, Alarm};
-ghost use Rattle.journal.specs.Keeping.{BothFound, UnloadedSo};
+ghost use Rattle.journal.specs.Files.{if_whole, tail_with, Alarm};
+ghost use Rattle.journal.specs.Keeping.{passage, BothFound, UnloadedSo};
 ghost use Rattle.journal.specs.Opening.{Chooses, RefusesSo, ChecksSo, ExaminesSo, greater};
 
 use crate::alarm::alarm;
@@ -47,8 +47,9 @@ pub fn load<D: Disk, A: Allocator + Copy>(
     disk: &mut D,
     alloc: A,
 ) -> Result<(Vec<u8, A>, Vec<u8, A>), OpenFault>
-    ensures { MatchResult result (λ files. BothFound D.adds files.0.items files.1.items disk.old disk.new)
-        (λ e. UnloadedSo D.adds e disk.old disk.new) }
+    ensures { MatchResult result
+        (λ files. BothFound (passage D.adds disk.old disk.new) files.0.items files.1.items)
+        (λ e. UnloadedSo (passage D.adds disk.old disk.new) e) }
 {
     let a = match disk.load(alloc, Slot::A) {
         Ok(a) => a,
@@ -94,8 +95,8 @@ fn examine<A: Allocator>(
     second: &FileRead<A>,
     b: &[u8],
 ) -> Result<(), OpenFault>
-    ensures { ExaminesSo key least first.now.number first.now.rest.now second.now.number second.now.rest.now b.now
-        result }
+    ensures { ExaminesSo key least (tail_with first.now.number first.now.rest.now)
+        (tail_with second.now.number second.now.rest.now) b.now result }
 {
     look(key, least, first.number, first.rest)?;
     look(key, least, second.number, second.rest)?;

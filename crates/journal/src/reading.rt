@@ -1,7 +1,7 @@
 //! A file has a checkpoint, and the records after it.
 ghost use Rattle.std.specs.Prelude.{◌≡◌, ◌∷◌, List, map, IfOk, OnOk};
 ghost use Rattle.journal.specs.Frames.{Frame as FrameSpec, lent};
-ghost use Rattle.journal.specs.Files.{IsRead, generation_at, joined_to};
+ghost use Rattle.journal.specs.Files.{IsRead, tail_with, generation_at, joined_to};
 
 use crate::frames::{Frame, Frames, head_at};
 use std::alloc::{AllocError, Allocator};
@@ -68,7 +68,7 @@ pub(crate) fn read_file<'a, A: Allocator + Copy>(
     key: u64,
     file: &'a [u8],
 ) -> Result<FileRead<'a, A>, AllocError>
-    ensures { IfOk result (λ r. IsRead key file.now r.generation r.number r.rest.now r.bodies.is_whole
+    ensures { IfOk result (λ r. IsRead key file.now r.generation (tail_with r.number r.rest.now) r.bodies.is_whole
         (map (λ b. b.now) r.bodies.parts.items) (map (λ b. b.now) r.bodies.records.items)) }
 {
     let generation = generation_of(key, file);

@@ -5,7 +5,8 @@ use Rattle.nfs_ops.specs.Operations.{Operation}
 use Rattle.nfs_ops.specs.Results.{Outcome}
 use Rattle.nfs_client.specs.Compound.{AllDone, LastRefused, NoReply, Said, said}
 use Rattle.nfs_client.specs.Requests.{asked_of}
-use Rattle.nfs_client.specs.Taking.{SaidGives}
+use Rattle.nfs_client.specs.Streams.{Directions}
+use Rattle.nfs_client.specs.Taking.{SaidGives, taking}
 use Rattle.nfs_client.specs.Client.{ExchangeGives, next}
 use Rattle.nfs_client.specs.Commands.{Answered, Told, Settled, NoAnswer, Unjudged, Concludes, number_behind, takes_number, AskGives}
 use Rattle.nfs_types.specs.Status.{number_of}
@@ -14,7 +15,7 @@ use Rattle.nfs_client.specs.declared.fault.ToolFault.TheVariants as fault
 use Rattle.nfs_client.specs.declared.client.Client.{Client}
 use Rattle.nfs_client.specs.declared.client.Reply.{Reply}
 
-module _ {S A V : Type 0} (contents remaining : S → Option (List ℕ)) (taken : List Outcome → Option V) (ops : List Operation) (old mid : Client S A) (reply : Reply A) (gives : ExchangeGives contents remaining ops old mid (Ok reply)) where
+module _ {S A V : Type 0} (directions : Directions S) (taken : List Outcome → Option V) (ops : List Operation) (old mid : Client S A) (reply : Reply A) (gives : ExchangeGives directions ops old mid (Ok reply)) where
   -- the answer of the record to the call
   says_so : (P : Said → Type 0) → P (said reply.xid reply.asked.items reply.content.items) → P (said old.xid (asked_of ops) reply.content.items)
   says_so P h =
@@ -33,37 +34,37 @@ module _ {S A V : Type 0} (contents remaining : S → Option (List ℕ)) (taken 
   pub settled : (new : Client S A) (v : Option V) (in_session : Bool)
       → ((said reply.xid reply.asked.items reply.content.items).answer ≡ AllDone) × (taken (said reply.xid reply.asked.items reply.content.items).results ≡ v)
       → new ≡ record mid { usable = true; number = if in_session then next mid.number else mid.number }
-      → Told contents remaining taken ops old new v × Settled old new (number_behind in_session old.number)
+      → Told directions taken ops old new v × Settled old new (number_behind in_session old.number)
   unfolding left
   settled new v in_session h is =
       let told = says_so (λ (s : Said). (s.answer ≡ AllDone) × (taken s.results ≡ v)) h in
-      subst (λ (c : Client S A). Told contents remaining taken ops old c v × Settled old c (number_behind in_session old.number)) (sym is)
+      subst (λ (c : Client S A). Told directions taken ops old c v × Settled old c (number_behind in_session old.number)) (sym is)
       ((reply.content.items, gives.3, told.0, told.1), is_settled in_session)
 
   pub settled_refused : (new : Client S A) (op status : ℕ) (in_session : Bool)
       → (said reply.xid reply.asked.items reply.content.items).answer ≡ LastRefused op status
       → new ≡ record mid { usable = true; number = if in_session then next mid.number else mid.number }
-      → Answered contents remaining ops old new (LastRefused op status) × Settled old new (number_behind in_session old.number)
+      → Answered directions ops old new (LastRefused op status) × Settled old new (number_behind in_session old.number)
   unfolding left
   settled_refused new op status in_session h is =
-      subst (λ (c : Client S A). Answered contents remaining ops old c (LastRefused op status) × Settled old c (number_behind in_session old.number)) (sym is)
+      subst (λ (c : Client S A). Answered directions ops old c (LastRefused op status) × Settled old c (number_behind in_session old.number)) (sym is)
       ((reply.content.items, gives.3, says_so (λ (s : Said). s.answer ≡ LastRefused op status) h), is_settled in_session)
 
   unanswered : ((said reply.xid reply.asked.items reply.content.items).answer ≡ NoReply) ⊎ (((said reply.xid reply.asked.items reply.content.items).answer ≡ AllDone) × (taken (said reply.xid reply.asked.items reply.content.items).results ≡ None))
-      → NoAnswer contents remaining taken ops old mid
+      → NoAnswer directions taken ops old mid
   unanswered (inl h) = (gives.0, inl (reply.content.items, gives.3, says_so (λ (s : Said). s.answer ≡ NoReply) h))
   unanswered (inr h) =
       let told = says_so (λ (s : Said). (s.answer ≡ AllDone) × (taken s.results ≡ None)) h in
       (gives.0, inr (reply.content.items, gives.3, told.0, told.1))
 
   -- the outcome of an exchange by its reply
-  pub concluded : {X : Type 0} (value : X → V) (in_session : Bool) (told : Result X ToolFault) (new : Client S A) → SaidGives value taken (said reply.xid reply.asked.items reply.content.items) told
-      → Concludes in_session told mid new → AskGives contents remaining taken value in_session ops old new told
+  pub concluded : {X : Type 0} (value : X → V) (in_session : Bool) (told : Result X ToolFault) (new : Client S A) → SaidGives (taking taken value) (said reply.xid reply.asked.items reply.content.items) told
+      → Concludes in_session told mid new → AskGives directions (taking taken value) (record { ops = ops; in_session = in_session }) old new told
   concluded value in_session (Ok x) new h is = settled new (Some (value x)) in_session h is
   concluded value in_session (Err (fault.Refused op s)) new h is = settled_refused new op (number_of s) (takes_number in_session op) h is
-  concluded value in_session (Err fault.Reply) new h is = inr (subst (λ (c : Client S A). NoAnswer contents remaining taken ops old c) (sym is) (unanswered h))
+  concluded value in_session (Err fault.Reply) new h is = inr (subst (λ (c : Client S A). NoAnswer directions taken ops old c) (sym is) (unanswered h))
   concluded value in_session (Err fault.Memory) new h is =
-      inr (inr (subst (λ (c : Client S A). Unjudged contents remaining ops old c) (sym is) (gives.0, reply.content.items, gives.3)))
+      inr (inr (subst (λ (c : Client S A). Unjudged directions ops old c) (sym is) (gives.0, reply.content.items, gives.3)))
   concluded value in_session (Err fault.Path) new h is = absurd h
   concluded value in_session (Err fault.Read) new h is = absurd h
   concluded value in_session (Err fault.Write) new h is = absurd h
@@ -71,42 +72,42 @@ module _ {S A V : Type 0} (contents remaining : S → Option (List ℕ)) (taken 
   concluded value in_session (Err fault.Failed) new h is = absurd h
 
 -- the outcome of operations after whose call no record was read
-pub unasked : {S A V X : Type 0} (contents remaining : S → Option (List ℕ)) (taken : List Outcome → Option V) (value : X → V) (in_session : Bool) (ops : List Operation) (old new : Client S A) (f : ToolFault)
-    → ExchangeGives contents remaining ops old new (Err f) → AskGives contents remaining taken value in_session ops old new (Err f)
-unasked contents remaining taken value in_session ops old new fault.Memory (inl h) = inl h.1
-unasked contents remaining taken value in_session ops old new fault.Memory (inr h) = inr (inl h)
-unasked contents remaining taken value in_session ops old new fault.Reply (inl h) = absurd (different h.0)
+pub unasked : {S A V X : Type 0} (directions : Directions S) (taken : List Outcome → Option V) (value : X → V) (in_session : Bool) (ops : List Operation) (old new : Client S A) (f : ToolFault)
+    → ExchangeGives directions ops old new (Err f) → AskGives directions (taking taken value) (record { ops = ops; in_session = in_session }) old new (Err f)
+unasked directions taken value in_session ops old new fault.Memory (inl h) = inl h.1
+unasked directions taken value in_session ops old new fault.Memory (inr h) = inr (inl h)
+unasked directions taken value in_session ops old new fault.Reply (inl h) = absurd (different h.0)
   where
     different : fault.Reply ≡ fault.Memory → ⊥
     different e = cc
-unasked contents remaining taken value in_session ops old new fault.Reply (inr h) = inl h
-unasked contents remaining taken value in_session ops old new fault.Read (inl h) = absurd (different h.0)
+unasked directions taken value in_session ops old new fault.Reply (inr h) = inl h
+unasked directions taken value in_session ops old new fault.Read (inl h) = absurd (different h.0)
   where
     different : fault.Read ≡ fault.Memory → ⊥
     different e = cc
-unasked contents remaining taken value in_session ops old new fault.Read (inr h) = h
-unasked contents remaining taken value in_session ops old new fault.Write (inl h) = absurd (different h.0)
+unasked directions taken value in_session ops old new fault.Read (inr h) = h
+unasked directions taken value in_session ops old new fault.Write (inl h) = absurd (different h.0)
   where
     different : fault.Write ≡ fault.Memory → ⊥
     different e = cc
-unasked contents remaining taken value in_session ops old new fault.Write (inr h) = h
-unasked contents remaining taken value in_session ops old new (fault.Refused op status) (inl h) = absurd (different h.0)
+unasked directions taken value in_session ops old new fault.Write (inr h) = h
+unasked directions taken value in_session ops old new (fault.Refused op status) (inl h) = absurd (different h.0)
   where
     different : fault.Refused op status ≡ fault.Memory → ⊥
     different e = cc
-unasked contents remaining taken value in_session ops old new (fault.Refused op status) (inr h) = absurd h.1.failed.no_record
-unasked contents remaining taken value in_session ops old new fault.Path (inl h) = absurd (different h.0)
+unasked directions taken value in_session ops old new (fault.Refused op status) (inr h) = absurd h.1.failed.no_record
+unasked directions taken value in_session ops old new fault.Path (inl h) = absurd (different h.0)
   where
     different : fault.Path ≡ fault.Memory → ⊥
     different e = cc
-unasked contents remaining taken value in_session ops old new fault.Path (inr h) = absurd h.1.failed.no_record
-unasked contents remaining taken value in_session ops old new fault.Entry (inl h) = absurd (different h.0)
+unasked directions taken value in_session ops old new fault.Path (inr h) = absurd h.1.failed.no_record
+unasked directions taken value in_session ops old new fault.Entry (inl h) = absurd (different h.0)
   where
     different : fault.Entry ≡ fault.Memory → ⊥
     different e = cc
-unasked contents remaining taken value in_session ops old new fault.Entry (inr h) = absurd h.1.failed.no_record
-unasked contents remaining taken value in_session ops old new fault.Failed (inl h) = absurd (different h.0)
+unasked directions taken value in_session ops old new fault.Entry (inr h) = absurd h.1.failed.no_record
+unasked directions taken value in_session ops old new fault.Failed (inl h) = absurd (different h.0)
   where
     different : fault.Failed ≡ fault.Memory → ⊥
     different e = cc
-unasked contents remaining taken value in_session ops old new fault.Failed (inr h) = absurd h.1.failed.no_record
+unasked directions taken value in_session ops old new fault.Failed (inr h) = absurd h.1.failed.no_record

@@ -15,7 +15,7 @@ use Rattle.nfs_client.specs.declared.fault.ToolFault.{ToolFault}
 use Rattle.nfs_client.specs.declared.request.Request.{Request}
 
 pub is_call : {A : Type 0} (r : Request A) (xid : ℕ) (caller : Identity) (ops : List Operation) (count : ℕ) (head call : List ℕ) → Asks r ops
-    → count ≡ length r.asked.items → head ≡ call_bytes xid (Some caller) ++ head_bytes count → IsRecord (head ++ r.body.bytes) call → IsCall xid caller ops call
+    → count ≡ length r.asked.items → head ≡ call_bytes xid (Some caller) ++ head_bytes count → IsRecord (head ++ r.body.bytes) call → IsCall (record { xid = xid; caller = caller; ops = ops }) call
 is_call r xid caller ops count head call asks counted head-is one =
     let many : count ≡ length ops = counted ∙ ap length asks.numbers ∙ length-map ops number_of in
     let front : List ℕ = call_bytes xid (Some caller) in
@@ -29,7 +29,7 @@ is_call r xid caller ops count head call asks counted head-is one =
     }
 
 pub spells : {A X : Type 0} (bytes : X → List ℕ) (r : Request A) (xid : ℕ) (caller : Identity) (ops : List Operation) (count : ℕ) (head : List ℕ) (result : Result X ToolFault) → Asks r ops
-    → count ≡ length r.asked.items → head ≡ call_bytes xid (Some caller) ++ head_bytes count → OneRecordGives bytes (head ++ r.body.bytes) result → SpellGives bytes xid caller ops result
+    → count ≡ length r.asked.items → head ≡ call_bytes xid (Some caller) ++ head_bytes count → OneRecordGives bytes (head ++ r.body.bytes) result → SpellGives bytes (record { xid = xid; caller = caller; ops = ops }) result
 spells bytes r xid caller ops count head (Ok call) asks counted head-is one = is_call r xid caller ops count head (bytes call) asks counted head-is one
 spells bytes r xid caller ops count head (Err fault) asks counted head-is one = one
 

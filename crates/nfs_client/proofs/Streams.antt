@@ -7,7 +7,7 @@ use Rattle.std.proofs.Math.Seq.{take-add}
 use Rattle.rpc_record.specs.Records.{IsRecord, IsUnfinished}
 use Rattle.rpc_record.specs.Frame.{Frame}
 use Rattle.rpc_record.specs.Framer.{Stands}
-use Rattle.nfs_client.specs.Streams.{WritesFront, ReadsRecord, IsFollowed, IsFrameFault, IsReadFault, RecordGives, TalkFails, TalkGives}
+use Rattle.nfs_client.specs.Streams.{Directions, WritesFront, ReadsRecord, IsFollowed, IsFrameFault, IsReadFault, RecordGives, TalkFails, TalkGives}
 use Rattle.nfs_client.specs.declared.fault.ToolFault.{ToolFault}
 use Rattle.nfs_client.specs.declared.fault.ToolFault.TheVariants as faults
 
@@ -146,19 +146,19 @@ followed r piece content at to le more is =
     }
 
 -- The call was written, and no record was read after it.
-pub unheard : {S : Type 0} (contents remaining : S → Option (List ℕ)) (old mid new : S) (call : List ℕ) (fault : ToolFault) → Appends (contents old) (contents mid) call
-    → NoneRead (remaining mid) (remaining new) fault → TalkFails contents remaining old new call fault
-unheard contents remaining old mid new call faults.Read wrote (bytes, read, is) = record { mid = mid; wrote = wrote; bytes = bytes; read = read; no_record = is }
-unheard contents remaining old mid new call faults.Reply wrote (bytes, read, is) = record { mid = mid; wrote = wrote; bytes = bytes; read = read; no_record = is }
-unheard contents remaining old mid new call faults.Memory wrote (bytes, read, is) = record { mid = mid; wrote = wrote; bytes = bytes; read = read; no_record = is }
-unheard contents remaining old mid new call faults.Write wrote (bytes, read, is) = absurd is
-unheard contents remaining old mid new call faults.Path wrote (bytes, read, is) = absurd is
-unheard contents remaining old mid new call (faults.Refused op status) wrote (bytes, read, is) = absurd is
-unheard contents remaining old mid new call faults.Entry wrote (bytes, read, is) = absurd is
-unheard contents remaining old mid new call faults.Failed wrote (bytes, read, is) = absurd is
+pub unheard : {S : Type 0} (directions : Directions S) (old mid new : S) (call : List ℕ) (fault : ToolFault) → Appends (directions.contents old) (directions.contents mid) call
+    → NoneRead (directions.remaining mid) (directions.remaining new) fault → TalkFails directions old new call fault
+unheard directions old mid new call faults.Read wrote (bytes, read, is) = record { mid = mid; wrote = wrote; bytes = bytes; read = read; no_record = is }
+unheard directions old mid new call faults.Reply wrote (bytes, read, is) = record { mid = mid; wrote = wrote; bytes = bytes; read = read; no_record = is }
+unheard directions old mid new call faults.Memory wrote (bytes, read, is) = record { mid = mid; wrote = wrote; bytes = bytes; read = read; no_record = is }
+unheard directions old mid new call faults.Write wrote (bytes, read, is) = absurd is
+unheard directions old mid new call faults.Path wrote (bytes, read, is) = absurd is
+unheard directions old mid new call (faults.Refused op status) wrote (bytes, read, is) = absurd is
+unheard directions old mid new call faults.Entry wrote (bytes, read, is) = absurd is
+unheard directions old mid new call faults.Failed wrote (bytes, read, is) = absurd is
 
 -- the call was written, and what was read after it is a record, or is none
-pub talked : {S X : Type 0} (bytes : X → List ℕ) (contents remaining : S → Option (List ℕ)) (old mid new : S) (call : List ℕ) (result : Result X ToolFault) → Appends (contents old) (contents mid) call
-    → RecordGives bytes (remaining mid) (remaining new) result → TalkGives bytes contents remaining old new call result
-talked bytes contents remaining old mid new call (Ok x) wrote read = record { mid = mid; wrote = wrote; read = read }
-talked bytes contents remaining old mid new call (Err fault) wrote read = unheard contents remaining old mid new call fault wrote read
+pub talked : {S X : Type 0} (directions : Directions S) (bytes : X → List ℕ) (old mid new : S) (call : List ℕ) (result : Result X ToolFault) → Appends (directions.contents old) (directions.contents mid) call
+    → RecordGives bytes (directions.remaining mid) (directions.remaining new) result → TalkGives directions bytes old new call result
+talked directions bytes old mid new call (Ok x) wrote read = record { mid = mid; wrote = wrote; read = read }
+talked directions bytes old mid new call (Err fault) wrote read = unheard directions old mid new call fault wrote read

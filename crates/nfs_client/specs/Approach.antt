@@ -1,14 +1,15 @@
 -- An approach: a COMPOUND that walks the first names of a route and gets the filehandle at their
 -- end (RFC 8881, section 18.8).
-use Rattle.std.specs.Prelude.{◌≡◌, ◌≤◌, ◌<◌, ℕ, true, false, List, [], ◌∷◌, length, Option, Some, None}
+use Rattle.std.specs.Prelude.{◌≡◌, ◌≤◌, ◌<◌, ℕ, false, List, [], ◌∷◌, length, Option, Some, None}
 use Rattle.std.specs.Prelude.{option_and_then, Result, Ok, Err}
 use Rattle.nfs_ops.specs.Operations.{Operation, Known}
 use Rattle.nfs_ops.specs.Results.{Outcome, Done}
 use Rattle.nfs_ops.specs.declared.op_kind.OpKind.TheVariants as kinds
-use Rattle.nfs_client.specs.Commands.{AskGives}
+use Rattle.nfs_client.specs.Commands.{AskGives, within_session}
 use Rattle.nfs_client.specs.Paging.{itself}
 use Rattle.nfs_client.specs.Routes.{Route, near, along, route_behind}
-use Rattle.nfs_client.specs.Taking.{last_of}
+use Rattle.nfs_client.specs.Streams.{Directions}
+use Rattle.nfs_client.specs.Taking.{last_of, taking}
 use Rattle.nfs_client.specs.declared.client.Client.{Client}
 use Rattle.nfs_client.specs.declared.fault.ToolFault.{ToolFault}
 
@@ -26,11 +27,11 @@ handle_in results = option_and_then handle_of (last_of results)
 abbrev pub approach : {S A : Type 0} → Client S A → Route → List Operation
 approach client route = along client route get_handle
 
-module _ {S A : Type 0} (contents remaining : S → Option (List ℕ)) where
+module _ {S A : Type 0} (directions : Directions S) where
   -- the exchange that walks a route's first names
   abbrev pub ApproachGives : Route → Client S A → Client S A → Result (List ℕ) ToolFault → Type 0
   ApproachGives route old new result =
-      AskGives contents remaining handle_in itself true (approach old (near route)) old new result
+      AskGives directions (taking handle_in itself) (within_session (approach old (near route))) old new result
 
   -- An approach for each of these filehandles, the last first: each got its filehandle, and more
   -- than this many names were left before it. No other command runs until this command is over.

@@ -1,5 +1,5 @@
 -- cat: the bytes of a file, read without an open up to its end.
-use Rattle.std.specs.Prelude.{◌≡◌, ℕ, Bool, true, List, [], ◌∷◌, ◌++◌, length, Option, Some, None, option_and_then}
+use Rattle.std.specs.Prelude.{◌≡◌, ℕ, Bool, List, [], ◌∷◌, ◌++◌, length, Option, Some, None, option_and_then}
 use Rattle.std.specs.Prelude.{Result, Ok, Err}
 use Rattle.nfs_types.specs.StateIds.{anonymous}
 use Rattle.nfs_ops.specs.Operations.{Operation, Known}
@@ -9,9 +9,10 @@ use Rattle.nfs_ops.specs.declared.read.ReadResult.{ReadResult}
 use Rattle.nfs_client.specs.Access.{NoPath}
 use Rattle.nfs_client.specs.Compound.{Said}
 use Rattle.nfs_client.specs.Paths.{names_in}
-use Rattle.nfs_client.specs.Taking.{last_of, SaidGives}
-use Rattle.nfs_client.specs.Commands.{AskGives, Commanded}
-use Rattle.nfs_client.specs.Paging.{Paging, PagesGive, itself}
+use Rattle.nfs_client.specs.Streams.{Directions}
+use Rattle.nfs_client.specs.Taking.{last_of, taking, SaidGives}
+use Rattle.nfs_client.specs.Commands.{AskGives, within_session, Commanded}
+use Rattle.nfs_client.specs.Paging.{Paging, PagesGive, SoFar, itself}
 use Rattle.nfs_client.specs.Routes.{Route, along, most_names}
 use Rattle.nfs_client.specs.Walking.{Walked}
 use Rattle.nfs_client.specs.declared.client.Client.{Client}
@@ -49,10 +50,9 @@ read_from route client offset = along client route (read offset)
 abbrev pub read_behind : {S A : Type 0} → Route → Client S A → List ℕ → List Operation
 read_behind route client bytes = read_from route client (length bytes)
 
-abbrev pub by_pieces : {S A : Type 0} → (S → Option (List ℕ)) → (S → Option (List ℕ)) → Route → Paging S A Piece
-by_pieces contents remaining route = record {
-  contents = contents;
-  remaining = remaining;
+abbrev pub by_pieces : {S A : Type 0} → Directions S → Route → Paging S A Piece
+by_pieces directions route = record {
+  directions = directions;
   asks = λ client before. read_behind route client (bytes_of before);
   taken = piece_in;
   ends = λ p. p.eof;
@@ -64,25 +64,26 @@ piece_with bytes eof = record { bytes = bytes; eof = eof }
 -- a piece that is put after the bytes read so far
 abbrev pub PieceTaken : Said → List ℕ → List ℕ → Result Bool ToolFault → Type 0
 PieceTaken said old new (Ok eof) =
-    (bytes : List ℕ) × SaidGives (piece_with bytes) piece_in said (Ok eof) × (new ≡ old ++ bytes)
-PieceTaken said old new (Err fault) = SaidGives (piece_with []) piece_in said (Err fault)
+    (bytes : List ℕ) × SaidGives (taking piece_in (piece_with bytes)) said (Ok eof) × (new ≡ old ++ bytes)
+PieceTaken said old new (Err fault) = SaidGives (taking piece_in (piece_with [])) said (Err fault)
 
 -- the exchange of a piece, which is put after the bytes read so far
-abbrev pub ReadGives : {S A : Type 0} → (S → Option (List ℕ)) → (S → Option (List ℕ)) → Route → List ℕ → List ℕ
-    → Client S A → Client S A → Result Bool ToolFault → Type 0
-ReadGives contents remaining route old_bytes new_bytes old new (Ok eof) =
+abbrev pub ReadGives : {S A : Type 0} → Directions S → Route → SoFar S A (List ℕ) → SoFar S A (List ℕ)
+    → Result Bool ToolFault → Type 0
+ReadGives directions route old new (Ok eof) =
     (bytes : List ℕ)
-    × AskGives contents remaining piece_in itself true (read_behind route old old_bytes) old new
-    (Ok (piece_with bytes eof))
-    × (new_bytes ≡ old_bytes ++ bytes)
-ReadGives contents remaining route old_bytes new_bytes old new (Err fault) =
-    AskGives {X = Piece} contents remaining piece_in itself true (read_behind route old old_bytes) old new (Err fault)
+    × AskGives directions (taking piece_in itself) (within_session (read_behind route old.client old.gathered))
+    old.client new.client (Ok (piece_with bytes eof))
+    × (new.gathered ≡ old.gathered ++ bytes)
+ReadGives directions route old new (Err fault) =
+    AskGives {X = Piece} directions (taking piece_in itself)
+    (within_session (read_behind route old.client old.gathered)) old.client new.client (Err fault)
 
 -- the bytes of the file at the path; or the path is wrong, and no operation is asked
-abbrev pub CatGives : {S A X : Type 0} → (S → Option (List ℕ)) → (S → Option (List ℕ)) → (X → List ℕ) → List ℕ
-    → Client S A → Client S A → Result X ToolFault → Type 0
-CatGives contents remaining value path old new result =
+abbrev pub CatGives : {S A X : Type 0} → Directions S → (X → List ℕ) → List ℕ → Client S A → Client S A
+    → Result X ToolFault → Type 0
+CatGives directions value path old new result =
     Commanded (NoPath path) (λ told. (names : List (List ℕ)) × (names_in path ≡ Some names)
-    × Walked contents remaining most_names names
-    (λ route mid r. PagesGive (by_pieces contents remaining route) value bytes_of mid new r) old new
+    × Walked directions most_names names
+    (λ route mid r. PagesGive (by_pieces directions route) value bytes_of mid new r) old new
     told) old new result

@@ -1,5 +1,5 @@
 -- chown and chgrp: the owner or the owning group is set.
-use Rattle.std.specs.Prelude.{◌≡◌, ℕ, List, Some, None}
+use Rattle.std.specs.Prelude.{◌≡◌, ℕ, List, Some}
 use Rattle.nfs_types.specs.Seen.{Seen}
 use Rattle.nfs_ops.specs.Operations.{Operation}
 use Rattle.nfs_client.specs.Paths.{names_in}

@@ -1,10 +1,10 @@
 -- The state of a client, and the outcome of an exchange.
-use Rattle.std.specs.Prelude.{◌≡◌, ◌⊎◌, ℕ, ◌+◌, ◌%◌, ◌^◌, false, List, [], Option, Result, Ok, Err}
+use Rattle.std.specs.Prelude.{◌≡◌, ◌⊎◌, ℕ, ◌+◌, ◌%◌, ◌^◌, false, List, [], Result, Ok, Err}
 use Rattle.rpc_record.specs.Identity.{Identity, identity}
 use Rattle.nfs_ops.specs.Operations.{Operation}
-use Rattle.nfs_client.specs.Compound.{IsCall}
+use Rattle.nfs_client.specs.Compound.{Call, IsCall}
 use Rattle.nfs_client.specs.Requests.{asked_of}
-use Rattle.nfs_client.specs.Streams.{Talked, TalkFails}
+use Rattle.nfs_client.specs.Streams.{Directions, Talked, TalkFails}
 use Rattle.nfs_client.specs.declared.client.Client.{Client}
 use Rattle.nfs_client.specs.declared.client.Reply.{Reply as ReplyOf}
 use Rattle.nfs_client.specs.declared.fault.ToolFault.{ToolFault}
@@ -14,19 +14,23 @@ use Rattle.nfs_client.specs.declared.fault.ToolFault.TheVariants.{Memory}
 abbrev pub caller_of : {S A : Type 0} → Client S A → Identity
 caller_of client = identity client.uid client.gid []
 
--- One exchange over a stream: a call of these operations is written, and after it a record is read.
-pub record Exchange {S : Type 0} (contents remaining : S → Option (List ℕ)) (old new : S) (xid : ℕ)
-    (caller : Identity) (ops : List Operation) (content : List ℕ) : Type 0 where
-  pub call : List ℕ
-  pub is_call : IsCall xid caller ops call
-  pub talked : Talked contents remaining old new call content
+-- the client's next call, of these operations
+abbrev pub call_of : {S A : Type 0} → Client S A → List Operation → Call
+call_of client ops = record { xid = client.xid; caller = caller_of client; ops = ops }
+
+-- One exchange over a stream: the call is written, and after it a record is read.
+pub record Exchange {S : Type 0} (directions : Directions S) (old new : S) (call : Call)
+    (content : List ℕ) : Type 0 where
+  pub bytes : List ℕ
+  pub is_call : IsCall call bytes
+  pub talked : Talked directions old new bytes content
 
 -- An exchange that failed: a front of the call was written, or all of the call and no record was read after it.
-pub record Failing {S : Type 0} (contents remaining : S → Option (List ℕ)) (old new : S) (xid : ℕ) (caller : Identity)
-    (ops : List Operation) (fault : ToolFault) : Type 0 where
-  pub call : List ℕ
-  pub is_call : IsCall xid caller ops call
-  pub failed : TalkFails contents remaining old new call fault
+pub record Failing {S : Type 0} (directions : Directions S) (old new : S) (call : Call)
+    (fault : ToolFault) : Type 0 where
+  pub bytes : List ℕ
+  pub is_call : IsCall call bytes
+  pub failed : TalkFails directions old new bytes fault
 
 -- the next number
 abbrev pub next : ℕ → ℕ
@@ -43,11 +47,11 @@ pub record Begun {S A : Type 0} (old new : Client S A) : Type 0 where
   pub number : new.number ≡ old.number
 
 -- the record that was read; or no bytes were written for want of memory; or the fault for which no record was read
-abbrev pub ExchangeGives : {S A : Type 0} → (S → Option (List ℕ)) → (S → Option (List ℕ)) → List Operation
-    → Client S A → Client S A → Result (ReplyOf A) ToolFault → Type 0
-ExchangeGives contents remaining ops old new (Ok reply) =
+abbrev pub ExchangeGives : {S A : Type 0} → Directions S → List Operation → Client S A → Client S A
+    → Result (ReplyOf A) ToolFault → Type 0
+ExchangeGives directions ops old new (Ok reply) =
     Begun old new × (reply.xid ≡ old.xid) × (reply.asked.items ≡ asked_of ops)
-    × Exchange contents remaining old.stream new.stream old.xid (caller_of old) ops reply.content.items
-ExchangeGives contents remaining ops old new (Err fault) =
+    × Exchange directions old.stream new.stream (call_of old ops) reply.content.items
+ExchangeGives directions ops old new (Err fault) =
     ((fault ≡ Memory) × (new ≡ old))
-    ⊎ (Begun old new × Failing contents remaining old.stream new.stream old.xid (caller_of old) ops fault)
+    ⊎ (Begun old new × Failing directions old.stream new.stream (call_of old ops) fault)

@@ -8,7 +8,9 @@ use Rattle.nfs_ops.specs.declared.op_kind.OpKind.TheVariants as kinds
 use Rattle.nfs_client.specs.Paths.{names_in}
 use Rattle.nfs_client.specs.Compound.{Answer, AllDone, LastRefused, NoReply, said}
 use Rattle.nfs_client.specs.Requests.{asked_of}
-use Rattle.nfs_client.specs.Client.{Begun, Exchange, Failing, caller_of, next}
+use Rattle.nfs_client.specs.Client.{Begun, Exchange, Failing, call_of, next}
+use Rattle.nfs_client.specs.Streams.{Directions}
+use Rattle.nfs_client.specs.Taking.{Taking}
 use Rattle.nfs_client.specs.declared.client.Client.{Client}
 use Rattle.nfs_client.specs.declared.fault.ToolFault.{ToolFault}
 use Rattle.nfs_client.specs.declared.fault.ToolFault.TheVariants.{Path, Refused, Reply, Read, Write, Memory, Entry}
@@ -39,17 +41,16 @@ HasNoName path = (names_in path ≡ None) ⊎ (names_in path ≡ Some [])
 -- ---- outcomes
 
 -- an exchange whose reply has this answer
-abbrev pub Answered : {S A : Type 0} → (S → Option (List ℕ)) → (S → Option (List ℕ)) → List Operation → Client S A
-    → Client S A → Answer → Type 0
-Answered contents remaining ops old new answer =
-    (content : List ℕ) × Exchange contents remaining old.stream new.stream old.xid (caller_of old) ops content
+abbrev pub Answered : {S A : Type 0} → Directions S → List Operation → Client S A → Client S A → Answer → Type 0
+Answered directions ops old new answer =
+    (content : List ℕ) × Exchange directions old.stream new.stream (call_of old ops) content
     × ((said old.xid (asked_of ops) content).answer ≡ answer)
 
 -- an exchange whose reply has all operations OK, and this value, taken of its results
-abbrev pub Told : {S A V : Type 0} → (S → Option (List ℕ)) → (S → Option (List ℕ)) → (List Outcome → Option V)
-    → List Operation → Client S A → Client S A → Option V → Type 0
-Told contents remaining taken ops old new v =
-    (content : List ℕ) × Exchange contents remaining old.stream new.stream old.xid (caller_of old) ops content
+abbrev pub Told : {S A V : Type 0} → Directions S → (List Outcome → Option V) → List Operation → Client S A
+    → Client S A → Option V → Type 0
+Told directions taken ops old new v =
+    (content : List ℕ) × Exchange directions old.stream new.stream (call_of old ops) content
     × ((said old.xid (asked_of ops) content).answer ≡ AllDone)
     × (taken (said old.xid (asked_of ops) content).results ≡ v)
 
@@ -84,48 +85,55 @@ pub record Settled {S A : Type 0} (old new : Client S A) (number : ℕ) : Type 0
   pub numbered : new.number ≡ number
 
 -- No record was read after the call, and no other command runs.
-abbrev pub GivesUp : {S A : Type 0} → (S → Option (List ℕ)) → (S → Option (List ℕ)) → List Operation → Client S A
-    → Client S A → ToolFault → Type 0
-GivesUp contents remaining ops old new fault =
-    Begun old new × Failing contents remaining old.stream new.stream old.xid (caller_of old) ops fault
+abbrev pub GivesUp : {S A : Type 0} → Directions S → List Operation → Client S A → Client S A → ToolFault → Type 0
+GivesUp directions ops old new fault =
+    Begun old new × Failing directions old.stream new.stream (call_of old ops) fault
 
 -- A record was read that is no reply to the call, or a reply whose results have no such value; no other command runs.
-abbrev pub NoAnswer : {S A V : Type 0} → (S → Option (List ℕ)) → (S → Option (List ℕ)) → (List Outcome → Option V)
-    → List Operation → Client S A → Client S A → Type 0
-NoAnswer contents remaining taken ops old new =
-    Begun old new × (Answered contents remaining ops old new NoReply ⊎ Told contents remaining taken ops old new None)
+abbrev pub NoAnswer : {S A V : Type 0} → Directions S → (List Outcome → Option V) → List Operation → Client S A
+    → Client S A → Type 0
+NoAnswer directions taken ops old new =
+    Begun old new × (Answered directions ops old new NoReply ⊎ Told directions taken ops old new None)
 
 -- A record was read, and memory was refused for what it says; no other command runs.
-abbrev pub Unjudged : {S A : Type 0} → (S → Option (List ℕ)) → (S → Option (List ℕ)) → List Operation → Client S A
-    → Client S A → Type 0
-Unjudged contents remaining ops old new =
-    Begun old new × (content : List ℕ)
-    × Exchange contents remaining old.stream new.stream old.xid (caller_of old) ops content
+abbrev pub Unjudged : {S A : Type 0} → Directions S → List Operation → Client S A → Client S A → Type 0
+Unjudged directions ops old new =
+    Begun old new × (content : List ℕ) × Exchange directions old.stream new.stream (call_of old ops) content
 
 -- Memory was refused: before the first byte of the call, as the record after it was read, or for what the record says.
-abbrev pub NoMemory : {S A : Type 0} → (S → Option (List ℕ)) → (S → Option (List ℕ)) → List Operation → Client S A
-    → Client S A → Type 0
-NoMemory contents remaining ops old new =
-    (new ≡ old) ⊎ (GivesUp contents remaining ops old new Memory ⊎ Unjudged contents remaining ops old new)
+abbrev pub NoMemory : {S A : Type 0} → Directions S → List Operation → Client S A → Client S A → Type 0
+NoMemory directions ops old new =
+    (new ≡ old) ⊎ (GivesUp directions ops old new Memory ⊎ Unjudged directions ops old new)
+
+-- the operations of a call, and whether the call is in the session
+pub record Asked : Type 0 where
+  pub ops : List Operation
+  pub in_session : Bool
+
+abbrev pub within_session : List Operation → Asked
+within_session ops = record { ops = ops; in_session = true }
+
+abbrev pub outside_session : List Operation → Asked
+outside_session ops = record { ops = ops; in_session = false }
 
 -- The outcome of operations with a value of their results: the value was taken, the last operation
 -- run was refused, or no other command runs.
-abbrev pub AskGives : {S A X V : Type 0} → (S → Option (List ℕ)) → (S → Option (List ℕ)) → (List Outcome → Option V)
-    → (X → V) → Bool → List Operation → Client S A → Client S A → Result X ToolFault → Type 0
-AskGives contents remaining taken value in_session ops old new (Ok x) =
-    Told contents remaining taken ops old new (Some (value x)) × Settled old new (number_behind in_session old.number)
-AskGives contents remaining taken value in_session ops old new (Err (Refused op status)) =
-    Answered contents remaining ops old new (LastRefused op (statuses.number_of status))
-    × Settled old new (number_behind (takes_number in_session op) old.number)
-AskGives contents remaining taken value in_session ops old new (Err Memory) = NoMemory contents remaining ops old new
-AskGives contents remaining taken value in_session ops old new (Err Reply) =
-    GivesUp contents remaining ops old new Reply ⊎ NoAnswer contents remaining taken ops old new
-AskGives contents remaining taken value in_session ops old new (Err Read) = GivesUp contents remaining ops old new Read
-AskGives contents remaining taken value in_session ops old new (Err Write) =
-    GivesUp contents remaining ops old new Write
-AskGives contents remaining taken value in_session ops old new (Err Path) = ⊥
-AskGives contents remaining taken value in_session ops old new (Err Entry) = ⊥
-AskGives contents remaining taken value in_session ops old new (Err Failed) = ⊥
+abbrev pub AskGives : {S A X V : Type 0} → Directions S → Taking X V → Asked → Client S A → Client S A
+    → Result X ToolFault → Type 0
+AskGives directions takes asked old new (Ok x) =
+    Told directions takes.taken asked.ops old new (Some (takes.value x))
+    × Settled old new (number_behind asked.in_session old.number)
+AskGives directions takes asked old new (Err (Refused op status)) =
+    Answered directions asked.ops old new (LastRefused op (statuses.number_of status))
+    × Settled old new (number_behind (takes_number asked.in_session op) old.number)
+AskGives directions takes asked old new (Err Memory) = NoMemory directions asked.ops old new
+AskGives directions takes asked old new (Err Reply) =
+    GivesUp directions asked.ops old new Reply ⊎ NoAnswer directions takes.taken asked.ops old new
+AskGives directions takes asked old new (Err Read) = GivesUp directions asked.ops old new Read
+AskGives directions takes asked old new (Err Write) = GivesUp directions asked.ops old new Write
+AskGives directions takes asked old new (Err Path) = ⊥
+AskGives directions takes asked old new (Err Entry) = ⊥
+AskGives directions takes asked old new (Err Failed) = ⊥
 
 -- The outcome of a command, unless its words are wrong: then no operation is asked. On a client
 -- that isn't usable no command runs. Memory may be refused before an operation is asked.

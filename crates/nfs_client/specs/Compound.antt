@@ -32,12 +32,18 @@ compound_bytes ops = head_bytes (length ops) ++ flat_map op_bytes ops
 abbrev pub IsSpelled : Operation → Type 0
 IsSpelled o = ItemHasSpelling (op_item o) × ItemIsNormal (op_item o)
 
--- The bytes are a record with the call of these operations by this caller.
-pub record IsCall (xid : ℕ) (caller : Identity) (ops : List Operation) (bytes : List ℕ) : Type 0 where
+-- a call: its transaction, its caller, and the operations that it asks
+pub record Call : Type 0 where
+  pub xid : ℕ
+  pub caller : Identity
+  pub ops : List Operation
+
+-- The bytes are a record with the call.
+pub record IsCall (call : Call) (bytes : List ℕ) : Type 0 where
   pub content : List ℕ
   pub one_record : IsRecord content bytes
-  pub parts : content ≡ call_bytes xid (Some caller) ++ compound_bytes ops
-  pub spelled : AllByRecursion IsSpelled ops
+  pub parts : content ≡ call_bytes call.xid (Some call.caller) ++ compound_bytes call.ops
+  pub spelled : AllByRecursion IsSpelled call.ops
 
 -- ---- reading
 

@@ -1,5 +1,5 @@
 -- ls, ls_zero: the entries of a directory as lines, page by page up to its end.
-use Rattle.std.specs.Prelude.{◌≡◌, ℕ, ◌==◌, ◌||◌, Bool, true, List, [], ◌∷◌, ◌++◌, map, replicate, Option, Some, None}
+use Rattle.std.specs.Prelude.{◌≡◌, ℕ, ◌==◌, ◌||◌, Bool, List, [], ◌∷◌, ◌++◌, map, replicate, Option, Some, None}
 use Rattle.std.specs.Prelude.{option_map, option_and_then, Result, Ok, Err}
 use Rattle.xdr_wire.specs.Xdr.{Value}
 use Rattle.xdr_wire.specs.declared.fault.XdrFault.{XdrFault}
@@ -12,10 +12,11 @@ use Rattle.nfs_ops.specs.declared.op_kind.OpKind.TheVariants as kinds
 use Rattle.nfs_client.specs.Compound.{Said}
 use Rattle.nfs_client.specs.Paths.{names_in}
 use Rattle.nfs_client.specs.Lines.{Listed, line_with, line_end, lines_of}
-use Rattle.nfs_client.specs.Taking.{last_of, SaidGives}
+use Rattle.nfs_client.specs.Streams.{Directions}
+use Rattle.nfs_client.specs.Taking.{last_of, taking, SaidGives}
 use Rattle.nfs_client.specs.Access.{NoPath}
-use Rattle.nfs_client.specs.Commands.{AskGives, Commanded}
-use Rattle.nfs_client.specs.Paging.{Paging, PagesGive, itself}
+use Rattle.nfs_client.specs.Commands.{AskGives, within_session, Commanded}
+use Rattle.nfs_client.specs.Paging.{Paging, PagesGive, SoFar, itself}
 use Rattle.nfs_client.specs.Routes.{Route, along, most_names}
 use Rattle.nfs_client.specs.Walking.{Walked}
 use Rattle.nfs_client.specs.declared.client.Client.{Client}
@@ -99,11 +100,9 @@ cookie_of [] = 0
 cookie_of (p ∷ before) = last_or (cookie_of before) p.cookies
 
 -- Each READDIR begins after the last entry of the pages so far.
-abbrev pub by_listings : {S A : Type 0} → (S → Option (List ℕ)) → (S → Option (List ℕ)) → Ends → Route → List ℕ
-    → Paging S A Page
-by_listings contents remaining ends route set = record {
-  contents = contents;
-  remaining = remaining;
+abbrev pub by_listings : {S A : Type 0} → Directions S → Ends → Route → List ℕ → Paging S A Page
+by_listings directions ends route set = record {
+  directions = directions;
   asks = λ client before. list_from route set client (cookie_of before);
   taken = page_in ends;
   ends = λ p. p.eof;
@@ -145,38 +144,47 @@ PutsPage old new page (Err fault) = ⊥
 -- the lines of the page in a reply
 abbrev pub PageTaken : {A : Type 0} → Said → Listing A → Listing A → Result Bool ToolFault → Type 0
 PageTaken said old new (Ok eof) =
-    (text : List ℕ) × (cookies : List ℕ) × SaidGives (page_with text cookies) (page_in old.ends) said (Ok eof)
+    (text : List ℕ) × (cookies : List ℕ)
+    × SaidGives (taking (page_in old.ends) (page_with text cookies)) said (Ok eof)
     × GoesOn old new text cookies
-PageTaken said old new (Err fault) = SaidGives (page_with [] []) (page_in old.ends) said (Err fault)
+PageTaken said old new (Err fault) = SaidGives (taking (page_in old.ends) (page_with [] [])) said (Err fault)
 
 -- the exchange of a page, whose lines are put after those of the pages before it
-abbrev pub ListGives : {S A : Type 0} → (S → Option (List ℕ)) → (S → Option (List ℕ)) → Route → List ℕ → Listing A
-    → Listing A → Client S A → Client S A → Result Bool ToolFault → Type 0
-ListGives contents remaining route set listing listing' old new (Ok eof) =
+abbrev pub ListGives : {S A : Type 0} → Directions S → Route → List ℕ → SoFar S A (Listing A) → SoFar S A (Listing A)
+    → Result Bool ToolFault → Type 0
+ListGives directions route set old new (Ok eof) =
     (text : List ℕ) × (cookies : List ℕ)
-    × AskGives contents remaining (page_in listing.ends) itself true (list_from route set old listing.cookie) old new
+    × AskGives directions (taking (page_in old.gathered.ends) itself)
+    (within_session (list_from route set old.client old.gathered.cookie)) old.client new.client
     (Ok (page_with text cookies eof))
-    × GoesOn listing listing' text cookies
-ListGives contents remaining route set listing listing' old new (Err fault) =
-    AskGives {X = Page} contents remaining (page_in listing.ends) itself true (list_from route set old listing.cookie)
-    old new (Err fault)
+    × GoesOn old.gathered new.gathered text cookies
+ListGives directions route set old new (Err fault) =
+    AskGives {X = Page} directions (taking (page_in old.gathered.ends) itself)
+    (within_session (list_from route set old.client old.gathered.cookie)) old.client new.client (Err fault)
+
+-- lines with these ends, of the entries of the directory at this path
+pub record LinesAt : Type 0 where
+  pub path : List ℕ
+  pub ends : Ends
 
 -- the lines of all entries of the directory at the path; or the path is wrong, and no operation is asked
-abbrev pub LinesGive : {S A X : Type 0} → (S → Option (List ℕ)) → (S → Option (List ℕ)) → Ends → (X → List ℕ) → List ℕ
-    → Client S A → Client S A → Result X ToolFault → Type 0
-LinesGive contents remaining ends value path old new result =
-    Commanded (NoPath path)
-    (λ told. (names : List (List ℕ)) × (set : List ℕ) × (names_in path ≡ Some names) × AreListed set
-    × Walked contents remaining most_names names
-    (λ route mid r. PagesGive (by_listings contents remaining ends route set) value text_of mid new r) old new
+abbrev pub LinesGive : {S A X : Type 0} → Directions S → (X → List ℕ) → LinesAt → Client S A → Client S A
+    → Result X ToolFault → Type 0
+LinesGive directions value lines old new result =
+    Commanded (NoPath lines.path)
+    (λ told. (names : List (List ℕ)) × (set : List ℕ) × (names_in lines.path ≡ Some names) × AreListed set
+    × Walked directions most_names names
+    (λ route mid r. PagesGive (by_listings directions lines.ends route set) value text_of mid new r) old new
     told) old new result
 
 -- with a space between two columns, and a newline after each line
-abbrev pub LsGives : {S A X : Type 0} → (S → Option (List ℕ)) → (S → Option (List ℕ)) → (X → List ℕ) → List ℕ
-    → Client S A → Client S A → Result X ToolFault → Type 0
-LsGives contents remaining value path old new result = LinesGive contents remaining Blanks value path old new result
+abbrev pub LsGives : {S A X : Type 0} → Directions S → (X → List ℕ) → List ℕ → Client S A → Client S A
+    → Result X ToolFault → Type 0
+LsGives directions value path old new result =
+    LinesGive directions value (record { path = path; ends = Blanks }) old new result
 
 -- with a zero byte after each column, which no column has
-abbrev pub LsZeroGives : {S A X : Type 0} → (S → Option (List ℕ)) → (S → Option (List ℕ)) → (X → List ℕ) → List ℕ
-    → Client S A → Client S A → Result X ToolFault → Type 0
-LsZeroGives contents remaining value path old new result = LinesGive contents remaining Zeros value path old new result
+abbrev pub LsZeroGives : {S A X : Type 0} → Directions S → (X → List ℕ) → List ℕ → Client S A → Client S A
+    → Result X ToolFault → Type 0
+LsZeroGives directions value path old new result =
+    LinesGive directions value (record { path = path; ends = Zeros }) old new result

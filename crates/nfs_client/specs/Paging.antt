@@ -3,7 +3,9 @@
 use Rattle.std.specs.Prelude.{◌≡◌, ◌⊎◌, ◌<◌, ℕ, Bool, true, false, List, [], ◌∷◌, length, Option, Result, Ok, Err}
 use Rattle.nfs_ops.specs.Operations.{Operation}
 use Rattle.nfs_ops.specs.Results.{Outcome}
-use Rattle.nfs_client.specs.Commands.{AskGives, Spoils}
+use Rattle.nfs_client.specs.Commands.{AskGives, within_session, Spoils}
+use Rattle.nfs_client.specs.Streams.{Directions}
+use Rattle.nfs_client.specs.Taking.{taking}
 use Rattle.nfs_client.specs.declared.client.Client.{Client}
 use Rattle.nfs_client.specs.declared.fault.ToolFault.{ToolFault}
 use Rattle.nfs_client.specs.declared.fault.ToolFault.TheVariants.{Reply}
@@ -17,17 +19,24 @@ itself v = v
 
 -- Pages: the operations after earlier pages, the value of their results, and whether it is the last page.
 pub record Paging (S A V : Type 0) : Type 0 where
-  pub contents : S → Option (List ℕ)
-  pub remaining : S → Option (List ℕ)
+  pub directions : Directions S
   pub asks : Client S A → List V → List Operation
   pub taken : List Outcome → Option V
   pub ends : V → Bool
+
+-- a client, and what it has gathered of the pages so far
+pub record SoFar (S A X : Type 0) : Type 0 where
+  pub client : Client S A
+  pub gathered : X
+
+abbrev pub so_far : {S A X : Type 0} → Client S A → X → SoFar S A X
+so_far client gathered = record { client = client; gathered = gathered }
 
 module _ {S A V : Type 0} (paging : Paging S A V) where
   -- the outcome of the exchange after these pages
   abbrev pub PageGives : List V → Client S A → Client S A → Result V ToolFault → Type 0
   PageGives before old new result =
-      AskGives paging.contents paging.remaining paging.taken itself true (paging.asks old before) old new result
+      AskGives paging.directions (taking paging.taken itself) (within_session (paging.asks old before)) old new result
 
   -- an exchange for each of these pages, none of which is the last
   abbrev pub Goes : Client S A → List V → Client S A → Type 0

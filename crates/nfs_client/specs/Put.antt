@@ -1,6 +1,6 @@
 -- put: a file is opened for writing. A text is written to it piece by piece, each with the size
 -- after it, and the file is closed.
-use Rattle.std.specs.Prelude.{◌≡◌, ◌⊎◌, ℕ, ◌+◌, nat_le, ◌==◌, ◌&&◌, true, if◌then◌else◌, sum, codes, List, [], ◌∷◌}
+use Rattle.std.specs.Prelude.{◌≡◌, ◌⊎◌, ℕ, ◌+◌, nat_le, ◌==◌, ◌&&◌, if◌then◌else◌, sum, codes, List, [], ◌∷◌}
 use Rattle.std.specs.Prelude.{◌++◌, length, take, drop, Option, Some, None, option_and_then, option_map, Result, Ok}
 use Rattle.std.specs.Prelude.{Err}
 use Rattle.std.proofs.Common.{inl, inr}
@@ -12,9 +12,10 @@ use Rattle.nfs_ops.specs.Operations.{Operation, Known}
 use Rattle.nfs_ops.specs.Results.{Outcome, Done}
 use Rattle.nfs_ops.specs.declared.op_kind.OpKind.TheVariants as kinds
 use Rattle.nfs_client.specs.Setting.{with_size, set_size}
-use Rattle.nfs_client.specs.Taking.{last_two, before_last, nothing, takes_nothing}
+use Rattle.nfs_client.specs.Streams.{Directions}
+use Rattle.nfs_client.specs.Taking.{last_two, before_last, taking, no_value}
 use Rattle.nfs_client.specs.Approach.{get_handle, handle_of}
-use Rattle.nfs_client.specs.Commands.{sequence, IsIn, AskGives, Spoils, Commanded}
+use Rattle.nfs_client.specs.Commands.{sequence, IsIn, AskGives, within_session, Spoils, Commanded}
 use Rattle.nfs_client.specs.Rm.{WrongPath}
 use Rattle.nfs_client.specs.Routes.{Route, walk, most_before_two}
 use Rattle.nfs_client.specs.Walking.{Walked}
@@ -114,13 +115,14 @@ told_behind op status (Ok done) = Err (Refused op status)
 told_behind op status (Err (Refused n s)) = Err (Refused op status)
 told_behind op status (Err fault) = Err fault
 
-module _ {S A : Type 0} (contents remaining : S → Option (List ℕ)) (o : Open) where
+module _ {S A : Type 0} (directions : Directions S) (o : Open) where
   abbrev pub WriteGives : ℕ → List ℕ → Client S A → Client S A → Result ℕ ToolFault → Type 0
   WriteGives offset bytes old new result =
-      AskGives contents remaining (written_in (length bytes)) itself true (write_to old o offset bytes) old new result
+      AskGives directions (taking (written_in (length bytes)) itself) (within_session (write_to old o offset bytes))
+      old new result
 
   abbrev pub CloseGives : Client S A → Client S A → Result (Unit {0}) ToolFault → Type 0
-  CloseGives old new result = AskGives contents remaining takes_nothing nothing true (close_it old o) old new result
+  CloseGives old new result = AskGives directions no_value (within_session (close_it old o)) old new result
 
   -- Each WRITE begins after the bytes written so far. The counts of the WRITEs, the last first.
   abbrev pub Writes : List ℕ → Client S A → List ℕ → Client S A → Type 0
@@ -150,27 +152,33 @@ module _ {S A : Type 0} (contents remaining : S → Option (List ℕ)) (o : Open
       × ClosesBehind told mid last result × Spoils result last new
 
 -- The file is opened, written and closed; or the OPEN fails, or a later exchange.
-abbrev pub PutFileGives : {S A : Type 0} → (S → Option (List ℕ)) → (S → Option (List ℕ)) → List ℕ → List Operation
-    → Client S A → Client S A → Result (Unit {0}) ToolFault → Type 0
-PutFileGives {S} {A} contents remaining text ops old new (Ok done) =
-    (mid : Client S A) × (o : Open) × AskGives contents remaining open_in itself true ops old mid (Ok o)
-    × FileGives contents remaining o text mid new (Ok done)
-PutFileGives {S} {A} contents remaining text ops old new (Err fault) =
-    AskGives {X = Open} contents remaining open_in itself true ops old new (Err fault)
-    ⊎ ((mid : Client S A) × (o : Open) × AskGives contents remaining open_in itself true ops old mid (Ok o)
-    × FileGives contents remaining o text mid new (Err fault))
+abbrev pub PutFileGives : {S A : Type 0} → Directions S → List ℕ → List Operation → Client S A → Client S A
+    → Result (Unit {0}) ToolFault → Type 0
+PutFileGives {S} {A} directions text ops old new (Ok done) =
+    (mid : Client S A) × (o : Open) × AskGives directions (taking open_in itself) (within_session ops) old mid (Ok o)
+    × FileGives directions o text mid new (Ok done)
+PutFileGives {S} {A} directions text ops old new (Err fault) =
+    AskGives {X = Open} directions (taking open_in itself) (within_session ops) old new (Err fault)
+    ⊎ ((mid : Client S A) × (o : Open)
+    × AskGives directions (taking open_in itself) (within_session ops) old mid (Ok o)
+    × FileGives directions o text mid new (Err fault))
+
+-- a file that is put: the operation that opens it, and its text
+pub record FilePut : Type 0 where
+  pub opens : Operation
+  pub text : List ℕ
 
 -- The file is opened in a directory along these names.
-abbrev pub PutAlong : {S A : Type 0} → (S → Option (List ℕ)) → (S → Option (List ℕ)) → List (List ℕ) → Operation
-    → List ℕ → Client S A → Client S A → Result (Unit {0}) ToolFault → Type 0
-PutAlong contents remaining names op text old new result =
-    Walked contents remaining most_before_two names
-    (λ route mid r. PutFileGives contents remaining text (open_along mid route op) mid new r) old new result
+abbrev pub PutAlong : {S A : Type 0} → Directions S → List (List ℕ) → FilePut → Client S A → Client S A
+    → Result (Unit {0}) ToolFault → Type 0
+PutAlong directions names file old new result =
+    Walked directions most_before_two names
+    (λ route mid r. PutFileGives directions file.text (open_along mid route file.opens) mid new r) old new result
 
 -- The file is put in its directory; or the path is wrong, and no operation is asked.
-abbrev pub PutCommandGives : {S A : Type 0} → (S → Option (List ℕ)) → (S → Option (List ℕ)) → List ℕ → List ℕ
-    → Client S A → Client S A → Result (Unit {0}) ToolFault → Type 0
-PutCommandGives contents remaining path text old new result =
+abbrev pub PutCommandGives : {S A : Type 0} → Directions S → List ℕ → List ℕ → Client S A → Client S A
+    → Result (Unit {0}) ToolFault → Type 0
+PutCommandGives directions path text old new result =
     Commanded (WrongPath path)
     (λ told. (directory : List (List ℕ)) × (op : Operation) × OpenAsks old.client path text directory op
-    × PutAlong contents remaining directory op text old new told) old new result
+    × PutAlong directions directory (record { opens = op; text = text }) old new told) old new result

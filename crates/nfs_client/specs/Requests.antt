@@ -6,7 +6,7 @@ use Rattle.rpc_record.specs.Records.{IsRecord}
 use Rattle.rpc_record.specs.Identity.{Identity}
 use Rattle.rpc_record.specs.Calling.{call_bytes}
 use Rattle.nfs_ops.specs.Operations.{Operation, number_of}
-use Rattle.nfs_client.specs.Compound.{IsSpelled, IsCall, head_bytes, op_bytes}
+use Rattle.nfs_client.specs.Compound.{IsSpelled, Call, IsCall, head_bytes, op_bytes}
 use Rattle.nfs_client.specs.declared.request.Request.{Request}
 use Rattle.nfs_client.specs.declared.fault.ToolFault.{ToolFault}
 use Rattle.nfs_client.specs.declared.fault.ToolFault.TheVariants.{Memory}
@@ -36,6 +36,6 @@ OneRecordGives bytes content (Ok call) = IsRecord content (bytes call)
 OneRecordGives bytes content (Err fault) = fault ≡ Memory
 
 -- the call as one record; or there is no memory for the record, or it is longer than a record may be
-abbrev pub SpellGives : {X : Type 0} → (X → List ℕ) → ℕ → Identity → List Operation → Result X ToolFault → Type 0
-SpellGives bytes xid caller ops (Ok call) = IsCall xid caller ops (bytes call)
-SpellGives bytes xid caller ops (Err fault) = fault ≡ Memory
+abbrev pub SpellGives : {X : Type 0} → (X → List ℕ) → Call → Result X ToolFault → Type 0
+SpellGives bytes call (Ok spelled) = IsCall call (bytes spelled)
+SpellGives bytes call (Err fault) = fault ≡ Memory

@@ -1,5 +1,5 @@
 -- The outcome of each command, and the text of its answer.
-use Rattle.std.specs.Prelude.{◌≡◌, ◌⊎◌, ℕ, false, List, Option, Result, Ok, Err, Vec}
+use Rattle.std.specs.Prelude.{◌≡◌, ◌⊎◌, ℕ, false, List, Result, Ok, Err, Vec}
 use Rattle.nfs_client.specs.Access.{AccessAsks, NoPath, rights_in}
 use Rattle.nfs_client.specs.AccessViews.{rights_value}
 use Rattle.nfs_client.specs.Acls.{GetAclAsks, SetAclAsks, WrongList, acl_in}
@@ -12,6 +12,8 @@ use Rattle.nfs_client.specs.MkDir.{MkDirAsks}
 use Rattle.nfs_client.specs.Mv.{MvAsks, WrongNames}
 use Rattle.nfs_client.specs.Put.{PutCommandGives}
 use Rattle.nfs_client.specs.Rm.{RmAsks, WrongPath}
+use Rattle.nfs_client.specs.Streams.{Directions}
+use Rattle.nfs_client.specs.Taking.{taking}
 use Rattle.nfs_client.specs.Walking.{BothGive, CommandGives, CommandTells}
 use Rattle.nfs_client.specs.Words.{CommandLine, Ls, Cat, Put, MkDir, Ln, Mv, Rm, ChMod, GetAcl, SetAcl, Access}
 use Rattle.nfs_client.specs.declared.client.Client.{Client}
@@ -25,38 +27,36 @@ Tells {V = V} gives text result = (told : Result V ToolFault) × gives told × S
 
 -- The bytes of the file at a path, with a newline after them; or memory is refused for the newline,
 -- and no other command runs.
-abbrev pub CatTells : {S A : Type 0} → (S → Option (List ℕ)) → (S → Option (List ℕ)) → List ℕ → Client S A
-    → Client S A → Result (Answer A) ToolFault → Type 0
-CatTells {S = S} {A = A} contents remaining path old new result =
-    Tells {V = Vec ℕ A} (CatGives contents remaining says_text path old new) says_line result
-    ⊎ ((bytes : Vec ℕ A) × (last : Client S A) × CatGives contents remaining says_text path old last (Ok bytes)
+abbrev pub CatTells : {S A : Type 0} → Directions S → List ℕ → Client S A → Client S A → Result (Answer A) ToolFault
+    → Type 0
+CatTells {S = S} {A = A} directions path old new result =
+    Tells {V = Vec ℕ A} (CatGives directions says_text path old new) says_line result
+    ⊎ ((bytes : Vec ℕ A) × (last : Client S A) × CatGives directions says_text path old last (Ok bytes)
     × (new ≡ record last { usable = false }) × (result ≡ Err Memory))
 
 -- the outcome of a command, as text
-abbrev pub Runs : {S A : Type 0} → (S → Option (List ℕ)) → (S → Option (List ℕ)) → CommandLine → Client S A
-    → Client S A → Result (Answer A) ToolFault → Type 0
-Runs {A = A} contents remaining (Ls path) old new result =
-    Tells {V = Vec ℕ A} (LsGives contents remaining says_text path old new) says_text result
-Runs contents remaining (Cat path) old new result = CatTells contents remaining path old new result
-Runs contents remaining (Put path text) old new result =
-    Tells (PutCommandGives contents remaining path text old new) says_ok result
-Runs contents remaining (MkDir path) old new result =
-    Tells (CommandGives contents remaining (MkDirAsks path) (WrongPath path) old new) says_ok result
-Runs contents remaining (Ln from to) old new result =
-    Tells (BothGive contents remaining (LnAsks from to) (WrongPaths from to) old new) says_ok result
-Runs contents remaining (Mv from to) old new result =
-    Tells (BothGive contents remaining (MvAsks from to) (WrongNames from to) old new) says_ok result
-Runs contents remaining (Rm path) old new result =
-    Tells (CommandGives contents remaining (RmAsks path) (WrongPath path) old new) says_ok result
-Runs contents remaining (ChMod mode path) old new result =
-    Tells (CommandGives contents remaining (ChModAsks mode path) (WrongMode mode path) old new) says_ok result
-Runs {A = A} contents remaining (GetAcl part path) old new result =
+abbrev pub Runs : {S A : Type 0} → Directions S → CommandLine → Client S A → Client S A → Result (Answer A) ToolFault
+    → Type 0
+Runs {A = A} directions (Ls path) old new result =
+    Tells {V = Vec ℕ A} (LsGives directions says_text path old new) says_text result
+Runs directions (Cat path) old new result = CatTells directions path old new result
+Runs directions (Put path text) old new result = Tells (PutCommandGives directions path text old new) says_ok result
+Runs directions (MkDir path) old new result =
+    Tells (CommandGives directions (MkDirAsks path) (WrongPath path) old new) says_ok result
+Runs directions (Ln from to) old new result =
+    Tells (BothGive directions (LnAsks from to) (WrongPaths from to) old new) says_ok result
+Runs directions (Mv from to) old new result =
+    Tells (BothGive directions (MvAsks from to) (WrongNames from to) old new) says_ok result
+Runs directions (Rm path) old new result =
+    Tells (CommandGives directions (RmAsks path) (WrongPath path) old new) says_ok result
+Runs directions (ChMod mode path) old new result =
+    Tells (CommandGives directions (ChModAsks mode path) (WrongMode mode path) old new) says_ok result
+Runs {A = A} directions (GetAcl part path) old new result =
     Tells {V = Vec ℕ A}
-    (CommandTells contents remaining (acl_in part) says_text (GetAclAsks part path) (NoPath path) old new)
-    says_text result
-Runs contents remaining (SetAcl part path entries) old new result =
-    Tells (CommandGives contents remaining (SetAclAsks part path entries) (WrongList path entries) old new) says_ok
+    (CommandTells directions (taking (acl_in part) says_text) (GetAclAsks part path) (NoPath path) old new) says_text
     result
-Runs contents remaining (Access path) old new result =
-    Tells (CommandTells contents remaining rights_in rights_value (AccessAsks path) (NoPath path) old new) says_rights
+Runs directions (SetAcl part path entries) old new result =
+    Tells (CommandGives directions (SetAclAsks part path entries) (WrongList path entries) old new) says_ok result
+Runs directions (Access path) old new result =
+    Tells (CommandTells directions (taking rights_in rights_value) (AccessAsks path) (NoPath path) old new) says_rights
     result

@@ -6,8 +6,9 @@ use Rattle.nfs_ops.specs.Forms.{channel}
 use Rattle.nfs_ops.specs.Operations.{Operation, Known}
 use Rattle.nfs_ops.specs.Results.{Outcome, Done}
 use Rattle.nfs_ops.specs.declared.op_kind.OpKind.TheVariants as kinds
-use Rattle.nfs_client.specs.Taking.{last_of, nothing, takes_nothing}
-use Rattle.nfs_client.specs.Commands.{AskGives, Spoils}
+use Rattle.nfs_client.specs.Streams.{Directions}
+use Rattle.nfs_client.specs.Taking.{last_of, taking, no_value}
+use Rattle.nfs_client.specs.Commands.{AskGives, outside_session, Spoils}
 use Rattle.nfs_client.specs.declared.client.Client.{Client}
 use Rattle.nfs_client.specs.declared.sessions.Registration.{Registration}
 use Rattle.nfs_client.specs.declared.fault.ToolFault.{ToolFault}
@@ -15,9 +16,14 @@ use Rattle.nfs_client.specs.declared.fault.ToolFault.TheVariants.{Failed}
 
 -- ---- operations
 
--- EXCHANGE_ID of this owner and of a start of it, without flags, without state protection, without an implementation id
-abbrev pub exchange_id : List ℕ → List ℕ → Operation
-exchange_id owner verifier = Known kinds.ExchangeId (verifier, (owner, (0, (inl tt, []))))
+-- a client's owner by its id, and the verifier of one start of it (client_owner4: RFC 8881, section 2.4)
+pub record ClientOwner : Type 0 where
+  pub id : List ℕ
+  pub verifier : List ℕ
+
+-- EXCHANGE_ID of this owner at this start, without flags, without state protection, without an implementation id
+abbrev pub exchange_id : ClientOwner → Operation
+exchange_id owner = Known kinds.ExchangeId (owner.verifier, (owner.id, (0, (inl tt, []))))
 
 -- Calls and replies of 65,536 bytes, 16 operations, one slot.
 abbrev pub fore : Value channel
@@ -69,47 +75,46 @@ pub record IsNew {S A : Type 0} (stream : S) (uid gid : ℕ) (client : Client S 
   pub user : client.uid ≡ uid
   pub group : client.gid ≡ gid
 
-abbrev pub MadeKnown : {S A : Type 0} → (S → Option (List ℕ)) → (S → Option (List ℕ)) → List ℕ → List ℕ → Client S A
-    → Client S A → Result Registration ToolFault → Type 0
-MadeKnown contents remaining owner verifier old new result =
-    AskGives contents remaining record_in record_value false (exchange_id owner verifier ∷ []) old new result
+abbrev pub MadeKnown : {S A : Type 0} → Directions S → ClientOwner → Client S A → Client S A
+    → Result Registration ToolFault → Type 0
+MadeKnown directions owner old new result =
+    AskGives directions (taking record_in record_value) (outside_session (exchange_id owner ∷ [])) old new result
 
-abbrev pub SessionMade : {S A : Type 0} → (S → Option (List ℕ)) → (S → Option (List ℕ)) → Registration → Client S A
-    → Client S A → Result (List ℕ) ToolFault → Type 0
-SessionMade contents remaining r old new result =
-    AskGives contents remaining session_in session_value false (create_session r.client r.number ∷ []) old new result
+abbrev pub SessionMade : {S A : Type 0} → Directions S → Registration → Client S A → Client S A
+    → Result (List ℕ) ToolFault → Type 0
+SessionMade directions r old new result =
+    AskGives directions (taking session_in session_value) (outside_session (create_session r.client r.number ∷ []))
+    old new result
 
 -- EXCHANGE_ID gives a client id, and CREATE_SESSION by its numbers a session, on which the client
 -- calls by number 1 then. Or the first exchange fails, or the second.
-abbrev pub OpenGives : {S A : Type 0} → (S → Option (List ℕ)) → (S → Option (List ℕ)) → S → ℕ → ℕ → List ℕ → List ℕ
-    → Result (Client S A) ToolFault → Type 0
-OpenGives {S} {A} contents remaining stream uid gid owner verifier (Ok client) =
+abbrev pub OpenGives : {S A : Type 0} → Directions S → S → ℕ → ℕ → ClientOwner → Result (Client S A) ToolFault
+    → Type 0
+OpenGives {S} {A} directions stream uid gid owner (Ok client) =
     (start : Client S A) × (known : Client S A) × (made : Client S A) × (r : Registration) × (session : List ℕ)
     × IsNew stream uid gid start
-    × MadeKnown contents remaining owner verifier start known (Ok r)
-    × SessionMade contents remaining r known made (Ok session)
+    × MadeKnown directions owner start known (Ok r)
+    × SessionMade directions r known made (Ok session)
     × (client ≡ record made { client = r.client; session = session; number = 1 })
-OpenGives {S} {A} contents remaining stream uid gid owner verifier (Err fault) =
+OpenGives {S} {A} directions stream uid gid owner (Err fault) =
     (start : Client S A) × (known : Client S A) × IsNew stream uid gid start
-    × (MadeKnown contents remaining owner verifier start known (Err fault)
-    ⊎ ((made : Client S A) × (r : Registration) × MadeKnown contents remaining owner verifier start known (Ok r)
-    × SessionMade contents remaining r known made (Err fault)))
+    × (MadeKnown directions owner start known (Err fault)
+    ⊎ ((made : Client S A) × (r : Registration) × MadeKnown directions owner start known (Ok r)
+    × SessionMade directions r known made (Err fault)))
 
-abbrev pub Ends : {S A : Type 0} → (S → Option (List ℕ)) → (S → Option (List ℕ)) → Operation → Client S A → Client S A
-    → Result (Unit {0}) ToolFault → Type 0
-Ends contents remaining op old new result =
-    AskGives contents remaining takes_nothing nothing false (op ∷ []) old new result
+abbrev pub Ends : {S A : Type 0} → Directions S → Operation → Client S A → Client S A → Result (Unit {0}) ToolFault
+    → Type 0
+Ends directions op old new result = AskGives directions no_value (outside_session (op ∷ [])) old new result
 
 -- DESTROY_SESSION is OK, and then DESTROY_CLIENTID; or the first exchange fails, or the second.
 -- Where memory was refused for the second no other command runs.
-abbrev pub EndGives : {S A : Type 0} → (S → Option (List ℕ)) → (S → Option (List ℕ)) → Client S A → Client S A
-    → Result (Unit {0}) ToolFault → Type 0
-EndGives {S} {A} contents remaining old new (Ok done) =
-    (mid : Client S A) × Ends contents remaining (destroy_session old.session) old mid (Ok tt)
-    × Ends contents remaining (destroy_client old.client) mid new (Ok tt)
-EndGives contents remaining old new (Err Failed) = (old.usable ≡ false) × (new ≡ old)
-EndGives {S} {A} contents remaining old new (Err fault) =
-    Ends contents remaining (destroy_session old.session) old new (Err fault)
-    ⊎ ((mid : Client S A) × (last : Client S A) × Ends contents remaining (destroy_session old.session) old mid (Ok tt)
-    × Ends contents remaining (destroy_client old.client) mid last (Err fault)
+abbrev pub EndGives : {S A : Type 0} → Directions S → Client S A → Client S A → Result (Unit {0}) ToolFault → Type 0
+EndGives {S} {A} directions old new (Ok done) =
+    (mid : Client S A) × Ends directions (destroy_session old.session) old mid (Ok tt)
+    × Ends directions (destroy_client old.client) mid new (Ok tt)
+EndGives directions old new (Err Failed) = (old.usable ≡ false) × (new ≡ old)
+EndGives {S} {A} directions old new (Err fault) =
+    Ends directions (destroy_session old.session) old new (Err fault)
+    ⊎ ((mid : Client S A) × (last : Client S A) × Ends directions (destroy_session old.session) old mid (Ok tt)
+    × Ends directions (destroy_client old.client) mid last (Err fault)
     × Spoils {X = Unit {0}} (Err fault) last new)

@@ -1,5 +1,5 @@
 -- Some attributes of an object, read from what a server gave (RFC 8881, section 3.3.9).
-use Rattle.std.specs.Prelude.{◌≡◌, ◌==◌, ◌||◌, ℕ, Bool, if◌then◌else◌, List, [], ◌∷◌, Option, Some, None, Result, Ok}
+use Rattle.std.specs.Prelude.{◌≡◌, ◌==◌, ◌||◌, ℕ, Bool, if◌then◌else◌, List, [], ◌∷◌, Option, Some, None, Ok}
 use Rattle.std.specs.Prelude.{Err}
 use Rattle.xdr_wire.specs.Xdr.{Value, uint, hyper}
 use Rattle.xdr_wire.specs.Reading.{◌>>=◌, Read}

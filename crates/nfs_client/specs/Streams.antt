@@ -7,6 +7,14 @@ use Rattle.rpc_record.specs.Framer.{Stands}
 use Rattle.nfs_client.specs.declared.fault.ToolFault.{ToolFault}
 use Rattle.nfs_client.specs.declared.fault.ToolFault.TheVariants.{Read, Write, Reply, Memory}
 
+-- what a stream holds in its two directions: the bytes that were written to it, and the bytes that are left to be read
+pub record Directions (S : Type 0) : Type 0 where
+  pub contents : S → Option (List ℕ)
+  pub remaining : S → Option (List ℕ)
+
+abbrev pub directions_of : {S : Type 0} → (S → Option (List ℕ)) → (S → Option (List ℕ)) → Directions S
+directions_of contents remaining = record { contents = contents; remaining = remaining }
+
 -- a front of the bytes was written
 abbrev pub WritesFront : Option (List ℕ) → Option (List ℕ) → List ℕ → Type 0
 WritesFront held held' bytes = (front : List ℕ) × (rest : List ℕ) × (bytes ≡ front ++ rest) × Appends held held' front
@@ -53,28 +61,25 @@ RecordGives bytes left left' (Ok content) = ReadsRecord left left' (bytes conten
 RecordGives bytes left left' (Err fault) = (read : List ℕ) × Consumes left left' read × IsReadFault read fault
 
 -- bytes were written, and after them a record was read
-pub record Talked {S : Type 0} (contents remaining : S → Option (List ℕ)) (old new : S)
-    (call content : List ℕ) : Type 0 where
+pub record Talked {S : Type 0} (directions : Directions S) (old new : S) (call content : List ℕ) : Type 0 where
   pub mid : S
-  pub wrote : Appends (contents old) (contents mid) call
-  pub read : ReadsRecord (remaining mid) (remaining new) content
+  pub wrote : Appends (directions.contents old) (directions.contents mid) call
+  pub read : ReadsRecord (directions.remaining mid) (directions.remaining new) content
 
 -- bytes were written, and nothing after them; what was read then is no record, for this fault
-pub record Unheard {S : Type 0} (contents remaining : S → Option (List ℕ)) (old new : S) (call : List ℕ)
+pub record Unheard {S : Type 0} (directions : Directions S) (old new : S) (call : List ℕ)
     (fault : ToolFault) : Type 0 where
   pub mid : S
-  pub wrote : Appends (contents old) (contents mid) call
+  pub wrote : Appends (directions.contents old) (directions.contents mid) call
   pub bytes : List ℕ
-  pub read : Consumes (remaining mid) (remaining new) bytes
+  pub read : Consumes (directions.remaining mid) (directions.remaining new) bytes
   pub no_record : IsReadFault bytes fault
 
 -- a front of the bytes was written and the stream failed; or all bytes were, and no record was read after them
-abbrev pub TalkFails : {S : Type 0} → (S → Option (List ℕ)) → (S → Option (List ℕ)) → S → S → List ℕ → ToolFault
-    → Type 0
-TalkFails contents remaining old new call Write = WritesFront (contents old) (contents new) call
-TalkFails contents remaining old new call fault = Unheard contents remaining old new call fault
+abbrev pub TalkFails : {S : Type 0} → Directions S → S → S → List ℕ → ToolFault → Type 0
+TalkFails directions old new call Write = WritesFront (directions.contents old) (directions.contents new) call
+TalkFails directions old new call fault = Unheard directions old new call fault
 
-abbrev pub TalkGives : {S X : Type 0} → (X → List ℕ) → (S → Option (List ℕ)) → (S → Option (List ℕ)) → S → S → List ℕ
-    → Result X ToolFault → Type 0
-TalkGives bytes contents remaining old new call (Ok content) = Talked contents remaining old new call (bytes content)
-TalkGives bytes contents remaining old new call (Err fault) = TalkFails contents remaining old new call fault
+abbrev pub TalkGives : {S X : Type 0} → Directions S → (X → List ℕ) → S → S → List ℕ → Result X ToolFault → Type 0
+TalkGives directions bytes old new call (Ok content) = Talked directions old new call (bytes content)
+TalkGives directions bytes old new call (Err fault) = TalkFails directions old new call fault

@@ -27,14 +27,22 @@ TakeGives value taken (Err Reply) = taken ≡ None
 TakeGives value taken (Err Memory) = Unit {0}
 TakeGives value taken (Err fault) = ⊥
 
+-- what is taken of the results of operations that are all OK, and the value that an answer must have for it
+pub record Taking (X V : Type 0) : Type 0 where
+  pub taken : List Outcome → Option V
+  pub value : X → V
+
+abbrev pub taking : {X V : Type 0} → (List Outcome → Option V) → (X → V) → Taking X V
+taking taken value = record { taken = taken; value = value }
+
 -- The value of the results of a reply where all is done, else its fault. A reply whose results have
 -- no such value is no reply.
-abbrev pub SaidGives : {X V : Type 0} → (X → V) → (List Outcome → Option V) → Said → Result X ToolFault → Type 0
-SaidGives value taken said (Ok x) = (said.answer ≡ AllDone) × (taken said.results ≡ Some (value x))
-SaidGives value taken said (Err Reply) =
-    (said.answer ≡ NoReply) ⊎ ((said.answer ≡ AllDone) × (taken said.results ≡ None))
-SaidGives value taken said (Err Memory) = Unit {0}
-SaidGives value taken said (Err fault) = FaultIs fault said.answer
+abbrev pub SaidGives : {X V : Type 0} → Taking X V → Said → Result X ToolFault → Type 0
+SaidGives takes said (Ok x) = (said.answer ≡ AllDone) × (takes.taken said.results ≡ Some (takes.value x))
+SaidGives takes said (Err Reply) =
+    (said.answer ≡ NoReply) ⊎ ((said.answer ≡ AllDone) × (takes.taken said.results ≡ None))
+SaidGives takes said (Err Memory) = Unit {0}
+SaidGives takes said (Err fault) = FaultIs fault said.answer
 
 -- no value: all is OK
 abbrev pub nothing : {X : Type 0} → X → Unit {0}
@@ -42,3 +50,6 @@ nothing x = tt
 
 abbrev pub takes_nothing : List Outcome → Option (Unit {0})
 takes_nothing os = Some tt
+
+abbrev pub no_value : Taking (Unit {0}) (Unit {0})
+no_value = taking takes_nothing nothing

@@ -1,14 +1,14 @@
 -- Commands along paths: approaches, and then the COMPOUND of the command, which walks the names left.
-use Rattle.std.specs.Prelude.{◌≡◌, ◌⊎◌, ℕ, true, List, [], ◌∷◌, ◌++◌, length, Option, Result, Ok, Err}
+use Rattle.std.specs.Prelude.{◌≡◌, ◌⊎◌, ℕ, List, [], ◌∷◌, ◌++◌, length, Result, Ok, Err}
 use Rattle.nfs_ops.specs.Operations.{Operation, Known}
-use Rattle.nfs_ops.specs.Results.{Outcome}
 use Rattle.nfs_ops.specs.declared.op_kind.OpKind.TheVariants as kinds
 use Rattle.nfs_client.specs.Approach.{WalkGives, WalkFails}
-use Rattle.nfs_client.specs.Commands.{sequence, AskGives, Commanded}
+use Rattle.nfs_client.specs.Commands.{sequence, AskGives, within_session, Commanded}
 use Rattle.nfs_client.specs.Paging.{itself}
 use Rattle.nfs_client.specs.Requests.{Asks}
 use Rattle.nfs_client.specs.Routes.{Route, walk, along, most_names, most_of_both, left_of_first}
-use Rattle.nfs_client.specs.Taking.{nothing, takes_nothing}
+use Rattle.nfs_client.specs.Streams.{Directions}
+use Rattle.nfs_client.specs.Taking.{Taking, no_value}
 use Rattle.nfs_client.specs.declared.client.Client.{Client}
 use Rattle.nfs_client.specs.declared.request.Request.{Request}
 use Rattle.nfs_client.specs.declared.fault.ToolFault.{ToolFault}
@@ -21,34 +21,33 @@ save = Known kinds.SaveFh tt
 abbrev pub along_both : {S A : Type 0} → Client S A → Route → Route → Operation → List Operation
 along_both client first second op = sequence client ∷ walk first ++ save ∷ walk second ++ op ∷ []
 
-module _ {S A : Type 0} (contents remaining : S → Option (List ℕ)) where
+module _ {S A : Type 0} (directions : Directions S) where
   -- The outcome of approaches until at most this many names are left, and then of a step with the
   -- route left; or an approach fails.
   abbrev pub Walked : {X : Type 0} → ℕ → List (List ℕ) → (Route → Client S A → Result X ToolFault → Type 0)
       → Client S A → Client S A → Result X ToolFault → Type 0
   Walked most names does old new (Ok x) =
-      (mid : Client S A) × (route : Route) × WalkGives contents remaining itself most names old mid (Ok route)
+      (mid : Client S A) × (route : Route) × WalkGives directions itself most names old mid (Ok route)
       × does route mid (Ok x)
   Walked most names does old new (Err fault) =
-      WalkFails contents remaining most names old new fault
-      ⊎ ((mid : Client S A) × (route : Route) × WalkGives contents remaining itself most names old mid (Ok route)
+      WalkFails directions most names old new fault
+      ⊎ ((mid : Client S A) × (route : Route) × WalkGives directions itself most names old mid (Ok route)
       × does route mid (Err fault))
 
   -- The outcome of a command that asks an operation at the end of a path, unless its words are
   -- wrong. It takes a value of the results.
-  abbrev pub CommandTells : {X V : Type 0} → (List Outcome → Option V) → (X → V)
-      → (List (List ℕ) → Operation → Type 0) → (ToolFault → Type 0) → Client S A → Client S A → Result X ToolFault
-      → Type 0
-  CommandTells taken value asks wrong old new result =
+  abbrev pub CommandTells : {X V : Type 0} → Taking X V → (List (List ℕ) → Operation → Type 0)
+      → (ToolFault → Type 0) → Client S A → Client S A → Result X ToolFault → Type 0
+  CommandTells takes asks wrong old new result =
       Commanded wrong (λ told. (names : List (List ℕ)) × (op : Operation) × asks names op
       × Walked most_names names
-      (λ route mid r. AskGives contents remaining taken value true (along mid route op) mid new r) old new
+      (λ route mid r. AskGives directions takes (within_session (along mid route op)) mid new r) old new
       told) old new result
 
   -- the outcome of a command that takes no value
   abbrev pub CommandGives : (List (List ℕ) → Operation → Type 0) → (ToolFault → Type 0) → Client S A → Client S A
       → Result (Unit {0}) ToolFault → Type 0
-  CommandGives asks wrong old new result = CommandTells takes_nothing nothing asks wrong old new result
+  CommandGives asks wrong old new result = CommandTells no_value asks wrong old new result
 
   -- The outcome of a command that asks an operation at the ends of two paths, and takes no value.
   -- It is that of the walk of the first, and after it of the second.
@@ -59,8 +58,7 @@ module _ {S A : Type 0} (contents remaining : S → Option (List ℕ)) where
       (λ told. (names : List (List ℕ)) × (others : List (List ℕ)) × (op : Operation) × asks names others op
       × Walked (left_of_first (length names) (length others)) names
       (λ first mid r. Walked most_of_both others
-      (λ second last s. AskGives contents remaining takes_nothing nothing true
-      (along_both last first second op) last new s)
+      (λ second last s. AskGives directions no_value (within_session (along_both last first second op)) last new s)
       mid new r)
       old new told) old new result
 
@@ -68,16 +66,16 @@ module _ {S A : Type 0} (contents remaining : S → Option (List ℕ)) where
   pub record Unready (most : ℕ) (names : List (List ℕ)) (old new : Client S A) (fault : ToolFault) : Type 0 where
     pub is_memory : fault ≡ Memory
     pub route : Route
-    pub walk : WalkGives contents remaining itself most names old new (Ok route)
+    pub walk : WalkGives directions itself most names old new (Ok route)
 
   -- The request of an operation at the end of a path, which walks the names left. Or an approach
   -- fails, or memory is refused for the request.
   abbrev pub ReadyGives : List (List ℕ) → Operation → Client S A → Client S A → Result (Request A) ToolFault → Type 0
   ReadyGives names op old new (Ok request) =
-      (route : Route) × WalkGives contents remaining itself most_names names old new (Ok route)
+      (route : Route) × WalkGives directions itself most_names names old new (Ok route)
       × Asks request (along new route op)
   ReadyGives names op old new (Err fault) =
-      WalkFails contents remaining most_names names old new fault ⊎ Unready most_names names old new fault
+      WalkFails directions most_names names old new fault ⊎ Unready most_names names old new fault
 
   -- The request of an operation at the ends of two paths. Or an approach of the first or of the
   -- second fails, or memory is refused.
@@ -85,13 +83,13 @@ module _ {S A : Type 0} (contents remaining : S → Option (List ℕ)) where
       → Result (Request A) ToolFault → Type 0
   BothReady names others op old new (Ok request) =
       (mid : Client S A) × (first : Route) × (second : Route)
-      × WalkGives contents remaining itself (left_of_first (length names) (length others)) names old mid
+      × WalkGives directions itself (left_of_first (length names) (length others)) names old mid
       (Ok first)
-      × WalkGives contents remaining itself most_of_both others mid new (Ok second)
+      × WalkGives directions itself most_of_both others mid new (Ok second)
       × Asks request (along_both new first second op)
   BothReady names others op old new (Err fault) =
-      WalkFails contents remaining (left_of_first (length names) (length others)) names old new fault
+      WalkFails directions (left_of_first (length names) (length others)) names old new fault
       ⊎ ((mid : Client S A) × (first : Route)
-      × WalkGives contents remaining itself (left_of_first (length names) (length others)) names old mid
+      × WalkGives directions itself (left_of_first (length names) (length others)) names old mid
       (Ok first) ×
-      (WalkFails contents remaining most_of_both others mid new fault ⊎ Unready most_of_both others mid new fault))
+      (WalkFails directions most_of_both others mid new fault ⊎ Unready most_of_both others mid new fault))

@@ -3,11 +3,12 @@ ghost use Rattle.std.specs.Prelude.{◌≡◌, false, Err, option_map, option_an
 ghost use Rattle.nfs_ops.specs.ResultViews.{read_view};
 ghost use Rattle.nfs_client.specs.Access.{AccessAsks, NoPath, rights_of, rights_in};
 ghost use Rattle.nfs_client.specs.AccessViews.{rights_value};
-ghost use Rattle.nfs_client.specs.Commands.{AskGives};
+ghost use Rattle.nfs_client.specs.Commands.{AskGives, within_session};
 ghost use Rattle.nfs_client.specs.Compound.{said};
 ghost use Rattle.nfs_client.specs.Requests.{Asks};
 ghost use Rattle.nfs_client.specs.CompoundViews.{outcomes};
-ghost use Rattle.nfs_client.specs.Taking.{SaidGives, TakeGives};
+ghost use Rattle.nfs_client.specs.Streams.{directions_of};
+ghost use Rattle.nfs_client.specs.Taking.{SaidGives, TakeGives, taking};
 ghost use Rattle.nfs_client.specs.Walking.{CommandTells};
 ghost use Rattle.nfs_client.specs.declared.fault.ToolFault.TheVariants.{Failed};
 
@@ -46,8 +47,8 @@ fn rights_told<A: Allocator>(results: Vec<OpResult<'_>, A>) -> Result<AccessResu
 impl<A: Allocator + Copy> Reply<A> {
     /// The rights at the end of the results.
     fn rights(&self, alloc: A) -> Result<AccessResult, ToolFault>
-        ensures { SaidGives rights_value rights_in (said self.now.xid self.now.asked.items self.now.content.items)
-            result }
+        ensures { SaidGives (taking rights_in rights_value)
+            (said self.now.xid self.now.asked.items self.now.content.items) result }
     {
         match self.results(alloc) {
             Ok(results) => rights_told(results),
@@ -62,7 +63,8 @@ impl<S: Read + Write, A: Allocator + Copy> Client<S, A> {
 
     fn ask_rights(&mut self, request: Request<A>) -> Result<AccessResult, ToolFault>
         ensures { (ops : List Operation) → Asks request ops →
-            AskGives S.contents S.remaining rights_in rights_value true ops self.old self.new result }
+            AskGives (directions_of S.contents S.remaining) (taking rights_in rights_value) (within_session ops)
+            self.old self.new result }
     {
         let reply = match self.exchange(request) {
             Ok(reply) => reply,
@@ -76,8 +78,8 @@ impl<S: Read + Write, A: Allocator + Copy> Client<S, A> {
     /// The rights of ACCESS that are supported for an object, of six, and those of them that the caller has.
     pub fn access(&mut self, path: &[u8]) -> Result<AccessResult, ToolFault>
         ensures failed { self.old.usable ≡ false → result ≡ Err Failed }
-        ensures gives { CommandTells S.contents S.remaining rights_in rights_value (AccessAsks path.now)
-            (NoPath path.now) self.old self.new result }
+        ensures gives { CommandTells (directions_of S.contents S.remaining) (taking rights_in rights_value)
+            (AccessAsks path.now) (NoPath path.now) self.old self.new result }
     {
         self.start()?;
         let path = match Path::read(self.alloc, path) {

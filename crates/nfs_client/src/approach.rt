@@ -4,12 +4,13 @@ ghost use Rattle.nfs_types.specs.Views.{handle_value};
 ghost use Rattle.nfs_ops.specs.OpViews.{op_view};
 ghost use Rattle.nfs_ops.specs.ResultViews.{read_view};
 ghost use Rattle.nfs_client.specs.Approach.{approach, handle_of, handle_in, WalkGives};
-ghost use Rattle.nfs_client.specs.Commands.{AskGives};
+ghost use Rattle.nfs_client.specs.Commands.{AskGives, within_session};
 ghost use Rattle.nfs_client.specs.Compound.{said};
 ghost use Rattle.nfs_client.specs.Requests.{Asks, PutGives};
 ghost use Rattle.nfs_client.specs.Routes.{along};
 ghost use Rattle.nfs_client.specs.RouteViews.{route_from, route_value};
-ghost use Rattle.nfs_client.specs.Taking.{SaidGives, TakeGives};
+ghost use Rattle.nfs_client.specs.Streams.{directions_of};
+ghost use Rattle.nfs_client.specs.Taking.{SaidGives, TakeGives, taking};
 ghost use Rattle.nfs_client.specs.Walking.{along_both, BothReady, ReadyGives};
 
 use crate::client::{Client, Reply};
@@ -66,8 +67,8 @@ fn reached<A: Allocator>(alloc: A, found: Option<OpResult<'_>>) -> Result<Vec<u8
 impl<A: Allocator + Copy> Reply<A> {
     /// The filehandle at the end of the results.
     fn reached(&self, alloc: A) -> Result<Vec<u8, A>, ToolFault>
-        ensures { SaidGives (λ v. v.items) handle_in (said self.now.xid self.now.asked.items self.now.content.items)
-            result }
+        ensures { SaidGives (taking handle_in (λ v. v.items))
+            (said self.now.xid self.now.asked.items self.now.content.items) result }
     {
         match self.results(alloc) {
             Ok(results) => reached(alloc, last(results)),
@@ -91,8 +92,8 @@ impl<S: Read + Write, A: Allocator + Copy> Client<S, A> {
 
     /// Walks these names by a COMPOUND of their own. The filehandle at their end.
     fn approach(&mut self, start: &Start<A>, names: &[&[u8]]) -> Result<Vec<u8, A>, ToolFault>
-        ensures { AskGives S.contents S.remaining handle_in (λ v. v.items) true
-            (approach self.old (route_from start.now names.now)) self.old self.new result }
+        ensures { AskGives (directions_of S.contents S.remaining) (taking handle_in (λ v. v.items))
+            (within_session (approach self.old (route_from start.now names.now))) self.old self.new result }
     {
         let request = self.prepare_approach(start, names)?;
         let reply = match self.exchange(request) {
@@ -111,8 +112,8 @@ impl<S: Read + Write, A: Allocator + Copy> Client<S, A> {
         names: &'a [&'a [u8]],
         most: usize,
     ) -> Result<Route<'a, A>, ToolFault>
-        ensures { WalkGives S.contents S.remaining route_value most (map (λ n. n.now) names.entry.now) self.old self.new
-            result }
+        ensures { WalkGives (directions_of S.contents S.remaining) route_value most (map (λ n. n.now) names.entry.now)
+            self.old self.new result }
     {
         let mut start = Start::Root;
         let mut done = 0;
@@ -148,8 +149,8 @@ impl<S: Read + Write, A: Allocator + Copy> Client<S, A> {
 
     /// Approaches the end of a path. The request of an operation there, which walks the names left.
     pub(crate) fn ready(&mut self, names: &[&[u8]], op: Op<'_>) -> Result<Request<A>, ToolFault>
-        ensures { ReadyGives S.contents S.remaining (map (λ n. n.now) names.now) (op_view op.entry) self.old self.new
-            result }
+        ensures { ReadyGives (directions_of S.contents S.remaining) (map (λ n. n.now) names.now) (op_view op.entry)
+            self.old self.new result }
     {
         match self.reach(names, MOST_NAMES) {
             Ok(route) => self.request_along(&route, op),
@@ -185,8 +186,8 @@ impl<S: Read + Write, A: Allocator + Copy> Client<S, A> {
         others: &[&[u8]],
         op: Op<'_>,
     ) -> Result<Request<A>, ToolFault>
-        ensures { BothReady S.contents S.remaining (map (λ n. n.now) names.now) (map (λ n. n.now) others.now)
-            (op_view op.entry) self.old self.new result }
+        ensures { BothReady (directions_of S.contents S.remaining) (map (λ n. n.now) names.now)
+            (map (λ n. n.now) others.now) (op_view op.entry) self.old self.new result }
     {
         let first = match self.reach(names, left_of_first(names.len(), others.len())) {
             Ok(first) => first,

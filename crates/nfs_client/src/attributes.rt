@@ -3,13 +3,14 @@ ghost use Rattle.std.specs.Prelude.{◌≡◌, false, Err, option_map, option_an
 ghost use Rattle.nfs_types.specs.Views.{bitmap_value};
 ghost use Rattle.nfs_ops.specs.ResultViews.{read_view};
 ghost use Rattle.nfs_client.specs.Access.{NoPath};
-ghost use Rattle.nfs_client.specs.Commands.{AskGives};
+ghost use Rattle.nfs_client.specs.Commands.{AskGives, within_session};
 ghost use Rattle.nfs_client.specs.Compound.{said};
 ghost use Rattle.nfs_client.specs.CompoundViews.{outcomes};
 ghost use Rattle.nfs_client.specs.GetAttr.{GetAttrAsks, attributes_of, attributes_in};
 ghost use Rattle.nfs_client.specs.GetAttrViews.{given_value};
 ghost use Rattle.nfs_client.specs.Requests.{Asks};
-ghost use Rattle.nfs_client.specs.Taking.{SaidGives, TakeGives};
+ghost use Rattle.nfs_client.specs.Streams.{directions_of};
+ghost use Rattle.nfs_client.specs.Taking.{SaidGives, TakeGives, taking};
 ghost use Rattle.nfs_client.specs.Walking.{CommandTells};
 ghost use Rattle.nfs_client.specs.declared.fault.ToolFault.TheVariants.{Failed};
 
@@ -49,8 +50,8 @@ fn given_in<A: Allocator>(alloc: A, found: Option<OpResult<'_>>) -> Result<Given
 impl<A: Allocator + Copy> Reply<A> {
     /// The attributes at the end of the results.
     fn given(&self, alloc: A) -> Result<Given<A>, ToolFault>
-        ensures { SaidGives given_value attributes_in (said self.now.xid self.now.asked.items self.now.content.items)
-            result }
+        ensures { SaidGives (taking attributes_in given_value)
+            (said self.now.xid self.now.asked.items self.now.content.items) result }
     {
         match self.results(alloc) {
             Ok(results) => given_in(alloc, last(results)),
@@ -65,7 +66,8 @@ impl<S: Read + Write, A: Allocator + Copy> Client<S, A> {
 
     fn ask_attributes(&mut self, request: Request<A>) -> Result<Given<A>, ToolFault>
         ensures { (ops : List Operation) → Asks request ops →
-            AskGives S.contents S.remaining attributes_in given_value true ops self.old self.new result }
+            AskGives (directions_of S.contents S.remaining) (taking attributes_in given_value) (within_session ops)
+            self.old self.new result }
     {
         let reply = match self.exchange(request) {
             Ok(reply) => reply,
@@ -80,7 +82,7 @@ impl<S: Read + Write, A: Allocator + Copy> Client<S, A> {
     /// `Stat::read` reads some of them.
     pub fn attributes(&mut self, path: &[u8], asked: Bitmap) -> Result<Given<A>, ToolFault>
         ensures failed { self.old.usable ≡ false → result ≡ Err Failed }
-        ensures gives { CommandTells S.contents S.remaining attributes_in given_value
+        ensures gives { CommandTells (directions_of S.contents S.remaining) (taking attributes_in given_value)
             (GetAttrAsks path.now (bitmap_value asked)) (NoPath path.now) self.old self.new result }
     {
         self.start()?;

@@ -4,10 +4,11 @@ ghost use Rattle.nfs_ops.specs.ResultViews.{read_view};
 ghost use Rattle.nfs_client.specs.Cat.{read_from, bytes_of, piece_of, piece_in, piece_value, by_pieces, PieceTaken};
 ghost use Rattle.nfs_client.specs.Cat.{ReadGives, CatGives};
 ghost use Rattle.nfs_client.specs.Compound.{said};
-ghost use Rattle.nfs_client.specs.Paging.{PagesGive};
+ghost use Rattle.nfs_client.specs.Paging.{PagesGive, so_far};
 ghost use Rattle.nfs_client.specs.Requests.{Asks, PutGives};
 ghost use Rattle.nfs_client.specs.RouteViews.{route_value};
-ghost use Rattle.nfs_client.specs.Taking.{SaidGives};
+ghost use Rattle.nfs_client.specs.Streams.{directions_of};
+ghost use Rattle.nfs_client.specs.Taking.{SaidGives, taking};
 ghost use Rattle.nfs_client.specs.declared.fault.ToolFault.TheVariants.{Failed};
 
 use crate::client::{Client, Reply};
@@ -37,8 +38,8 @@ fn piece(found: Option<OpResult<'_>>) -> Option<ReadResult<'_>>
 impl<A: Allocator + Copy> Reply<A> {
     /// The bytes at the end of results.
     fn piece(&self, alloc: A) -> Result<ReadResult<'_>, ToolFault>
-        ensures { SaidGives piece_value piece_in (said self.now.xid self.now.asked.items self.now.content.items)
-            result }
+        ensures { SaidGives (taking piece_in piece_value)
+            (said self.now.xid self.now.asked.items self.now.content.items) result }
     {
         match self.results(alloc) {
             Ok(results) => match piece(last(results)) {
@@ -87,8 +88,8 @@ impl<S: Read + Write, A: Allocator + Copy> Client<S, A> {
         route: &Route<'_, A>,
         bytes: &mut Vec<u8, A>,
     ) -> Result<bool, ToolFault>
-        ensures { ReadGives S.contents S.remaining (route_value route.now) bytes.old.items bytes.new.items self.old
-            self.new result }
+        ensures { ReadGives (directions_of S.contents S.remaining) (route_value route.now)
+            (so_far self.old bytes.old.items) (so_far self.new bytes.new.items) result }
     {
         let request = self.prepare_read(route, bytes.len())?;
         let reply = match self.exchange(request) {
@@ -102,8 +103,8 @@ impl<S: Read + Write, A: Allocator + Copy> Client<S, A> {
 
     /// Reads piece after piece.
     fn read_all(&mut self, route: &Route<'_, A>) -> Result<Vec<u8, A>, ToolFault>
-        ensures { PagesGive (by_pieces S.contents S.remaining (route_value route.now)) (λ v. v.items) bytes_of self.old
-            self.new result }
+        ensures { PagesGive (by_pieces (directions_of S.contents S.remaining) (route_value route.now)) (λ v. v.items)
+            bytes_of self.old self.new result }
     {
         let mut bytes = Vec::new(self.alloc);
         for _call in 0..MOST_CALLS {
@@ -122,7 +123,8 @@ impl<S: Read + Write, A: Allocator + Copy> Client<S, A> {
     /// The bytes of a file, in at most 10,000 calls. `Reply`: the file has more bytes.
     pub fn cat(&mut self, path: &[u8]) -> Result<Vec<u8, A>, ToolFault>
         ensures failed { self.old.usable ≡ false → result ≡ Err Failed }
-        ensures gives { CatGives S.contents S.remaining (λ v. v.items) path.now self.old self.new result }
+        ensures gives { CatGives (directions_of S.contents S.remaining) (λ v. v.items) path.now
+            self.old self.new result }
     {
         self.start()?;
         let path = match Path::read(self.alloc, path) {

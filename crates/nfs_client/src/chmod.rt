@@ -3,6 +3,7 @@ ghost use Rattle.std.specs.Prelude.{◌≡◌, false, Err};
 ghost use Rattle.nfs_types.specs.ShownViews.{shown_value};
 ghost use Rattle.nfs_client.specs.ChMod.{ChModAsks, WrongMode};
 ghost use Rattle.nfs_client.specs.Setting.{of_mode};
+ghost use Rattle.nfs_client.specs.Streams.{directions_of};
 ghost use Rattle.nfs_client.specs.Walking.{CommandGives};
 ghost use Rattle.nfs_client.specs.declared.fault.ToolFault.TheVariants.{Failed};
 
@@ -37,8 +38,8 @@ impl<S: Read + Write, A: Allocator + Copy> Client<S, A> {
     /// list with the mode. `Entry`: the word is no mode.
     pub fn chmod(&mut self, word: &[u8], path: &[u8]) -> Result<(), ToolFault>
         ensures failed { self.old.usable ≡ false → result ≡ Err Failed }
-        ensures gives { CommandGives S.contents S.remaining (ChModAsks word.now path.now) (WrongMode word.now path.now)
-            self.old self.new result }
+        ensures gives { CommandGives (directions_of S.contents S.remaining) (ChModAsks word.now path.now)
+            (WrongMode word.now path.now) self.old self.new result }
     {
         self.start()?;
         let Some(mode) = read_mode(word) else {

@@ -3,6 +3,7 @@ ghost use Rattle.std.specs.Prelude.{◌≡◌, false, Err};
 ghost use Rattle.nfs_types.specs.ShownViews.{shown_value};
 ghost use Rattle.nfs_client.specs.Access.{NoPath};
 ghost use Rattle.nfs_client.specs.ChOwn.{ChOwnAsks, ChGrpAsks, SetAsks, of_owner, of_group};
+ghost use Rattle.nfs_client.specs.Streams.{directions_of};
 ghost use Rattle.nfs_client.specs.Walking.{CommandGives};
 ghost use Rattle.nfs_client.specs.declared.fault.ToolFault.TheVariants.{Failed};
 
@@ -53,8 +54,8 @@ fn of_group(group: Bytes<'_>) -> ShownAttributes<'_>
 impl<S: Read + Write, A: Allocator + Copy> Client<S, A> {
     /// Sets these attributes of an object.
     fn set_shown(&mut self, path: &[u8], shown: &ShownAttributes<'_>) -> Result<(), ToolFault>
-        ensures { CommandGives S.contents S.remaining (SetAsks (shown_value shown.now) path.now) (NoPath path.now)
-            self.old self.new result }
+        ensures { CommandGives (directions_of S.contents S.remaining) (SetAsks (shown_value shown.now) path.now)
+            (NoPath path.now) self.old self.new result }
     {
         let path = match Path::read(self.alloc, path) {
             Ok(path) => path,
@@ -71,8 +72,8 @@ impl<S: Read + Write, A: Allocator + Copy> Client<S, A> {
     /// Sets the owner of an object to this text: a name and the domain of the server's book, or a number.
     pub fn chown(&mut self, owner: &[u8], path: &[u8]) -> Result<(), ToolFault>
         ensures failed { self.old.usable ≡ false → result ≡ Err Failed }
-        ensures gives { CommandGives S.contents S.remaining (ChOwnAsks owner.now path.now) (NoPath path.now) self.old
-            self.new result }
+        ensures gives { CommandGives (directions_of S.contents S.remaining) (ChOwnAsks owner.now path.now)
+            (NoPath path.now) self.old self.new result }
     {
         self.start()?;
         let shown = of_owner(sendable(owner)?);
@@ -82,8 +83,8 @@ impl<S: Read + Write, A: Allocator + Copy> Client<S, A> {
     /// Sets the owning group of an object to this text: a name and the domain of the server's book, or a number.
     pub fn chgrp(&mut self, group: &[u8], path: &[u8]) -> Result<(), ToolFault>
         ensures failed { self.old.usable ≡ false → result ≡ Err Failed }
-        ensures gives { CommandGives S.contents S.remaining (ChGrpAsks group.now path.now) (NoPath path.now) self.old
-            self.new result }
+        ensures gives { CommandGives (directions_of S.contents S.remaining) (ChGrpAsks group.now path.now)
+            (NoPath path.now) self.old self.new result }
     {
         self.start()?;
         let shown = of_group(sendable(group)?);

@@ -4,7 +4,8 @@ ghost use Rattle.nfs_ops.specs.Operations.{Operation};
 ghost use Rattle.nfs_client.specs.Compound.{said};
 ghost use Rattle.nfs_client.specs.CompoundViews.{outcomes, Says};
 ghost use Rattle.nfs_client.specs.Requests.{Asks};
-ghost use Rattle.nfs_client.specs.Taking.{SaidGives, nothing, takes_nothing};
+ghost use Rattle.nfs_client.specs.Streams.{directions_of};
+ghost use Rattle.nfs_client.specs.Taking.{SaidGives, no_value};
 ghost use Rattle.nfs_client.specs.Commands.{takes_number};
 
 use crate::answer::read_answer;
@@ -53,8 +54,7 @@ impl<A: Allocator + Copy> Reply<A> {
 
     /// No value: each operation is OK.
     fn done(&self, alloc: A) -> Result<(), ToolFault>
-        ensures { SaidGives nothing takes_nothing (said self.now.xid self.now.asked.items self.now.content.items)
-            result }
+        ensures { SaidGives no_value (said self.now.xid self.now.asked.items self.now.content.items) result }
     {
         match self.results(alloc) {
             Ok(_) => Ok(()),
@@ -108,7 +108,7 @@ impl<S: Read + Write, A: Allocator + Copy> Client<S, A> {
     /// Writes the call of a request's operations, and reads the record after it.
     pub(crate) fn exchange(&mut self, request: Request<A>) -> Result<Reply<A>, ToolFault>
         ensures { (ops : List Operation) → Asks request ops →
-            ExchangeGives S.contents S.remaining ops self.old self.new result }
+            ExchangeGives (directions_of S.contents S.remaining) ops self.old self.new result }
     {
         let xid = self.xid;
         let caller = Caller::new(self.uid, self.gid, &[]);
@@ -185,7 +185,8 @@ impl<S: Read + Write, A: Allocator + Copy> Client<S, A> {
     /// Asks a request's operations, where it is enough that they are OK.
     pub(crate) fn run(&mut self, request: Request<A>, in_session: bool) -> Result<(), ToolFault>
         ensures { (ops : List Operation) → Asks request ops →
-            AskGives S.contents S.remaining takes_nothing nothing in_session ops self.old self.new result }
+            AskGives (directions_of S.contents S.remaining) no_value (record { ops = ops; in_session = in_session })
+            self.old self.new result }
     {
         let reply = match self.exchange(request) {
             Ok(reply) => reply,

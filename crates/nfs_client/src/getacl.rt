@@ -11,12 +11,13 @@ ghost use Rattle.nfs_ops.specs.ResultViews.{read_view};
 ghost use Rattle.nfs_client.specs.Access.{NoPath};
 ghost use Rattle.nfs_client.specs.Acls.{IsAlone, kind_numbered, line_of, list_text, entries_of, list_in, acl_of};
 ghost use Rattle.nfs_client.specs.Acls.{acl_in, GetAclAsks, PutsList};
-ghost use Rattle.nfs_client.specs.Commands.{AskGives};
+ghost use Rattle.nfs_client.specs.Commands.{AskGives, within_session};
 ghost use Rattle.nfs_client.specs.Compound.{said};
 ghost use Rattle.nfs_client.specs.CompoundViews.{outcomes};
 ghost use Rattle.nfs_client.specs.EntryViews.{entry_line};
 ghost use Rattle.nfs_client.specs.Requests.{Asks};
-ghost use Rattle.nfs_client.specs.Taking.{SaidGives, TakeGives};
+ghost use Rattle.nfs_client.specs.Streams.{directions_of};
+ghost use Rattle.nfs_client.specs.Taking.{SaidGives, TakeGives, taking};
 ghost use Rattle.nfs_client.specs.Walking.{CommandTells};
 ghost use Rattle.nfs_client.specs.declared.fault.ToolFault.TheVariants.{Failed};
 
@@ -137,8 +138,8 @@ fn text_told<A: Allocator>(
 impl<A: Allocator + Copy> Reply<A> {
     /// The list at the end of the results, as text.
     fn list(&self, alloc: A, part: ListPart) -> Result<Vec<u8, A>, ToolFault>
-        ensures { SaidGives (λ v. v.items) (acl_in part) (said self.now.xid self.now.asked.items self.now.content.items)
-            result }
+        ensures { SaidGives (taking (acl_in part) (λ v. v.items))
+            (said self.now.xid self.now.asked.items self.now.content.items) result }
     {
         match self.results(alloc) {
             Ok(results) => text_told(alloc, part, last(results)),
@@ -150,7 +151,8 @@ impl<A: Allocator + Copy> Reply<A> {
 impl<S: Read + Write, A: Allocator + Copy> Client<S, A> {
     fn ask_list(&mut self, part: ListPart, request: Request<A>) -> Result<Vec<u8, A>, ToolFault>
         ensures { (ops : List Operation) → Asks request ops →
-            AskGives S.contents S.remaining (acl_in part) (λ v. v.items) true ops self.old self.new result }
+            AskGives (directions_of S.contents S.remaining) (taking (acl_in part) (λ v. v.items)) (within_session ops)
+            self.old self.new result }
     {
         let reply = match self.exchange(request) {
             Ok(reply) => reply,
@@ -164,8 +166,8 @@ impl<S: Read + Write, A: Allocator + Copy> Client<S, A> {
     /// The access control list of an object, or a part of it: a line for each entry, with a newline after it.
     pub(crate) fn get_list(&mut self, part: ListPart, path: &[u8]) -> Result<Vec<u8, A>, ToolFault>
         ensures failed { self.old.usable ≡ false → result ≡ Err Failed }
-        ensures gives { CommandTells S.contents S.remaining (acl_in part) (λ v. v.items) (GetAclAsks part path.now)
-            (NoPath path.now) self.old self.new result }
+        ensures gives { CommandTells (directions_of S.contents S.remaining) (taking (acl_in part) (λ v. v.items))
+            (GetAclAsks part path.now) (NoPath path.now) self.old self.new result }
     {
         self.start()?;
         let path = match Path::read(self.alloc, path) {
@@ -182,8 +184,9 @@ impl<S: Read + Write, A: Allocator + Copy> Client<S, A> {
     /// The access control list of an object: a line for each entry, with a newline after it.
     pub fn getacl(&mut self, path: &[u8]) -> Result<Vec<u8, A>, ToolFault>
         ensures failed { self.old.usable ≡ false → result ≡ Err Failed }
-        ensures gives { CommandTells S.contents S.remaining (acl_in ListPart.Acl) (λ v. v.items)
-            (GetAclAsks ListPart.Acl path.now) (NoPath path.now) self.old self.new result }
+        ensures gives { CommandTells (directions_of S.contents S.remaining)
+            (taking (acl_in ListPart.Acl) (λ v. v.items)) (GetAclAsks ListPart.Acl path.now) (NoPath path.now)
+            self.old self.new result }
     {
         self.get_list(ListPart::Acl, path)
     }
@@ -192,8 +195,9 @@ impl<S: Read + Write, A: Allocator + Copy> Client<S, A> {
     /// each entry, with a newline after it.
     pub fn getdacl(&mut self, path: &[u8]) -> Result<Vec<u8, A>, ToolFault>
         ensures failed { self.old.usable ≡ false → result ≡ Err Failed }
-        ensures gives { CommandTells S.contents S.remaining (acl_in ListPart.Dacl) (λ v. v.items)
-            (GetAclAsks ListPart.Dacl path.now) (NoPath path.now) self.old self.new result }
+        ensures gives { CommandTells (directions_of S.contents S.remaining)
+            (taking (acl_in ListPart.Dacl) (λ v. v.items)) (GetAclAsks ListPart.Dacl path.now) (NoPath path.now)
+            self.old self.new result }
     {
         self.get_list(ListPart::Dacl, path)
     }
@@ -202,8 +206,9 @@ impl<S: Read + Write, A: Allocator + Copy> Client<S, A> {
     /// entry, with a newline after it.
     pub fn getsacl(&mut self, path: &[u8]) -> Result<Vec<u8, A>, ToolFault>
         ensures failed { self.old.usable ≡ false → result ≡ Err Failed }
-        ensures gives { CommandTells S.contents S.remaining (acl_in ListPart.Sacl) (λ v. v.items)
-            (GetAclAsks ListPart.Sacl path.now) (NoPath path.now) self.old self.new result }
+        ensures gives { CommandTells (directions_of S.contents S.remaining)
+            (taking (acl_in ListPart.Sacl) (λ v. v.items)) (GetAclAsks ListPart.Sacl path.now) (NoPath path.now)
+            self.old self.new result }
     {
         self.get_list(ListPart::Sacl, path)
     }

@@ -8,9 +8,10 @@ ghost use Rattle.nfs_ops.specs.ResultViews.{read_view};
 ghost use Rattle.nfs_client.specs.Compound.{said};
 ghost use Rattle.nfs_client.specs.Ls.{AreListed, list_from, page_of, text_of, by_listings, PutsEntry, PutsEntries};
 ghost use Rattle.nfs_client.specs.Ls.{PutsPage, PageTaken, ListGives, LinesGive, LsGives, LsZeroGives};
-ghost use Rattle.nfs_client.specs.Paging.{PagesGive};
+ghost use Rattle.nfs_client.specs.Paging.{PagesGive, so_far};
 ghost use Rattle.nfs_client.specs.Requests.{Asks, PutGives};
 ghost use Rattle.nfs_client.specs.RouteViews.{route_value};
+ghost use Rattle.nfs_client.specs.Streams.{directions_of};
 ghost use Rattle.nfs_client.specs.declared.fault.ToolFault.TheVariants.{Failed};
 
 use crate::cat::MOST_CALLS;
@@ -164,8 +165,8 @@ impl<S: Read + Write, A: Allocator + Copy> Client<S, A> {
         asked: Bitmap,
         listing: &mut Listing<A>,
     ) -> Result<bool, ToolFault>
-        ensures { ListGives S.contents S.remaining (route_value route.now) (bitmap_value asked) listing.old listing.new
-            self.old self.new result }
+        ensures { ListGives (directions_of S.contents S.remaining) (route_value route.now) (bitmap_value asked)
+            (so_far self.old listing.old) (so_far self.new listing.new) result }
     {
         let request = self.prepare_list(route, asked, listing.cookie)?;
         let reply = match self.exchange(request) {
@@ -184,8 +185,8 @@ impl<S: Read + Write, A: Allocator + Copy> Client<S, A> {
         asked: Bitmap,
         ends: Ends,
     ) -> Result<Vec<u8, A>, ToolFault>
-        ensures { PagesGive (by_listings S.contents S.remaining ends (route_value route.now) (bitmap_value asked))
-            (λ v. v.items) text_of self.old self.new result }
+        ensures { PagesGive (by_listings (directions_of S.contents S.remaining) ends (route_value route.now)
+            (bitmap_value asked)) (λ v. v.items) text_of self.old self.new result }
     {
         let mut listing = Listing {
             text: Vec::new(self.alloc),
@@ -208,7 +209,8 @@ impl<S: Read + Write, A: Allocator + Copy> Client<S, A> {
     /// The entries of a directory as lines with these ends.
     fn list(&mut self, path: &[u8], ends: Ends) -> Result<Vec<u8, A>, ToolFault>
         ensures failed { self.old.usable ≡ false → result ≡ Err Failed }
-        ensures gives { LinesGive S.contents S.remaining ends (λ v. v.items) path.now self.old self.new result }
+        ensures gives { LinesGive (directions_of S.contents S.remaining) (λ v. v.items)
+            (record { path = path.now; ends = ends }) self.old self.new result }
     {
         self.start()?;
         let path = match Path::read(self.alloc, path) {
@@ -226,7 +228,8 @@ impl<S: Read + Write, A: Allocator + Copy> Client<S, A> {
     /// it (`Listed::put`). `Reply`: the directory has more entries.
     pub fn ls(&mut self, path: &[u8]) -> Result<Vec<u8, A>, ToolFault>
         ensures failed { self.old.usable ≡ false → result ≡ Err Failed }
-        ensures gives { LsGives S.contents S.remaining (λ v. v.items) path.now self.old self.new result }
+        ensures gives { LsGives (directions_of S.contents S.remaining) (λ v. v.items) path.now
+            self.old self.new result }
     {
         self.list(path, Ends::Blanks)
     }
@@ -236,7 +239,8 @@ impl<S: Read + Write, A: Allocator + Copy> Client<S, A> {
     /// `Reply` also: an owner, an owning group or a name has a zero byte.
     pub fn ls_zero(&mut self, path: &[u8]) -> Result<Vec<u8, A>, ToolFault>
         ensures failed { self.old.usable ≡ false → result ≡ Err Failed }
-        ensures gives { LsZeroGives S.contents S.remaining (λ v. v.items) path.now self.old self.new result }
+        ensures gives { LsZeroGives (directions_of S.contents S.remaining) (λ v. v.items) path.now
+            self.old self.new result }
     {
         self.list(path, Ends::Zeros)
     }

@@ -2,6 +2,7 @@
 ghost use Rattle.std.specs.Prelude.{◌≡◌, false, Err};
 ghost use Rattle.nfs_client.specs.MkDir.{MkDirAsks};
 ghost use Rattle.nfs_client.specs.Rm.{WrongPath};
+ghost use Rattle.nfs_client.specs.Streams.{directions_of};
 ghost use Rattle.nfs_client.specs.Walking.{CommandGives};
 ghost use Rattle.nfs_client.specs.declared.fault.ToolFault.TheVariants.{Failed};
 
@@ -18,8 +19,8 @@ impl<S: Read + Write, A: Allocator + Copy> Client<S, A> {
     /// Creates a directory, which inherits its access control list.
     pub fn mkdir(&mut self, path: &[u8]) -> Result<(), ToolFault>
         ensures failed { self.old.usable ≡ false → result ≡ Err Failed }
-        ensures gives { CommandGives S.contents S.remaining (MkDirAsks path.now) (WrongPath path.now) self.old self.new
-            result }
+        ensures gives { CommandGives (directions_of S.contents S.remaining) (MkDirAsks path.now) (WrongPath path.now)
+            self.old self.new result }
     {
         self.start()?;
         let place = match Place::read(self.alloc, path) {

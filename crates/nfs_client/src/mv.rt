@@ -1,6 +1,7 @@
 //! Moving a name.
 ghost use Rattle.std.specs.Prelude.{◌≡◌, false, Err};
 ghost use Rattle.nfs_client.specs.Mv.{MvAsks, WrongNames};
+ghost use Rattle.nfs_client.specs.Streams.{directions_of};
 ghost use Rattle.nfs_client.specs.Walking.{BothGive};
 ghost use Rattle.nfs_client.specs.declared.fault.ToolFault.TheVariants.{Failed};
 
@@ -16,8 +17,8 @@ impl<S: Read + Write, A: Allocator + Copy> Client<S, A> {
     /// Moves the old name to the new one.
     pub fn mv(&mut self, old: &[u8], new: &[u8]) -> Result<(), ToolFault>
         ensures failed { self.old.usable ≡ false → result ≡ Err Failed }
-        ensures gives { BothGive S.contents S.remaining (MvAsks old.now new.now) (WrongNames old.now new.now) self.old
-            self.new result }
+        ensures gives { BothGive (directions_of S.contents S.remaining) (MvAsks old.now new.now)
+            (WrongNames old.now new.now) self.old self.new result }
     {
         self.start()?;
         let source = match Place::read(self.alloc, old) {

@@ -6,7 +6,7 @@ ghost use Rattle.nfs_types.specs.Views.{stateid_value, handle_value};
 ghost use Rattle.nfs_ops.specs.Operations.{Operation};
 ghost use Rattle.nfs_ops.specs.ResultViews.{read_view};
 ghost use Rattle.nfs_ops.specs.OpViews.{op_view};
-ghost use Rattle.nfs_client.specs.Commands.{AskGives};
+ghost use Rattle.nfs_client.specs.Commands.{AskGives, within_session};
 ghost use Rattle.nfs_client.specs.Compound.{said};
 ghost use Rattle.nfs_client.specs.CompoundViews.{outcomes};
 ghost use Rattle.nfs_client.specs.Paging.{itself};
@@ -16,7 +16,8 @@ ghost use Rattle.nfs_client.specs.Put.{open_along, PutAlong, PutCommandGives};
 ghost use Rattle.nfs_client.specs.PutViews.{open_value};
 ghost use Rattle.nfs_client.specs.RouteViews.{route_value};
 ghost use Rattle.nfs_client.specs.Requests.{Asks, PutGives};
-ghost use Rattle.nfs_client.specs.Taking.{SaidGives, TakeGives};
+ghost use Rattle.nfs_client.specs.Streams.{directions_of};
+ghost use Rattle.nfs_client.specs.Taking.{SaidGives, TakeGives, taking};
 ghost use Rattle.nfs_client.specs.declared.fault.ToolFault.TheVariants.{Failed};
 
 use crate::approach::{handle_bytes, handle_told};
@@ -130,7 +131,8 @@ impl<A: Allocator> Opened<A> {
 impl<A: Allocator + Copy> Reply<A> {
     /// The open at the end of the results.
     fn opened(&self, alloc: A) -> Result<Opened<A>, ToolFault>
-        ensures { SaidGives open_value open_in (said self.now.xid self.now.asked.items self.now.content.items) result }
+        ensures { SaidGives (taking open_in open_value) (said self.now.xid self.now.asked.items self.now.content.items)
+            result }
     {
         match self.results(alloc) {
             Ok(results) => open_told(alloc, results),
@@ -140,8 +142,8 @@ impl<A: Allocator + Copy> Reply<A> {
 
     /// The count of a WRITE, of this many bytes that were sent.
     fn written(&self, alloc: A, sent: usize) -> Result<usize, ToolFault>
-        ensures { SaidGives itself (written_in sent) (said self.now.xid self.now.asked.items self.now.content.items)
-            result }
+        ensures { SaidGives (taking (written_in sent) itself)
+            (said self.now.xid self.now.asked.items self.now.content.items) result }
     {
         match self.results(alloc) {
             Ok(results) => match written(before_last(results), sent) {
@@ -185,7 +187,8 @@ fn opening<'a>(
 impl<S: Read + Write, A: Allocator + Copy> Client<S, A> {
     fn open_file(&mut self, request: Request<A>) -> Result<Opened<A>, ToolFault>
         ensures { (ops : List Operation) → Asks request ops →
-            AskGives S.contents S.remaining open_in open_value true ops self.old self.new result }
+            AskGives (directions_of S.contents S.remaining) (taking open_in open_value) (within_session ops)
+            self.old self.new result }
     {
         let reply = match self.exchange(request) {
             Ok(reply) => reply,
@@ -231,7 +234,8 @@ impl<S: Read + Write, A: Allocator + Copy> Client<S, A> {
         bytes: &[u8],
     ) -> Result<usize, ToolFault>
         requires { offset + length bytes.now < 2 ^ 64 }
-        ensures { WriteGives S.contents S.remaining (open_value opened.now) offset bytes.now self.old self.new result }
+        ensures { WriteGives (directions_of S.contents S.remaining) (open_value opened.now) offset bytes.now
+            self.old self.new result }
     {
         let request = self.prepare_write(opened, offset, bytes)?;
         let reply = match self.exchange(request) {
@@ -245,7 +249,8 @@ impl<S: Read + Write, A: Allocator + Copy> Client<S, A> {
 
     /// Writes a text to an open file, piece by piece.
     fn write_all(&mut self, opened: &Opened<A>, text: &[u8]) -> Result<(), ToolFault>
-        ensures { TextGives S.contents S.remaining (open_value opened.now) text.now self.old self.new result }
+        ensures { TextGives (directions_of S.contents S.remaining) (open_value opened.now) text.now
+            self.old self.new result }
     {
         let mut done = 0;
         while done < text.len() {
@@ -274,7 +279,7 @@ impl<S: Read + Write, A: Allocator + Copy> Client<S, A> {
 
     /// Closes a file.
     fn close(&mut self, opened: &Opened<A>) -> Result<(), ToolFault>
-        ensures { CloseGives S.contents S.remaining (open_value opened.now) self.old self.new result }
+        ensures { CloseGives (directions_of S.contents S.remaining) (open_value opened.now) self.old self.new result }
     {
         let request = self.prepare_close(opened)?;
         self.run(request, true)
@@ -287,7 +292,8 @@ impl<S: Read + Write, A: Allocator + Copy> Client<S, A> {
         opened: &Opened<A>,
         written: Result<(), ToolFault>,
     ) -> Result<(), ToolFault>
-        ensures { ClosesBehind S.contents S.remaining (open_value opened.now) written self.old self.new result }
+        ensures { ClosesBehind (directions_of S.contents S.remaining) (open_value opened.now) written
+            self.old self.new result }
     {
         match written {
             Ok(()) => self.close(opened),
@@ -301,7 +307,8 @@ impl<S: Read + Write, A: Allocator + Copy> Client<S, A> {
 
     /// Writes a text to an open file, and closes it.
     fn fill(&mut self, opened: &Opened<A>, text: &[u8]) -> Result<(), ToolFault>
-        ensures { FileGives S.contents S.remaining (open_value opened.now) text.now self.old self.new result }
+        ensures { FileGives (directions_of S.contents S.remaining) (open_value opened.now) text.now
+            self.old self.new result }
     {
         let written = self.write_all(opened, text);
         let told = self.close_behind(opened, written);
@@ -321,8 +328,8 @@ impl<S: Read + Write, A: Allocator + Copy> Client<S, A> {
 
     /// Opens a file of a directory, writes a text to it, and closes it.
     fn put_in(&mut self, names: &[&[u8]], op: Op<'_>, text: &[u8]) -> Result<(), ToolFault>
-        ensures { PutAlong S.contents S.remaining (map (λ n. n.now) names.now) (op_view op.entry) text.now self.old
-            self.new result }
+        ensures { PutAlong (directions_of S.contents S.remaining) (map (λ n. n.now) names.now)
+            (record { opens = op_view op.entry; text = text.now }) self.old self.new result }
     {
         let route = match self.reach(names, MOST_BEFORE_TWO) {
             Ok(route) => route,
@@ -347,7 +354,8 @@ impl<S: Read + Write, A: Allocator + Copy> Client<S, A> {
     /// where this call created it. Where a later one is refused it has a front of the text.
     pub fn put(&mut self, path: &[u8], text: &[u8]) -> Result<(), ToolFault>
         ensures failed { self.old.usable ≡ false → result ≡ Err Failed }
-        ensures gives { PutCommandGives S.contents S.remaining path.now text.now self.old self.new result }
+        ensures gives { PutCommandGives (directions_of S.contents S.remaining) path.now text.now
+            self.old self.new result }
     {
         self.start()?;
         let place = match Place::read(self.alloc, path) {

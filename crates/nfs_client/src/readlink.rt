@@ -2,12 +2,13 @@
 ghost use Rattle.std.specs.Prelude.{◌≡◌, false, Err, option_map, option_and_then};
 ghost use Rattle.nfs_ops.specs.ResultViews.{read_view};
 ghost use Rattle.nfs_client.specs.Access.{NoPath};
-ghost use Rattle.nfs_client.specs.Commands.{AskGives};
+ghost use Rattle.nfs_client.specs.Commands.{AskGives, within_session};
 ghost use Rattle.nfs_client.specs.Compound.{said};
 ghost use Rattle.nfs_client.specs.CompoundViews.{outcomes};
 ghost use Rattle.nfs_client.specs.ReadLink.{ReadLinkAsks, text_of, text_in};
 ghost use Rattle.nfs_client.specs.Requests.{Asks};
-ghost use Rattle.nfs_client.specs.Taking.{SaidGives, TakeGives};
+ghost use Rattle.nfs_client.specs.Streams.{directions_of};
+ghost use Rattle.nfs_client.specs.Taking.{SaidGives, TakeGives, taking};
 ghost use Rattle.nfs_client.specs.Walking.{CommandTells};
 ghost use Rattle.nfs_client.specs.declared.fault.ToolFault.TheVariants.{Failed};
 
@@ -35,8 +36,8 @@ fn text_in<A: Allocator>(alloc: A, found: Option<OpResult<'_>>) -> Result<Vec<u8
 impl<A: Allocator + Copy> Reply<A> {
     /// The text of a link at the end of the results.
     fn link_text(&self, alloc: A) -> Result<Vec<u8, A>, ToolFault>
-        ensures { SaidGives (λ v. v.items) text_in (said self.now.xid self.now.asked.items self.now.content.items)
-            result }
+        ensures { SaidGives (taking text_in (λ v. v.items))
+            (said self.now.xid self.now.asked.items self.now.content.items) result }
     {
         match self.results(alloc) {
             Ok(results) => text_in(alloc, last(results)),
@@ -51,7 +52,8 @@ impl<S: Read + Write, A: Allocator + Copy> Client<S, A> {
 
     fn ask_link(&mut self, request: Request<A>) -> Result<Vec<u8, A>, ToolFault>
         ensures { (ops : List Operation) → Asks request ops →
-            AskGives S.contents S.remaining text_in (λ v. v.items) true ops self.old self.new result }
+            AskGives (directions_of S.contents S.remaining) (taking text_in (λ v. v.items)) (within_session ops)
+            self.old self.new result }
     {
         let reply = match self.exchange(request) {
             Ok(reply) => reply,
@@ -65,8 +67,8 @@ impl<S: Read + Write, A: Allocator + Copy> Client<S, A> {
     /// The text of a symbolic link.
     pub fn readlink(&mut self, path: &[u8]) -> Result<Vec<u8, A>, ToolFault>
         ensures failed { self.old.usable ≡ false → result ≡ Err Failed }
-        ensures gives { CommandTells S.contents S.remaining text_in (λ v. v.items) (ReadLinkAsks path.now)
-            (NoPath path.now) self.old self.new result }
+        ensures gives { CommandTells (directions_of S.contents S.remaining) (taking text_in (λ v. v.items))
+            (ReadLinkAsks path.now) (NoPath path.now) self.old self.new result }
     {
         self.start()?;
         let path = match Path::read(self.alloc, path) {

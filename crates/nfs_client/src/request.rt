@@ -130,7 +130,8 @@ impl<A: Allocator + Copy> Request<A> {
     /// The call of these operations as one record. `Memory` also where the call is longer than a record may be.
     pub(crate) fn spell(&self, alloc: A, xid: u32, caller: Caller) -> Result<Vec<u8, A>, ToolFault>
         requires { IsTrue (is_member caller caller.gid) }
-        ensures { (ops : List Operation) → Asks self.now ops → SpellGives (λ v. v.items) xid caller ops result }
+        ensures { (ops : List Operation) → Asks self.now ops →
+            SpellGives (λ v. v.items) (record { xid = xid; caller = caller; ops = ops }) result }
     {
         let Ok(count) = u32::try_from(self.asked.len()) else {
             return Err(ToolFault::Memory);

@@ -1,6 +1,7 @@
 //! Removing a name.
 ghost use Rattle.std.specs.Prelude.{◌≡◌, false, Err};
 ghost use Rattle.nfs_client.specs.Rm.{RmAsks, WrongPath};
+ghost use Rattle.nfs_client.specs.Streams.{directions_of};
 ghost use Rattle.nfs_client.specs.Walking.{CommandGives};
 ghost use Rattle.nfs_client.specs.declared.fault.ToolFault.TheVariants.{Failed};
 
@@ -16,8 +17,8 @@ impl<S: Read + Write, A: Allocator + Copy> Client<S, A> {
     /// Removes a name.
     pub fn rm(&mut self, path: &[u8]) -> Result<(), ToolFault>
         ensures failed { self.old.usable ≡ false → result ≡ Err Failed }
-        ensures gives { CommandGives S.contents S.remaining (RmAsks path.now) (WrongPath path.now) self.old self.new
-            result }
+        ensures gives { CommandGives (directions_of S.contents S.remaining) (RmAsks path.now) (WrongPath path.now)
+            self.old self.new result }
     {
         self.start()?;
         let place = match Place::read(self.alloc, path) {

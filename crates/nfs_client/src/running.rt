@@ -2,6 +2,7 @@
 ghost use Rattle.std.specs.Prelude.{◌≡◌, false, Err};
 ghost use Rattle.nfs_client.specs.AnswerTexts.{answer_text, rights_line, says_ok, says_rights, says_text, SaysAs};
 ghost use Rattle.nfs_client.specs.AnswerTexts.{NewlineGives};
+ghost use Rattle.nfs_client.specs.Streams.{directions_of};
 ghost use Rattle.nfs_client.specs.declared.fault.ToolFault.TheVariants.{Failed};
 
 use crate::client::Client;
@@ -97,7 +98,7 @@ impl<S: Read + Write, A: Allocator + Copy> Client<S, A> {
 
     /// The bytes of a file, with a newline after them.
     fn cat_text(&mut self, path: &[u8]) -> Result<Answer<A>, ToolFault>
-        ensures { CatTells S.contents S.remaining path.now self.old self.new result }
+        ensures { CatTells (directions_of S.contents S.remaining) path.now self.old self.new result }
     {
         match self.cat(path) {
             Ok(bytes) => {
@@ -111,7 +112,7 @@ impl<S: Read + Write, A: Allocator + Copy> Client<S, A> {
 
     /// Runs a command, and gives its answer as text.
     fn answered(&mut self, command: Command<'_>) -> Result<Answer<A>, ToolFault>
-        ensures { Runs S.contents S.remaining (command_line command.entry) self.old self.new result }
+        ensures { Runs (directions_of S.contents S.remaining) (command_line command.entry) self.old self.new result }
     {
         match command {
             Command::Ls(path) => lines(self.ls(path)),
@@ -133,7 +134,8 @@ impl<S: Read + Write, A: Allocator + Copy> Client<S, A> {
     /// any other command it is `ok`. The text of a fault is `ToolFault::text`.
     pub fn answer(&mut self, command: Command<'_>) -> Result<Answer<A>, ToolFault>
         ensures failed { self.old.usable ≡ false → result ≡ Err Failed }
-        ensures gives { Runs S.contents S.remaining (command_line command.entry) self.old self.new result }
+        ensures gives { Runs (directions_of S.contents S.remaining) (command_line command.entry)
+            self.old self.new result }
     {
         match self.start() {
             Ok(()) => self.answered(command),

@@ -8,7 +8,8 @@ ghost use Rattle.nfs_client.specs.Requests.{Asks, PutGives};
 ghost use Rattle.nfs_client.specs.Sessions.{exchange_id, create_session, destroy_session, destroy_client, record_of};
 ghost use Rattle.nfs_client.specs.Sessions.{record_in, record_value, session_of, session_in, session_value, OpenGives};
 ghost use Rattle.nfs_client.specs.Sessions.{EndGives, MadeKnown, SessionMade, Ends};
-ghost use Rattle.nfs_client.specs.Taking.{SaidGives};
+ghost use Rattle.nfs_client.specs.Streams.{directions_of};
+ghost use Rattle.nfs_client.specs.Taking.{SaidGives, taking};
 ghost use Rattle.nfs_client.specs.declared.fault.ToolFault.TheVariants.{Failed};
 
 use crate::client::{Client, Reply};
@@ -80,8 +81,8 @@ fn session_told(found: Option<OpResult<'_>>) -> Option<[u8; 16]>
 impl<A: Allocator + Copy> Reply<A> {
     /// The client's record.
     fn registration(&self, alloc: A) -> Result<Registration, ToolFault>
-        ensures { SaidGives record_value record_in (said self.now.xid self.now.asked.items self.now.content.items)
-            result }
+        ensures { SaidGives (taking record_in record_value)
+            (said self.now.xid self.now.asked.items self.now.content.items) result }
     {
         match self.results(alloc) {
             Ok(results) => match registered(last(results)) {
@@ -94,8 +95,8 @@ impl<A: Allocator + Copy> Reply<A> {
 
     /// The session's id.
     fn session(&self, alloc: A) -> Result<[u8; 16], ToolFault>
-        ensures { SaidGives session_value session_in (said self.now.xid self.now.asked.items self.now.content.items)
-            result }
+        ensures { SaidGives (taking session_in session_value)
+            (said self.now.xid self.now.asked.items self.now.content.items) result }
     {
         match self.results(alloc) {
             Ok(results) => match session_told(last(results)) {
@@ -123,7 +124,7 @@ fn registering<A: Allocator + Copy>(
     owner: &[u8],
     verifier: [u8; 8],
 ) -> Result<Request<A>, ToolFault>
-    ensures asks { IfOk result (λ r. Asks r (exchange_id owner.now verifier ∷ [])) }
+    ensures asks { IfOk result (λ r. Asks r (exchange_id (record { id = owner.now; verifier = verifier }) ∷ [])) }
     ensures memory { PutGives result }
 {
     let Some(owner) = Opaque::new(owner) else {
@@ -186,7 +187,8 @@ fn forgetting<A: Allocator + Copy>(alloc: A, client: u64) -> Result<Request<A>, 
 impl<S: Read + Write, A: Allocator + Copy> Client<S, A> {
     /// Registers the client.
     fn register(&mut self, owner: &[u8], verifier: [u8; 8]) -> Result<Registration, ToolFault>
-        ensures { MadeKnown S.contents S.remaining owner.now verifier self.old self.new result }
+        ensures { MadeKnown (directions_of S.contents S.remaining) (record { id = owner.now; verifier = verifier })
+            self.old self.new result }
     {
         let request = registering(self.alloc, owner, verifier)?;
         let reply = match self.exchange(request) {
@@ -200,7 +202,7 @@ impl<S: Read + Write, A: Allocator + Copy> Client<S, A> {
 
     /// Creates a session.
     fn make_session(&mut self, registration: Registration) -> Result<[u8; 16], ToolFault>
-        ensures { SessionMade S.contents S.remaining registration self.old self.new result }
+        ensures { SessionMade (directions_of S.contents S.remaining) registration self.old self.new result }
     {
         let request = creating(self.alloc, registration)?;
         let reply = match self.exchange(request) {
@@ -229,7 +231,8 @@ impl<S: Read + Write, A: Allocator + Copy> Client<S, A> {
     ) -> Result<Self, ToolFault>
     where
         S: Drop,
-        ensures { OpenGives S.contents S.remaining stream uid gid owner.now verifier result }
+        ensures { OpenGives (directions_of S.contents S.remaining) stream uid gid
+            (record { id = owner.now; verifier = verifier }) result }
     {
         let mut client = Client::resume(alloc, stream, uid, gid, 0, [0; 16], 0);
         let registration = match client.register(owner, verifier) {
@@ -248,7 +251,8 @@ impl<S: Read + Write, A: Allocator + Copy> Client<S, A> {
 
     /// Destroys the client at the server.
     fn forget(&mut self) -> Result<(), ToolFault>
-        ensures { Ends S.contents S.remaining (destroy_client self.old.client) self.old self.new result }
+        ensures { Ends (directions_of S.contents S.remaining) (destroy_client self.old.client)
+            self.old self.new result }
     {
         let request = forgetting(self.alloc, self.client)?;
         self.run(request, false)
@@ -256,7 +260,8 @@ impl<S: Read + Write, A: Allocator + Copy> Client<S, A> {
 
     /// Destroys the session.
     fn end_session(&mut self) -> Result<(), ToolFault>
-        ensures { Ends S.contents S.remaining (destroy_session self.old.session) self.old self.new result }
+        ensures { Ends (directions_of S.contents S.remaining) (destroy_session self.old.session)
+            self.old self.new result }
     {
         let request = ending(self.alloc, self.session)?;
         self.run(request, false)
@@ -265,7 +270,7 @@ impl<S: Read + Write, A: Allocator + Copy> Client<S, A> {
     /// Ends the session and the client: DESTROY_SESSION, then DESTROY_CLIENTID.
     pub fn end(&mut self) -> Result<(), ToolFault>
         ensures failed { self.old.usable ≡ false → result ≡ Err Failed }
-        ensures gives { EndGives S.contents S.remaining self.old self.new result }
+        ensures gives { EndGives (directions_of S.contents S.remaining) self.old self.new result }
     {
         self.start()?;
         match self.end_session() {

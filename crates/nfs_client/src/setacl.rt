@@ -6,6 +6,7 @@ ghost use Rattle.nfs_client.specs.Acls.{ace_of, kind_number, EntriesGive, SetAcl
 ghost use Rattle.nfs_client.specs.EntryViews.{entry_line};
 ghost use Rattle.nfs_client.specs.Requests.{PutGives};
 ghost use Rattle.nfs_client.specs.Setting.{of_entries};
+ghost use Rattle.nfs_client.specs.Streams.{directions_of};
 ghost use Rattle.nfs_client.specs.Walking.{CommandGives};
 ghost use Rattle.nfs_client.specs.declared.fault.ToolFault.TheVariants.{Entry, Failed};
 
@@ -117,8 +118,9 @@ impl<S: Read + Write, A: Allocator + Copy> Client<S, A> {
         texts: &[&[u8]],
     ) -> Result<(), ToolFault>
         ensures failed { self.old.usable ≡ false → result ≡ Err Failed }
-        ensures gives { CommandGives S.contents S.remaining (SetAclAsks part path.now (map (λ t. t.now) texts.now))
-            (WrongList path.now (map (λ t. t.now) texts.now)) self.old self.new result }
+        ensures gives { CommandGives (directions_of S.contents S.remaining)
+            (SetAclAsks part path.now (map (λ t. t.now) texts.now)) (WrongList path.now (map (λ t. t.now) texts.now))
+            self.old self.new result }
     {
         self.start()?;
         let path = match Path::read(self.alloc, path) {
@@ -143,7 +145,7 @@ impl<S: Read + Write, A: Allocator + Copy> Client<S, A> {
     /// can't be read, or there is none.
     pub fn setacl(&mut self, path: &[u8], texts: &[&[u8]]) -> Result<(), ToolFault>
         ensures failed { self.old.usable ≡ false → result ≡ Err Failed }
-        ensures gives { CommandGives S.contents S.remaining
+        ensures gives { CommandGives (directions_of S.contents S.remaining)
             (SetAclAsks ListPart.Acl path.now (map (λ t. t.now) texts.now))
             (WrongList path.now (map (λ t. t.now) texts.now)) self.old self.new result }
     {
@@ -154,7 +156,7 @@ impl<S: Read + Write, A: Allocator + Copy> Client<S, A> {
     /// entries, each as text. `Entry`: an entry can't be read, or there is none.
     pub fn setdacl(&mut self, path: &[u8], texts: &[&[u8]]) -> Result<(), ToolFault>
         ensures failed { self.old.usable ≡ false → result ≡ Err Failed }
-        ensures gives { CommandGives S.contents S.remaining
+        ensures gives { CommandGives (directions_of S.contents S.remaining)
             (SetAclAsks ListPart.Dacl path.now (map (λ t. t.now) texts.now))
             (WrongList path.now (map (λ t. t.now) texts.now)) self.old self.new result }
     {
@@ -165,7 +167,7 @@ impl<S: Read + Write, A: Allocator + Copy> Client<S, A> {
     /// each as text. `Entry`: an entry can't be read, or there is none.
     pub fn setsacl(&mut self, path: &[u8], texts: &[&[u8]]) -> Result<(), ToolFault>
         ensures failed { self.old.usable ≡ false → result ≡ Err Failed }
-        ensures gives { CommandGives S.contents S.remaining
+        ensures gives { CommandGives (directions_of S.contents S.remaining)
             (SetAclAsks ListPart.Sacl path.now (map (λ t. t.now) texts.now))
             (WrongList path.now (map (λ t. t.now) texts.now)) self.old self.new result }
     {

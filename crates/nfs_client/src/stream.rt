@@ -2,7 +2,7 @@
 ghost use Rattle.std.specs.Prelude.{◌≡◌, ◌≤◌, ◌++◌, List, ℕ};
 ghost use Rattle.std.specs.Io.KnownBytes.{Appends};
 ghost use Rattle.rpc_record.specs.Framer.{Stands};
-ghost use Rattle.nfs_client.specs.Streams.{WriteGives, PieceGives, RecordGives, TalkGives};
+ghost use Rattle.nfs_client.specs.Streams.{WriteGives, PieceGives, RecordGives, TalkGives, directions_of};
 
 use crate::fault::ToolFault;
 use rpc_record::{Framer, Step, a_framer_stands_for_a_rest};
@@ -93,7 +93,7 @@ pub(crate) fn talk<A: Allocator, S: Read + Write>(
     stream: &mut S,
     call: &[u8],
 ) -> Result<Vec<u8, A>, ToolFault>
-    ensures { TalkGives (λ v. v.items) S.contents S.remaining stream.old stream.new call.now result }
+    ensures { TalkGives (directions_of S.contents S.remaining) (λ v. v.items) stream.old stream.new call.now result }
 {
     match write_out(stream, call) {
         Ok(()) => read_record(alloc, stream),

@@ -4,6 +4,7 @@ ghost use Rattle.nfs_ops.specs.OpViews.{op_view};
 ghost use Rattle.nfs_client.specs.SymLink.{SymLinkAsks, create_link};
 ghost use Rattle.nfs_client.specs.Requests.{PutGives};
 ghost use Rattle.nfs_client.specs.Rm.{WrongPath};
+ghost use Rattle.nfs_client.specs.Streams.{directions_of};
 ghost use Rattle.nfs_client.specs.Walking.{CommandGives};
 ghost use Rattle.nfs_client.specs.declared.fault.ToolFault.TheVariants.{Failed};
 
@@ -36,8 +37,8 @@ impl<S: Read + Write, A: Allocator + Copy> Client<S, A> {
     /// Creates a symbolic link with this text, which the server takes as it is: of 1 to 1,024 bytes.
     pub fn symlink(&mut self, text: &[u8], path: &[u8]) -> Result<(), ToolFault>
         ensures failed { self.old.usable ≡ false → result ≡ Err Failed }
-        ensures gives { CommandGives S.contents S.remaining (SymLinkAsks text.now path.now) (WrongPath path.now)
-            self.old self.new result }
+        ensures gives { CommandGives (directions_of S.contents S.remaining) (SymLinkAsks text.now path.now)
+            (WrongPath path.now) self.old self.new result }
     {
         self.start()?;
         let place = match Place::read(self.alloc, path) {

@@ -19,7 +19,8 @@ use Rattle.nfs_hub.specs.declared.fault.HubFault.TheVariants as fault
 use Rattle.nfs_hub.specs.Answer.{Served}
 use Rattle.nfs_hub.specs.Hub.{IsHub, Goes, LeadsTo, ConnectGives, ConsumeGives, BreaksSo, IsUnchanged, SameConnection, broken_at, pending_at, next_number}
 use Rattle.nfs_hub.proofs.Hubs.{pending_is}
-use Rattle.nfs_hub.specs.Served.{Read_at, Turn, Turns, Passes, PassGives, TurnsRun, TurnsEnd, IsLeft, BreaksIn, Writes, Serves, IsPiece, ArePieces, MAX_PIECE, broken_end, refused_end, bytes_of}
+use Rattle.nfs_hub.specs.Connection.{Read_at}
+use Rattle.nfs_hub.specs.Served.{Turn, Turns, Passes, PassGives, TurnsRun, TurnsEnd, IsLeft, BreaksIn, Writes, Serves, IsPiece, ArePieces, MAX_PIECE, broken_end, refused_end, bytes_of}
 
 pub appends_trans : (a b c : Option (List ℕ)) (bs cs : List ℕ) → Appends a b bs → Appends b c cs → Appends a c (bs ++ cs)
 appends_trans None b c bs cs p q = tt
@@ -131,7 +132,7 @@ told_so r f g is same = rw same at is
 
 -- a piece that broke the connection
 pub pass_broken : {A : Type 0} (why : HubFault) (id : ℕ) (piece : Read_at) (old new : Hub A) (held held' : Option (List ℕ)) (out : List ℕ) → Passes id piece old new out → Appends held held' out
-    → broken_at new id ≡ Some true → (why ≡ fault.Broken → (s : State) → IsHub old s → BreaksIn piece s id new.service out) → PassGives (Some (broken_end why)) id piece old new held held'
+    → broken_at new id ≡ Some true → (why ≡ fault.Broken → (s : State) → IsHub old s → BreaksIn piece s id new.service out) → PassGives (Some (broken_end why)) id piece (record { hub = old; held = held }) (record { hub = new; held = held' })
 pass_broken fault.Broken id piece old new held held' out p wrote broken breaks = (out, p, wrote, broken, breaks refl)
 pass_broken fault.Memory id piece old new held held' out p wrote broken breaks = (out, p, wrote, broken)
 pass_broken fault.NoSuch id piece old new held held' out p wrote broken breaks = (out, p, wrote, broken)
@@ -291,9 +292,9 @@ module _ {A : Type 0} (hub : Hub A) (id : ℕ) (s : State) (is : IsHub hub s) wh
       subst (λ (o : Option Connected). IsLeft end.Ended o) (sym t.1) (t.2, empty_unless b t.0.rest told false_is)
 
 -- a turn that ends the serving
-pub pass_ends : {A : Type 0} (why : ServeEnd) (id count most : ℕ) (piece : Read_at) (hub new : Hub A) (s : State) (left left' left'' held held' held'' : Option (List ℕ))
-    → PassGives (Some why) id piece hub new held' held'' → count + 1 ≤ most → IsPiece piece.0 → Consumes left' left'' piece.0 → Going id count most s hub left left' held held' → TurnsEnd id most why s new left left'' held held''
-pass_ends end.Broken id count most piece hub new s left left' left'' held held' held'' p more short read going =
+pub pass_ends : {A : Type 0} (why : ServeEnd) (id count most : ℕ) (piece : Read_at) (old hub new : Hub A) (s : State) (left left' left'' held held' held'' : Option (List ℕ))
+    → PassGives (Some why) id piece (record { hub = hub; held = held' }) (record { hub = new; held = held'' }) → count + 1 ≤ most → IsPiece piece.0 → Consumes left' left'' piece.0 → Going id count most s hub left left' held held' → TurnsEnd id most why s (record { hub = old; left = left; held = held }) (record { hub = new; left = left''; held = held'' })
+pass_ends end.Broken id count most piece old hub new s left left' left'' held held' held'' p more short read going =
     let now = going_more going piece new left'' held'' more short read p.0 p.1 p.2 in
     let run = going.run in (
       now.run,
@@ -311,24 +312,24 @@ pass_ends end.Broken id count most piece hub new s left left' left'' held held' 
         breaks = subst (λ (served : Served). BreaksIn piece run.state id served p.0) (sym now.run.is.served) (p.4 run.state run.is);
       },
     )
-pass_ends end.Memory id count most piece hub new s left left' left'' held held' held'' p more short read going =
+pass_ends end.Memory id count most piece old hub new s left left' left'' held held' held'' p more short read going =
     let now = going_more going piece new left'' held'' more short read p.0 p.1 p.2 in
     (now.run, now.wrote, left_memory new id now.run.state now.run.is p.3, tt)
-pass_ends end.Write id count most piece hub new s left left' left'' held held' held'' p more short read going =
+pass_ends end.Write id count most piece old hub new s left left' left'' held held' held'' p more short read going =
     let run = run_more going.run piece new left'' (rw going.turned more) short read p.0 p.1 in
     let w = p.2 in
     (run, (going.run.written ++ w.0, w.1, ap (λ (l : List ℕ). going.run.written ++ l) w.2 ∙ sym (append_assoc going.run.written w.0 w.1), appends_trans held held' held'' going.run.written w.0 going.wrote w.3), left_write new id run.state run.is p.3, tt)
-pass_ends end.Ended id count most piece hub new s left left' left'' held held' held'' p more short read going = absurd p
-pass_ends end.Inside id count most piece hub new s left left' left'' held held' held'' p more short read going = absurd p
-pass_ends end.TooMany id count most piece hub new s left left' left'' held held' held'' p more short read going = absurd p
-pass_ends end.Read id count most piece hub new s left left' left'' held held' held'' p more short read going = absurd p
-pass_ends end.Turns id count most piece hub new s left left' left'' held held' held'' p more short read going = absurd p
+pass_ends end.Ended id count most piece old hub new s left left' left'' held held' held'' p more short read going = absurd p
+pass_ends end.Inside id count most piece old hub new s left left' left'' held held' held'' p more short read going = absurd p
+pass_ends end.TooMany id count most piece old hub new s left left' left'' held held' held'' p more short read going = absurd p
+pass_ends end.Read id count most piece old hub new s left left' left'' held held' held'' p more short read going = absurd p
+pass_ends end.Turns id count most piece old hub new s left left' left'' held held' held'' p more short read going = absurd p
 
 -- ---- the whole
 
 -- a connection that was refused
 pub serves_refused : {A : Type 0} (first : Served) (why : HubFault) (most : ℕ) (events : List Event) (old new : Hub A) (left held : Option (List ℕ)) → ConnectGives (Err why) old new → LeadsTo first (Connect ∷ events) new
-    → Serves first (refused_end why) most events old new left left held held
+    → Serves first (refused_end why) most events (record { hub = old; left = left; held = held }) (record { hub = new; left = left; held = held })
 serves_refused first fault.TooMany most events old new left held h leads = inl (record { same = h.1; leads = leads; read = consumes_none left; wrote = appends_none held; ends = inl h.0 })
 serves_refused first fault.Exhausted most events old new left held h leads = inl (record { same = h.2; leads = leads; read = consumes_none left; wrote = appends_none held; ends = inr h.1 })
 serves_refused first fault.Memory most events old new left held h leads = inl (record { same = h.2; leads = leads; read = consumes_none left; wrote = appends_none held; ends = (h.0, h.1) })
@@ -337,10 +338,10 @@ serves_refused first fault.Broken most events old new left held h leads = absurd
 
 -- a connection that was opened, served and closed
 pub serves_opened : {A : Type 0} (first : Served) (why : ServeEnd) (most : ℕ) (events : List Event) (id : ℕ) (old opened turned new : Hub A) (left left' held held' : Option (List ℕ)) → ConnectGives (Ok id) old opened
-    → LeadsTo first (Connect ∷ events) opened → ((s : State) → IsHub opened s → TurnsEnd id most why s turned left left' held held') → Goes (Close id) turned new
-    → Serves first why most events old new left left' held held'
+    → LeadsTo first (Connect ∷ events) opened → ((s : State) → IsHub opened s → TurnsEnd id most why s (record { hub = opened; left = left; held = held }) (record { hub = turned; left = left'; held = held' })) → Goes (Close id) turned new
+    → Serves first why most events (record { hub = old; left = left; held = held }) (record { hub = new; left = left'; held = held' })
 serves_opened first why most events id old opened turned new left left' held held' gives leads turns closes =
     let same : id ≡ next_number old = gives.2 in
-    let t = subst (λ (n : ℕ). TurnsEnd n most why leads.state turned left left' held held') same (turns leads.state leads.is) in
+    let t = subst (λ (n : ℕ). TurnsEnd n most why leads.state (record { hub = opened; left = left; held = held }) (record { hub = turned; left = left'; held = held' })) same (turns leads.state leads.is) in
     let c = subst (λ (n : ℕ). Goes (Close n) turned new) same closes t.0.state t.0.is in
     inr (record { start = leads.state; leads = leads.leads; turned = turned; run = t.0; wrote = t.1; rests = t.2; ends = t.3; last = c.0; closes = c.1; is = c.2 })

@@ -3,12 +3,12 @@ use Rattle.std.specs.Prelude.{◌≡◌, ◌≢◌, ◌≤◌, ◌<◌, ◌^◌,
 use Rattle.std.specs.Prelude.{None, IfSome, IsSome}
 use Rattle.std.specs.List.{flat_map}
 use Rattle.std.specs.Io.KnownBytes.{Appends, Consumes, IsAtEnd}
-use Rattle.nfs_types.specs.declared.moment.Moment.{Moment}
 use Rattle.nfs_hub.specs.declared.hub.Hub.{Hub}
 use Rattle.nfs_hub.specs.declared.serving.ServeEnd.{ServeEnd}
 use Rattle.nfs_hub.specs.declared.serving.ServeEnd.TheVariants.{Ended, Inside, Broken, Memory, TooMany, Read, Write}
 use Rattle.nfs_hub.specs.declared.serving.ServeEnd.TheVariants.{Turns as TurnsUsedUp}
 use Rattle.nfs_hub.specs.Answer.{Served}
+use Rattle.nfs_hub.specs.Connection.{Read_at}
 use Rattle.nfs_hub.specs.Machine.{Connected, State, Event, Connect, Piece, Take, Close, CameToBreak, Step, Leads}
 use Rattle.nfs_hub.specs.Hub.{IsHub, LeadsTo, IsUnchanged, MAX_CONNECTIONS, broken_at, open_count, next_number}
 use Rattle.nfs_hub.specs.declared.fault.HubFault.{HubFault}
@@ -22,10 +22,6 @@ IsPending (Some c) out = out ≡ c.pending
 -- the most bytes of a piece that is read
 abbrev pub MAX_PIECE : ℕ
 MAX_PIECE = 4096
-
--- a piece that is read at a moment
-abbrev pub Read_at : Type 0
-Read_at = List ℕ × Moment
 
 -- One turn: a piece comes, and then the pending bytes are taken.
 pub record Turn (id : ℕ) (piece : Read_at) (old : State) (out : List ℕ) (new : State) : Type 0 where
@@ -49,23 +45,31 @@ abbrev pub BreaksIn : Read_at → State → ℕ → Served → List ℕ → Type
 BreaksIn piece old id served out =
     IfSome (old.connection id) (λ c. CameToBreak piece.1 old.served c.pending (c.rest ++ piece.0) served out)
 
+-- a hub, and what the writer holds, where that is known
+pub record Writing (A : Type 0) : Type 0 where
+  pub hub : Hub A
+  pub held : Option (List ℕ)
+
 -- the end of a turn: the connection can go on, or it is broken, or the writer failed
-abbrev pub PassGives : {A : Type 0} → Option ServeEnd → ℕ → Read_at → Hub A → Hub A → Option (List ℕ)
-    → Option (List ℕ) → Type 0
-PassGives None id piece old new held held' =
-    (out : List ℕ) × Passes id piece old new out × Appends held held' out × (broken_at new id ≡ Some false)
-PassGives (Some Broken) id piece old new held held' =
-    (out : List ℕ) × Passes id piece old new out × Appends held held' out × (broken_at new id ≡ Some true)
-    × ((s : State) → IsHub old s → BreaksIn piece s id new.service out)
-PassGives (Some Memory) id piece old new held held' =
-    (out : List ℕ) × Passes id piece old new out × Appends held held' out × (broken_at new id ≡ Some true)
-PassGives (Some Write) id piece old new held held' =
-    (out : List ℕ) × Passes id piece old new out × Writes Write held held' out × IsSome (broken_at new id)
-PassGives (Some Ended) id piece old new held held' = ⊥
-PassGives (Some Inside) id piece old new held held' = ⊥
-PassGives (Some TooMany) id piece old new held held' = ⊥
-PassGives (Some Read) id piece old new held held' = ⊥
-PassGives (Some TurnsUsedUp) id piece old new held held' = ⊥
+abbrev pub PassGives : {A : Type 0} → Option ServeEnd → ℕ → Read_at → Writing A → Writing A → Type 0
+PassGives None id piece old new =
+    (out : List ℕ) × Passes id piece old.hub new.hub out × Appends old.held new.held out
+    × (broken_at new.hub id ≡ Some false)
+PassGives (Some Broken) id piece old new =
+    (out : List ℕ) × Passes id piece old.hub new.hub out × Appends old.held new.held out
+    × (broken_at new.hub id ≡ Some true)
+    × ((s : State) → IsHub old.hub s → BreaksIn piece s id new.hub.service out)
+PassGives (Some Memory) id piece old new =
+    (out : List ℕ) × Passes id piece old.hub new.hub out × Appends old.held new.held out
+    × (broken_at new.hub id ≡ Some true)
+PassGives (Some Write) id piece old new =
+    (out : List ℕ) × Passes id piece old.hub new.hub out × Writes Write old.held new.held out
+    × IsSome (broken_at new.hub id)
+PassGives (Some Ended) id piece old new = ⊥
+PassGives (Some Inside) id piece old new = ⊥
+PassGives (Some TooMany) id piece old new = ⊥
+PassGives (Some Read) id piece old new = ⊥
+PassGives (Some TurnsUsedUp) id piece old new = ⊥
 
 -- turns, one for each piece, and all bytes that they take
 abbrev pub Turns : ℕ → List Read_at → State → List ℕ → State → Type 0
@@ -129,23 +133,36 @@ IsLeft TooMany (Some c) = ⊥
 IsLeft Write (Some c) = Unit {0}
 IsLeft end None = ⊥
 
+-- the course of turns: the state before them, the pieces that come, the bytes that are taken, and the state after them
+pub record Course : Type 0 where
+  pub old : State
+  pub pieces : List Read_at
+  pub written : List ℕ
+  pub new : State
+
 -- The reason why turns end. The input is at its end; the stream or a record broke the connection;
 -- all turns are used up; or memory, the reader or the writer failed.
-abbrev pub EndsFor : ServeEnd → ℕ → ℕ → Option (List ℕ) → State → List Read_at → List ℕ → State → Type 0
-EndsFor Ended id most left old pieces written new = IsAtEnd left
-EndsFor Inside id most left old pieces written new = IsAtEnd left
-EndsFor Broken id most left old pieces written new = BrokeLast id old pieces written new
-EndsFor TurnsUsedUp id most left old pieces written new = length pieces ≡ most
-EndsFor TooMany id most left old pieces written new = ⊥
-EndsFor end id most left old pieces written new = Unit {0}
+abbrev pub EndsFor : ServeEnd → ℕ → ℕ → Option (List ℕ) → Course → Type 0
+EndsFor Ended id most left turns = IsAtEnd left
+EndsFor Inside id most left turns = IsAtEnd left
+EndsFor Broken id most left turns = BrokeLast id turns.old turns.pieces turns.written turns.new
+EndsFor TurnsUsedUp id most left turns = length turns.pieces ≡ most
+EndsFor TooMany id most left turns = ⊥
+EndsFor end id most left turns = Unit {0}
 
--- this many turns at most, the bytes that they write, and why they ended
-abbrev pub TurnsEnd : {A : Type 0} → ℕ → ℕ → ServeEnd → State → Hub A → Option (List ℕ) → Option (List ℕ)
-    → Option (List ℕ) → Option (List ℕ) → Type 0
-TurnsEnd id most end old hub left left' held held' =
-    (run : TurnsRun id most old hub left left') × Writes end held held' run.written
+-- a hub, what is left to be read, and what the writer holds, where these are known
+pub record Serving (A : Type 0) : Type 0 where
+  pub hub : Hub A
+  pub left : Option (List ℕ)
+  pub held : Option (List ℕ)
+
+-- from a state of the hub this many turns at most, the bytes that they write, and why they ended
+abbrev pub TurnsEnd : {A : Type 0} → ℕ → ℕ → ServeEnd → State → Serving A → Serving A → Type 0
+TurnsEnd id most end start old new =
+    (run : TurnsRun id most start new.hub old.left new.left) × Writes end old.held new.held run.written
     × IsLeft end (run.state.connection id)
-    × EndsFor end id most left' old run.pieces run.written run.state
+    × EndsFor end id most new.left
+    (record { old = start; pieces = run.pieces; written = run.written; new = run.state })
 
 -- a connection is refused: the limit of open connections is reached, or no number is left; or memory is
 abbrev pub RefusedSo : {A : Type 0} → ServeEnd → Hub A → Type 0
@@ -167,31 +184,30 @@ refused_end fault.NoSuch = TooMany
 refused_end fault.Broken = TooMany
 
 -- nothing was read or written, since no connection was opened
-pub record IsRefused {A : Type 0} (first : Served) (end : ServeEnd) (events : List Event) (old new : Hub A)
-    (left left' held held' : Option (List ℕ)) : Type 0 where
-  pub same : IsUnchanged old new
-  pub leads : LeadsTo first (Connect ∷ events) new
-  pub read : Consumes left left' []
-  pub wrote : Appends held held' []
-  pub ends : RefusedSo end old
+pub record IsRefused {A : Type 0} (first : Served) (end : ServeEnd) (events : List Event) (old new : Serving A)
+    : Type 0 where
+  pub same : IsUnchanged old.hub new.hub
+  pub leads : LeadsTo first (Connect ∷ events) new.hub
+  pub read : Consumes old.left new.left []
+  pub wrote : Appends old.held new.held []
+  pub ends : RefusedSo end old.hub
 
 -- After events that lead to the hub a connection is opened with the next number. Its turns read and
 -- write these bytes. Then it is closed, which leads to the hub.
-pub record IsServed {A : Type 0} (first : Served) (end : ServeEnd) (most : ℕ) (events : List Event) (old new : Hub A)
-    (left left' held held' : Option (List ℕ)) : Type 0 where
+pub record IsServed {A : Type 0} (first : Served) (end : ServeEnd) (most : ℕ) (events : List Event)
+    (old new : Serving A) : Type 0 where
   pub start : State
   pub leads : Leads first (Connect ∷ events) start
   pub turned : Hub A
-  pub run : TurnsRun (next_number old) most start turned left left'
-  pub wrote : Writes end held held' run.written
-  pub rests : IsLeft end (run.state.connection (next_number old))
-  pub ends : EndsFor end (next_number old) most left' start run.pieces run.written run.state
+  pub run : TurnsRun (next_number old.hub) most start turned old.left new.left
+  pub wrote : Writes end old.held new.held run.written
+  pub rests : IsLeft end (run.state.connection (next_number old.hub))
+  pub ends : EndsFor end (next_number old.hub) most new.left
+      (record { old = start; pieces = run.pieces; written = run.written; new = run.state })
   pub last : State
-  pub closes : Step (Close (next_number old)) run.state last
-  pub is : IsHub new last
+  pub closes : Step (Close (next_number old.hub)) run.state last
+  pub is : IsHub new.hub last
 
-abbrev pub Serves : {A : Type 0} → Served → ServeEnd → ℕ → List Event → Hub A → Hub A → Option (List ℕ)
-    → Option (List ℕ) → Option (List ℕ) → Option (List ℕ) → Type 0
-Serves first end most events old new left left' held held' =
-    IsRefused first end events old new left left' held held'
-    ⊎ IsServed first end most events old new left left' held held'
+abbrev pub Serves : {A : Type 0} → Served → ServeEnd → ℕ → List Event → Serving A → Serving A → Type 0
+Serves first end most events old new =
+    IsRefused first end events old new ⊎ IsServed first end most events old new

@@ -83,7 +83,8 @@ fn pass<A: Allocator + Copy, W: Write>(
     writer: &mut W,
 ) -> Option<ServeEnd>
     requires open { broken_at hub.old conn ≡ Some false }
-    ensures { PassGives result conn (piece.now, now) hub.old hub.new (W.contents writer.old) (W.contents writer.new) }
+    ensures { PassGives result conn (piece.now, now) (record { hub = hub.old; held = W.contents writer.old })
+        (record { hub = hub.new; held = W.contents writer.new }) }
 {
     let fed = hub.feed(conn, piece, now);
     let pending = hub.pending(conn).unwrap_or(&[]);
@@ -110,8 +111,9 @@ fn turn_by_turn<A: Allocator + Copy, R: Read, W: Write, C: Clock>(
 ) -> ServeEnd
     requires open { broken_at hub.old conn ≡ Some false }
     ensures { (s : State) → IsHub hub.old s →
-        TurnsEnd conn turns result s hub.new (R.remaining reader.old) (R.remaining reader.new) (W.contents writer.old)
-        (W.contents writer.new) }
+        TurnsEnd conn turns result s
+        (record { hub = hub.old; left = R.remaining reader.old; held = W.contents writer.old })
+        (record { hub = hub.new; left = R.remaining reader.new; held = W.contents writer.new }) }
 {
     for turn in 0..turns {
         let mut buf = [0u8; PIECE];
@@ -156,8 +158,9 @@ pub fn serve<A: Allocator + Copy, R: Read, W: Write, C: Clock>(
     turns: u64,
 ) -> ServeEnd
     ensures { (first : Served) (events : List Event) → LeadsTo first events hub.old →
-        Serves first result turns events hub.old hub.new (R.remaining reader.old) (R.remaining reader.new)
-        (W.contents writer.old) (W.contents writer.new) }
+        Serves first result turns events
+        (record { hub = hub.old; left = R.remaining reader.old; held = W.contents writer.old })
+        (record { hub = hub.new; left = R.remaining reader.new; held = W.contents writer.new }) }
 {
     let conn = match hub.connect() {
         Ok(conn) => conn,

@@ -1,12 +1,12 @@
 -- The trail, and what outlives a restart, are kept while serving goes on.
-use Rattle.std.proofs.Common.{◌≡◌, inl, inr, ⊎_elim, ℕ, Bool, true, false, List, [], ◌∷◌, ◌++◌, Option, Some, None, refl, sym, ◌∙◌, ap, subst, arith}
+use Rattle.std.proofs.Common.{◌≡◌, inl, inr, ⊎_elim, ℕ, Bool, true, false, List, [], ◌∷◌, ◌++◌, Option, Some, None, refl, sym, ◌∙◌, ap, subst}
 use Rattle.std.proofs.lemmas.List.{append-nil}
 use Rattle.journal.specs.Disk.{Act as DiskAct, on_disk}
 use Rattle.journal.specs.Frames.{Bytes, Frame}
 use Rattle.journal.specs.Files.{Content, bodies}
 use Rattle.journal.specs.Opening.{in_slot}
 use Rattle.journal.specs.Crash.{IsFront}
-use Rattle.journal.specs.Living.{IsKept as IsKeptIn, Chance}
+use Rattle.journal.specs.Living.{IsKept as IsKeptIn, Chance, all_kept}
 use Rattle.journal.proofs.Living.{live_law}
 use Rattle.tree_store.specs.Running.{Store as TreeStore}
 use Rattle.client_changes.proofs.Alike.{same_is_near}
@@ -58,7 +58,7 @@ never_both is isnt = cc
 
 pub stands_leaves : (key : ℕ) (history : List DiskAct) (store : TreeStore) (kept : Kept) → StandsFor key history store kept → Leaves key history (IsHeld kept)
 stands_leaves key history store kept st a b left_a left_b =
-    let law = live_law key store.journal.generation store.journal.slot st.frames [] true st.content history st.live a b left_a left_b in
+    let law = live_law (all_kept key store.journal.generation store.journal.slot st.frames st.content) true history st.live a b left_a left_b in
     let never : Chance key store.journal.generation st.frames [] (on_disk store.journal.slot history) (in_slot store.journal.slot left_a.more left_b.more) → ⊥ = λ chance. absurd (never_both chance.0 st.none_loose) in (
       λ slot number content chosen.
           ⊎_elim

@@ -126,10 +126,10 @@ take_shorter : (k m : ℕ) (l : List ℕ) → k ≤ length (take m l) → take k
 take_shorter k m l le = sym (take-append-le k (take m l) (drop m l) le) ∙ ap (λ (t : List ℕ). take k t) (take-append-drop m l)
 
 -- at most one record is answered
-answers_one : (r : Result ℕ HubFault) (rest front : List ℕ) (old new : State) (pending pending' : List ℕ) → TakesFront r rest front old.served pending new.served pending' → AnswersOne rest (take (taken_of r front) front) old new
-answers_one (Ok k) rest front old new pending pending' (inl record_ends) = inr record_ends
-answers_one (Ok k) rest front old new pending pending' (inr none) = inl none.2
-answers_one (Err why) rest front old new pending pending' none = inl none.0
+answers_one : (r : Result ℕ HubFault) (c : Connected) (front : List ℕ) (old new : State) (pending : List ℕ) → TakesFront r c front old.served new.served pending → AnswersOne c.rest (take (taken_of r front) front) old new
+answers_one (Ok k) c front old new pending (inl record_ends) = inr record_ends
+answers_one (Ok k) c front old new pending (inr none) = inl none.2
+answers_one (Err why) c front old new pending none = inl none.0
 
 -- the fault is said of the machine
 fault_is : (r : Result ℕ HubFault) (acts : List Act) (i id : ℕ) (front : List ℕ) (now : Moment) (old new : State) (c d : Connected) → conn_at acts i ≡ Some id → old.connection id ≡ Some c → new.connection id ≡ Some d → d.broken ≡ is_err r
@@ -175,10 +175,10 @@ module _ {A : Type 0} {n most : ℕ} {o : Origin} {hub : Hub A} {left : Left} {n
       let is_broken : d.broken ≡ is_err r = some_same d.broken (is_err r) (sym (broken_of hub' g.0 g.2 id d u.changed) ∙ told) in
       let now_pending : pending_at hub' id ≡ Some d.pending = pending_of hub' g.0 g.2 id d u.changed in
       let same_served : hub'.service ≡ g.0.served = sym g.2.served in
-      let takes : TakesFront r c.rest front s.served c.pending g.0.served d.pending =
-      subst (λ (w : ServedState). TakesFront r c.rest front s.served c.pending w d.pending) same_served
-      (subst (λ (x : Option (List ℕ)). IfSome x (λ pending. TakesFront r c.rest front s.served c.pending hub'.service pending)) now_pending
-      (subst (λ (x : Option Connected). IfSome x (λ e. e.broken ≡ false → IfSome (pending_at hub' id) (λ pending. TakesFront r e.rest front s.served e.pending hub'.service pending))) h.opened (gives s st.stands.is) whole)) in
+      let takes : TakesFront r c front s.served g.0.served d.pending =
+      subst (λ (w : ServedState). TakesFront r c front s.served w d.pending) same_served
+      (subst (λ (x : Option (List ℕ)). IfSome x (λ pending. TakesFront r c front s.served hub'.service pending)) now_pending
+      (subst (λ (x : Option Connected). IfSome x (λ e. e.broken ≡ false → IfSome (pending_at hub' id) (λ pending. TakesFront r e front s.served hub'.service pending))) h.opened (gives s st.stands.is) whole)) in
       let came : r ≡ Err fault.Broken → CameToBreak moment s.served c.pending (c.rest ++ front) g.0.served d.pending = λ told.
       subst (λ (w : ServedState). CameToBreak moment s.served c.pending (c.rest ++ front) w d.pending) same_served
       (subst (λ (x : Option (List ℕ)). IfSome x (λ pending. CameToBreak moment s.served c.pending (c.rest ++ front) hub'.service pending)) now_pending
@@ -186,7 +186,7 @@ module _ {A : Type 0} {n most : ℕ} {o : Origin} {hub : Hub A} {left : Left} {n
       let acts' = Given i bytes (fault_of r) ∷ st.acts in
       let front_of : bytes ≡ take (length bytes) (ahead st.acts i) =
       ap (λ (l : List ℕ). take k l) is_front ∙ take_shorter k most p.ahead (omega (arith, few, ap (λ (l : List ℕ). length l) is_front)) ∙ ap (λ (m : ℕ). take m p.ahead) (sym len) ∙ ap (λ (l : List ℕ). take (length bytes) l) (sym h.knows.0) in
-      let run : Runs o.limits acts' o.start g.0 = (s, st.way.0, (st.way.2, st.way.4, st.way.3, (id, c, h.conn, h.opened, whole), omega (arith, len, few, within, st.way.5), front_of), (moment, (id, h.conn, g.1), (id, c, h.conn, h.opened, answers_one r c.rest front s g.0 c.pending d.pending takes), fault_is r st.acts i id front moment s g.0 c d h.conn h.opened u.changed is_broken came)) in
+      let run : Runs o.limits acts' o.start g.0 = (s, st.way.0, (st.way.2, st.way.4, st.way.3, (id, c, h.conn, h.opened, whole), omega (arith, len, few, within, st.way.5), front_of), (moment, (id, h.conn, g.1), (id, c, h.conn, h.opened, answers_one r c front s g.0 d.pending takes), fault_is r st.acts i id front moment s g.0 c d h.conn h.opened u.changed is_broken came)) in
       record {
         acts = acts';
         machine = g.0;

@@ -1,11 +1,11 @@
 -- What outlives a restart is kept in the store, whose acts on the disk are acts of serving.
-use Rattle.std.proofs.Common.{◌≡◌, ◌⊎◌, inl, inr, ⊎_elim, ℕ, ◌+◌, Bool, true, false, List, [], ◌∷◌, ◌++◌, Option, Some, None, Ok, Err, refl, sym, ◌∙◌, ap, subst, arith}
+use Rattle.std.proofs.Common.{◌≡◌, ◌⊎◌, inl, inr, ⊎_elim, ℕ, ◌+◌, Bool, true, false, List, [], ◌∷◌, ◌++◌, Option, Some, None, Ok, Err, refl, sym, ◌∙◌, ap, subst}
 use Rattle.std.specs.Prelude.{Result, is_ok}
 use Rattle.journal.specs.Disk.{Act as DiskAct}
-use Rattle.journal.specs.Keeping.{Adding}
+use Rattle.journal.specs.Keeping.{Adding, Passage, passage}
 use Rattle.tree_store.specs.declared.fault.StoreFault.{StoreFault}
 use Rattle.tree_store.specs.Running.{Store as TreeStore}
-use Rattle.tree_store.specs.Kept.{Kept, kept_with, IsAs, Covers}
+use Rattle.tree_store.specs.Kept.{Kept, kept_with, Covers}
 use Rattle.tree_store.specs.Holds.{IsHeld, IsHeldOr}
 use Rattle.tree_store.specs.Leaving.{Chain, Leaves, AlwaysLeaves, Does}
 use Rattle.tree_store.specs.Standing.{Stands as StandsFor}
@@ -38,13 +38,13 @@ abbrev pub DiskLaw : {D : Type 0} → (D → Option (List Act)) → Adding D →
 DiskLaw {D} acts_of adds = (old new : D) (act : DiskAct) → adds old act new → Adds (acts_of old) (acts_of new) (OnDisk act ∷ [])
 
 -- the server of the hub is asked for its tree and for what it knows of clients
-pub kept_tree : {A D : Type 0} (adds : Adding D) (hub : Hub A) (was : Option TreeStore) (store store' : TreeStore) (result : Bool) (old new : D) (server : ServerState) (w : World) (next : Known) (done : Result (Unit {0}) StoreFault) → was ≡ Some store → ((s : State) → IsHub hub s → s.served.state ≡ server)
-    → w ≡ server.realm.world → next ≡ known_of server → result ≡ is_ok done → Keeps adds store w next done store' old new → KeepsTree adds hub was result (Some store') old new
-kept_tree adds hub was store store' result old new server w next done is serves world_is next_is well keeps =
-    let of_server : Keeps adds store server.realm.world (known_of server) done store' old new =
-    subst (λ (n : Known). Keeps adds store server.realm.world n done store' old new) next_is (subst (λ (v : World). Keeps adds store v next done store' old new) world_is keeps) in
-    subst (λ (o : Option TreeStore). KeepsTree adds hub o result (Some store') old new) (sym is)
-    (λ s is_hub. (done, well, subst (λ (v : ServerState). Keeps adds store v.realm.world (known_of v) done store' old new) (sym (serves s is_hub)) of_server))
+pub kept_tree : {A D : Type 0} (p : Passage D) (hub : Hub A) (was : Option TreeStore) (store store' : TreeStore) (result : Bool) (server : ServerState) (w : World) (next : Known) (done : Result (Unit {0}) StoreFault) → was ≡ Some store → ((s : State) → IsHub hub s → s.served.state ≡ server)
+    → w ≡ server.realm.world → next ≡ known_of server → result ≡ is_ok done → Keeps p store w next done store' → KeepsTree p hub was result (Some store')
+kept_tree p hub was store store' result server w next done is serves world_is next_is well keeps =
+    let of_server : Keeps p store server.realm.world (known_of server) done store' =
+    subst (λ (n : Known). Keeps p store server.realm.world n done store') next_is (subst (λ (v : World). Keeps p store v next done store') world_is keeps) in
+    subst (λ (o : Option TreeStore). KeepsTree p hub o result (Some store')) (sym is)
+    (λ s is_hub. (done, well, subst (λ (v : ServerState). Keeps p store v.realm.world (known_of v) done store') (sym (serves s is_hub)) of_server))
 
 -- Some acts of the disk were done over what was kept, to keep what is aimed at.
 record Wrote {A : Type 0} (n : ℕ) (o : Origin) (hub : Hub A) (places : List (Option (Peer A))) (more : ℕ) (key : ℕ) (history : List DiskAct) (kept aim : Kept) (machine : State) (done : List DiskAct) (now : Option (List Act)) : Type 0 where
@@ -124,7 +124,7 @@ kept_well key acts (Err why) store old aim now well so = absurd (never well)
 
 module _ {A D : Type 0} (acts_of : D → Option (List Act)) (adds : Adding D) (law : DiskLaw acts_of adds) (n : ℕ) (o : Origin) (hub : Hub A) (places : List (Option (Peer A))) (more : ℕ) (acts : List Act) (machine : State) (run : Runs o.limits acts o.start machine)
     (count : waits acts ≡ n) (settled : IsSettled acts) (trail : IsKept acts machine) (stands : Stands o.start.next hub places acts machine) (fewer : more + admitted acts ≡ o.limits.connections) (result : Bool) (old new : D) (known : Adds o.first (acts_of old) (of_streams acts)) where
-  keeps_tree : (first now then : Option TreeStore) → StoringIn first now o acts machine run → KeepsTree adds hub now result then old new → Reached n o hub places more machine first then result (acts_of new)
+  keeps_tree : (first now then : Option TreeStore) → StoringIn first now o acts machine run → KeepsTree (passage adds old new) hub now result then → Reached n o hub places more machine first then result (acts_of new)
   keeps_tree None None None was keeps = record {
     acts = acts;
     run = run;
@@ -149,8 +149,8 @@ module _ {A D : Type 0} (acts_of : D → Option (List Act)) (adds : Adding D) (l
       let s = k.2 in
       let aim : Kept = kept_with machine.served.state.realm.world s.0 in
       let same : store.journal.key ≡ key = was.stands.key_is in
-      let does : Does adds key history (IsHeldOr was.kept aim) (λ done. KeptSo key done k.0 store' was.kept aim now) old new =
-      subst (λ (at : ℕ). Does adds at history (IsHeldOr was.kept aim) (λ done. KeptSo at done k.0 store' was.kept aim now) old new) same
+      let does : Does (passage adds old new) key history (IsHeldOr was.kept aim) (λ done. KeptSo key done k.0 store' was.kept aim now) =
+      subst (λ (at : ℕ). Does (passage adds old new) at history (IsHeldOr was.kept aim) (λ done. KeptSo at done k.0 store' was.kept aim now)) same
       (s.2 history was.kept (subst (λ (at : ℕ). StandsFor at history store was.kept) (sym same) was.stands) was.follows) in
       let w = wrote acts_of adds law n o hub places more key history was.kept aim machine does.acts old new does.chain does.leaves (record {
         acts = acts;
@@ -206,7 +206,7 @@ stored_in (Some first) (Some store) o acts machine run allowed does always stood
   always = always_on first.journal.key o.history o.limits (Stored machine.served.state) acts o.start (noted_anew machine) (machine, run, allowed, does) tt refl always;
 }
 
-module _ {A D : Type 0} {n : ℕ} {o : Origin} {hub : Hub A} {places : List (Option (Peer A))} {left : Left} (acts_of : D → Option (List Act)) (adds : Adding D) (law : DiskLaw acts_of adds) (old new : D) (st : Standing (Giving n) o hub places left (acts_of old)) (store : Option TreeStore) (result : Bool) (keeps : KeepsTree adds hub left.store result store old new) where
+module _ {A D : Type 0} {n : ℕ} {o : Origin} {hub : Hub A} {places : List (Option (Peer A))} {left : Left} (acts_of : D → Option (List Act)) (adds : Adding D) (law : DiskLaw acts_of adds) (old new : D) (st : Standing (Giving n) o hub places left (acts_of old)) (store : Option TreeStore) (result : Bool) (keeps : KeepsTree (passage adds old new) hub left.store result store) where
   abbrev reached : Reached n o hub places left.more st.machine o.store store result (acts_of new)
   reached = keeps_tree acts_of adds law n o hub places left.more st.acts st.machine st.way.0 st.way.1 st.way.2 st.way.3 st.stands st.fewer result old new st.adds o.store left.store store st.keeping keeps
 

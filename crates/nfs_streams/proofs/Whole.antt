@@ -147,9 +147,9 @@ ends_lead first events acts (act ∷ endings) old new ends leads =
 -- ---- the whole
 
 pub serves : {A : Type 0} (first : ServedState) (events : List Event) (from : Left) (history : List DiskAct) (kept : KeptTree) (end : AllEnd) (limits : Limits) (hub ran new : Hub A) (places places' places'' : List (Option (Peer A))) (left : Left) (before mid after : Option (List Act)) → LeadsTo first events hub → IsOpen from.store history kept hub → taken places ≡ 0 → from.more ≡ limits.connections
-    → RunGives end limits hub places from ran places' left before mid
-    → ((acts : List Act) (s : State) (left : Left) (limits : Limits) → Moves (Ending acts s) (Ending acts s) limits ran places' left new places'' left mid after) → ((j : ℕ) → place_at places'' j ≡ None)
-    → ServesAll first events from.store history end limits new before after
+    → RunGives end limits (record { hub = hub; places = places; left = from; acts = before }) (record { hub = ran; places = places'; left = left; acts = mid })
+    → ((acts : List Act) (s : State) (left : Left) (limits : Limits) → Moves (Ending acts s) (Ending acts s) limits (record { hub = ran; places = places'; left = left; acts = mid }) (record { hub = new; places = places''; left = left; acts = after })) → ((j : ℕ) → place_at places'' j ≡ None)
+    → ServesAll first events (record { limits = limits; store = from.store; history = history }) end (record { hub = hub; acts = before }) (record { hub = new; acts = after })
 serves first events from history kept end limits hub ran new places places' places'' left before mid after h is_open none all run shuts free =
     let o = origin first events hub limits from.store history before h in
     let st = run.3 o refl (begins first events hub places limits from history kept before h is_open none all) in
@@ -180,7 +180,7 @@ serves first events from history kept end limits hub ran new places places' plac
     }
 
 -- there was no memory for the places
-pub serves_nothing : {A : Type 0} (first : ServedState) (events : List Event) (store : Option TreeStore) (history : List DiskAct) (kept : KeptTree) (limits : Limits) (hub : Hub A) (before : Option (List Act)) → LeadsTo first events hub → IsOpen store history kept hub → ServesAll first events store history Memory limits hub before before
+pub serves_nothing : {A : Type 0} (first : ServedState) (events : List Event) (store : Option TreeStore) (history : List DiskAct) (kept : KeptTree) (limits : Limits) (hub : Hub A) (before : Option (List Act)) → LeadsTo first events hub → IsOpen store history kept hub → ServesAll first events (record { limits = limits; store = store; history = history }) Memory (record { hub = hub; acts = before }) (record { hub = hub; acts = before })
 serves_nothing first events store history kept limits hub before h is_open = record {
   start = h.state;
   leads = h.leads;

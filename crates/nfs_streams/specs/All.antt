@@ -28,29 +28,39 @@ EndsSo Keep limits start acts s = Just Lost acts
 EndsSo Store limits start acts s = Just Unstored acts
 EndsSo Memory limits start acts s = acts ≡ []
 
+-- the means of serving: its limits, and its store, if there is one, with the history of the store's files
+pub record Means : Type 0 where
+  pub limits : Limits
+  pub store : Option TreeStore
+  pub history : List DiskAct
+
+-- what is seen of serving from outside: the hub, and the acts of the streams, where they are known
+pub record Seen (A : Type 0) : Type 0 where
+  pub hub : Hub A
+  pub acts : Option (List Act)
+
 -- After events that lead to the hub, acts lead the machine on, each of them allowed at its turn,
 -- with at most as many waits and connections as the limits say. Then the streams still at places
 -- are let go, and none of the connections that came is open. Those of these acts that are asked of
 -- the streams and of the disk, and no others, are the acts of the streams. They lead to the state
 -- of the hub. Where there is a store, a crash after each of the acts leaves all of which a reply
 -- was written.
-pub record ServesAll {A : Type 0} (first : ServedState) (events : List Event) (store : Option TreeStore)
-    (history : List DiskAct) (end : AllEnd) (limits : Limits) (new : Hub A)
-    (before after : Option (List Act)) : Type 0 where
+pub record ServesAll {A : Type 0} (first : ServedState) (events : List Event) (means : Means) (end : AllEnd)
+    (old new : Seen A) : Type 0 where
   pub start : State
   pub leads : Leads first events start
   pub acts : List Act
   pub served : State
-  pub run : Runs limits acts start served
-  pub kept : SurvivesIn store history limits acts start served run
-  pub few_turns : waits acts ≤ limits.turns
-  pub few_connections : admitted acts ≤ limits.connections
-  pub ends : EndsSo end limits start acts served
+  pub run : Runs means.limits acts start served
+  pub kept : SurvivesIn means.store means.history means.limits acts start served run
+  pub few_turns : waits acts ≤ means.limits.turns
+  pub few_connections : admitted acts ≤ means.limits.connections
+  pub ends : EndsSo end means.limits start acts served
   pub endings : List Act
   pub last : State
   pub closing : Ends acts endings served last
   pub closed : AreClosed start.next last
-  pub adds : Adds before after (of_streams (endings ++ acts))
-  pub is : IsHub new last
+  pub adds : Adds old.acts new.acts (of_streams (endings ++ acts))
+  pub is : IsHub new.hub last
   pub later : List Event
   pub on : Leads first (later ++ events) last

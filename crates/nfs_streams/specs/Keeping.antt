@@ -3,7 +3,7 @@
 use Rattle.std.specs.Prelude.{◌≡◌, ◌⊎◌, ℕ, Bool, true, List, [], ◌∷◌, ◌++◌, Option, Some, None, Result, is_ok}
 use Rattle.journal.specs.Disk.{Act as DiskAct}
 use Rattle.journal.specs.Files.{Content}
-use Rattle.journal.specs.Keeping.{Adding}
+use Rattle.journal.specs.Keeping.{Passage, Unchanged}
 use Rattle.tree_store.specs.declared.fault.StoreFault.{StoreFault}
 use Rattle.tree_store.specs.Running.{Store as TreeStore}
 use Rattle.tree_store.specs.Kept.{Kept, IsAs, Covers, Follows}
@@ -87,10 +87,10 @@ IsOpen None history kept hub = Unit {0}
 IsOpen (Some store) history kept hub = StandsOpen history store kept hub.service.state
 
 -- The world of the hub and what it knows of clients are kept, if there is a store.
-abbrev pub KeepsTree : {A D : Type 0} → Adding D → Hub A → Option TreeStore → Bool → Option TreeStore → D → D → Type 0
-KeepsTree adds hub None result None old new = (result ≡ true) × (new ≡ old)
-KeepsTree adds hub None result (Some store') old new = ⊥
-KeepsTree adds hub (Some store) result None old new = ⊥
-KeepsTree adds hub (Some store) result (Some store') old new =
+abbrev pub KeepsTree : {A D : Type 0} → Passage D → Hub A → Option TreeStore → Bool → Option TreeStore → Type 0
+KeepsTree p hub None result None = (result ≡ true) × Unchanged p
+KeepsTree p hub None result (Some store') = ⊥
+KeepsTree p hub (Some store) result None = ⊥
+KeepsTree p hub (Some store) result (Some store') =
     (s : State) → IsHub hub s → (done : Result (Unit {0}) StoreFault) × (result ≡ is_ok done)
-    × Keeps adds store s.served.state.realm.world (known_of s.served.state) done store' old new
+    × Keeps p store s.served.state.realm.world (known_of s.served.state) done store'

@@ -148,18 +148,26 @@ pub record Standing {A : Type 0} (stage : Stage) (o : Origin) (hub : Hub A) (pla
   pub adds : Adds o.first now (of_streams acts)
   pub fewer : left.more + admitted acts ≡ o.limits.connections
 
+-- what is there at a moment: the hub, the connections at the places, how many may still come with
+-- the store, and the acts of the streams, where they are known
+pub record Present (A : Type 0) : Type 0 where
+  pub hub : Hub A
+  pub places : List (Option (Peer A))
+  pub left : Left
+  pub acts : Option (List Act)
+
 -- from one stage to another, with these limits
-abbrev pub Moves : {A : Type 0} → Stage → Stage → Limits → Hub A → List (Option (Peer A)) → Left → Hub A
-    → List (Option (Peer A)) → Left → Option (List Act) → Option (List Act) → Type 0
-Moves stage stage' limits old places left new places' left' before after =
-    (o : Origin) → o.limits ≡ limits → Standing stage o old places left before
-    → Standing stage' o new places' left' after
+abbrev pub Moves : {A : Type 0} → Stage → Stage → Limits → Present A → Present A → Type 0
+Moves stage stage' limits old new =
+    (o : Origin) → o.limits ≡ limits → Standing stage o old.hub old.places old.left old.acts
+    → Standing stage' o new.hub new.places new.left new.acts
 
 -- a book that has come is loaded, or none has come, for any connections at the places
 abbrev pub Loads : {A : Type 0} → Hub A → Hub A → Option (List Act) → Option (List Act) → Type 0
 Loads {A} old new before after =
     (n : ℕ) (left : Left) (limits : Limits) (places : List (Option (Peer A)))
-    → Moves (Listening n) (Looking n) limits old places left new places left before after
+    → Moves (Listening n) (Looking n) limits (record { hub = old; places = places; left = left; acts = before })
+    (record { hub = new; places = places; left = left; acts = after })
 
 -- The stage after the keeping of the trail. The bytes that were read may be given, or serving
 -- stops.
@@ -167,13 +175,19 @@ abbrev pub kept_stage : Bool → ℕ → Stage
 kept_stage true n = Giving n
 kept_stage false n = Stopped Keep n
 
+-- what is there at one of the places: the hub, the connection of the place, if it has one, and the
+-- acts of the streams, where they are known
+pub record AtPlace (A : Type 0) : Type 0 where
+  pub hub : Hub A
+  pub peer : Option (Peer A)
+  pub acts : Option (List Act)
+
 -- whatever is at the other places, the connection of this place becomes another one, or goes
-abbrev pub Changes : {A : Type 0} → Stage → Stage → Limits → ℕ → Hub A → Option (Peer A) → Hub A → Option (Peer A)
-    → Option (List Act) → Option (List Act) → Type 0
-Changes {A} stage stage' limits place old peer new peer' before after =
+abbrev pub Changes : {A : Type 0} → Stage → Stage → Limits → ℕ → AtPlace A → AtPlace A → Type 0
+Changes {A} stage stage' limits place old new =
     (o : Origin) (left : Left) (places : List (Option (Peer A))) → o.limits ≡ limits → place < length places
-    → Standing stage o old (set places place peer) left before
-    → Standing stage' o new (set places place peer') left after
+    → Standing stage o old.hub (set places place old.peer) left old.acts
+    → Standing stage' o new.hub (set places place new.peer) left new.acts
 
 -- a read of the stream of a place, and what was read
 abbrev pub ReadGives : ℕ → Moved → List ℕ → Option (List Act) → Option (List Act) → Type 0
@@ -225,12 +239,6 @@ abbrev pub stored_stage : Bool → ℕ → Stage
 stored_stage true n = Answering n
 stored_stage false n = Stopped Store n
 
--- what outlives a restart is stored, or it couldn't be, for any connections at the places
-abbrev pub Stores : {A : Type 0} → Bool → Hub A → Left → Hub A → Left → Option (List Act) → Option (List Act) → Type 0
-Stores {A} result old left new left' before after =
-    (n : ℕ) (limits : Limits) (places : List (Option (Peer A)))
-    → Moves (Giving n) (stored_stage result n) limits old places left new places left' before after
-
 -- the stage after a turn, by the length of the next wait, or by why no replies may be written
 abbrev pub turned_stage : Result Pause Halt → ℕ → Stage
 turned_stage (Ok pause) n = Listening n
@@ -253,8 +261,7 @@ LeavesSo Store turns n left places = Unit {0}
 LeavesSo Memory turns n left places = ⊥
 
 -- from the beginning, after this many turns at most
-abbrev pub RunGives : {A : Type 0} → AllEnd → Limits → Hub A → List (Option (Peer A)) → Left → Hub A
-    → List (Option (Peer A)) → Left → Option (List Act) → Option (List Act) → Type 0
-RunGives end limits old places left new places' left' before after =
-    (n : ℕ) × (n ≤ limits.turns) × LeavesSo end limits.turns n left' places'
-    × Moves (Listening 0) (Stopped end n) limits old places left new places' left' before after
+abbrev pub RunGives : {A : Type 0} → AllEnd → Limits → Present A → Present A → Type 0
+RunGives end limits old new =
+    (n : ℕ) × (n ≤ limits.turns) × LeavesSo end limits.turns n new.left new.places
+    × Moves (Listening 0) (Stopped end n) limits old new

@@ -112,8 +112,9 @@ pub(crate) fn listen<A: Allocator + Copy, S: Streams<A>, C: Clock>(
     most: u64,
 ) -> Turned
     ensures { (n : ℕ) (limits : Limits) → limits.reads ≡ most →
-        Changes (Listening n) (Listening n) limits place hub.old (Some peer.old) hub.new (stays result peer.new)
-        (S.acts streams.old) (S.acts streams.new) }
+        Changes (Listening n) (Listening n) limits place
+        (record { hub = hub.old; peer = Some peer.old; acts = S.acts streams.old })
+        (record { hub = hub.new; peer = stays result peer.new; acts = S.acts streams.new }) }
 {
     if is_waiting(hub, peer.conn) {
         return Turned::Idle;
@@ -171,8 +172,9 @@ fn feed_front<A: Allocator + Copy, C: Clock>(
 ) -> usize
     requires whole { peer.old.fault ≡ None }
     ensures gives { (n place : ℕ) (limits : Limits) (now : Option (List Act)) →
-        Changes (Piecing n place most) (Unkept n place (most - result)) limits place hub.old (Some peer.old) hub.new
-        (Some peer.new) now now }
+        Changes (Piecing n place most) (Unkept n place (most - result)) limits place
+        (record { hub = hub.old; peer = Some peer.old; acts = now })
+        (record { hub = hub.new; peer = Some peer.new; acts = now }) }
     ensures within { result ≤ most }
     ensures further { peer.old.ahead ≢ [] → 0 < most → length peer.new.ahead < length peer.old.ahead }
 {
@@ -203,8 +205,9 @@ fn give_front<A: Allocator + Copy, S: Streams<A>, C: Clock>(
 ) -> Option<usize>
     requires whole { peer.old.fault ≡ None }
     ensures moves { (n : ℕ) (limits : Limits) →
-        Changes (Piecing n place most) (given_stage result n place) limits place hub.old (Some peer.old) hub.new
-        (Some peer.new) (S.acts streams.old) (S.acts streams.new) }
+        Changes (Piecing n place most) (given_stage result n place) limits place
+        (record { hub = hub.old; peer = Some peer.old; acts = S.acts streams.old })
+        (record { hub = hub.new; peer = Some peer.new; acts = S.acts streams.new }) }
     ensures further { peer.old.ahead ≢ [] → 0 < most → length peer.new.ahead < length peer.old.ahead }
 {
     let n = feed_front(hub, clock, peer, most);
@@ -225,8 +228,9 @@ pub(crate) fn give<A: Allocator + Copy, S: Streams<A>, C: Clock>(
     place: usize,
     peer: &mut Peer<A>,
 ) -> bool
-    ensures { (n : ℕ) (limits : Limits) → Changes (Giving n) (kept_stage result n) limits place hub.old (Some peer.old)
-        hub.new (Some peer.new) (S.acts streams.old) (S.acts streams.new) }
+    ensures { (n : ℕ) (limits : Limits) → Changes (Giving n) (kept_stage result n) limits place
+        (record { hub = hub.old; peer = Some peer.old; acts = S.acts streams.old })
+        (record { hub = hub.new; peer = Some peer.new; acts = S.acts streams.new }) }
 {
     let mut left = 0;
     while !peer.ahead.is_empty() {
@@ -254,8 +258,9 @@ pub(crate) fn answer<A: Allocator + Copy, S: Streams<A>, C: Clock>(
     place: usize,
     peer: &mut Peer<A>,
 ) -> Turned
-    ensures { (n : ℕ) (limits : Limits) → Changes (Answering n) (Answering n) limits place hub.old (Some peer.old)
-        hub.new (stays result peer.new) (S.acts streams.old) (S.acts streams.new) }
+    ensures { (n : ℕ) (limits : Limits) → Changes (Answering n) (Answering n) limits place
+        (record { hub = hub.old; peer = Some peer.old; acts = S.acts streams.old })
+        (record { hub = hub.new; peer = stays result peer.new; acts = S.acts streams.new }) }
 {
     let bytes = waiting(hub, peer.conn);
     if bytes.is_empty() {

@@ -71,8 +71,9 @@ fn admit<A: Allocator + Copy, S: Streams<A>, C: Clock>(
     requires free { place_at places.old index ≡ None }
     requires some { 0 < door.old.left }
     requires few { taken places.old < most_open door.old.limits }
-    ensures moves { (n : ℕ) → Moves (Knocking n) (Listening n) door.old.limits hub.old places.old (left_of door.old)
-        hub.new places.new (left_of door.new) (S.acts streams.old) (S.acts streams.new) }
+    ensures moves { (n : ℕ) → Moves (Knocking n) (Listening n) door.old.limits
+        (record { hub = hub.old; places = places.old; left = left_of door.old; acts = S.acts streams.old })
+        (record { hub = hub.new; places = places.new; left = left_of door.new; acts = S.acts streams.new }) }
     ensures len { length places.new ≡ length places.old }
     ensures most { door.new.limits ≡ door.old.limits }
 {
@@ -109,8 +110,9 @@ fn let_in<A: Allocator + Copy, S: Streams<A>, C: Clock>(
     requires within { index < length places.old }
     requires sixteen { length places.old ≤ 16 }
     requires free { place_at places.old index ≡ None }
-    ensures moves { (n : ℕ) → Moves (Listening n) (Listening n) door.old.limits hub.old places.old (left_of door.old)
-        hub.new places.new (left_of door.new) (S.acts streams.old) (S.acts streams.new) }
+    ensures moves { (n : ℕ) → Moves (Listening n) (Listening n) door.old.limits
+        (record { hub = hub.old; places = places.old; left = left_of door.old; acts = S.acts streams.old })
+        (record { hub = hub.new; places = places.new; left = left_of door.new; acts = S.acts streams.new }) }
     ensures len { length places.new ≡ length places.old }
     ensures most { door.new.limits ≡ door.old.limits }
 {
@@ -144,8 +146,9 @@ fn listen_at<A: Allocator + Copy, S: Streams<A>, C: Clock>(
 ) -> bool
     requires within { index < length places.old }
     requires sixteen { length places.old ≤ 16 }
-    ensures moves { (n : ℕ) → Moves (Listening n) (Listening n) door.old.limits hub.old places.old (left_of door.old)
-        hub.new places.new (left_of door.new) (S.acts streams.old) (S.acts streams.new) }
+    ensures moves { (n : ℕ) → Moves (Listening n) (Listening n) door.old.limits
+        (record { hub = hub.old; places = places.old; left = left_of door.old; acts = S.acts streams.old })
+        (record { hub = hub.new; places = places.new; left = left_of door.new; acts = S.acts streams.new }) }
     ensures len { length places.new ≡ length places.old }
     ensures most { door.new.limits ≡ door.old.limits }
 {
@@ -171,8 +174,9 @@ pub(crate) fn listen_all<A: Allocator + Copy, S: Streams<A>, C: Clock>(
     door: &mut Door<A>,
 ) -> bool
     requires { length places.old ≤ 16 }
-    ensures moves { (n : ℕ) → Moves (Listening n) (Listening n) door.old.limits hub.old places.old (left_of door.old)
-        hub.new places.new (left_of door.new) (S.acts streams.old) (S.acts streams.new) }
+    ensures moves { (n : ℕ) → Moves (Listening n) (Listening n) door.old.limits
+        (record { hub = hub.old; places = places.old; left = left_of door.old; acts = S.acts streams.old })
+        (record { hub = hub.new; places = places.new; left = left_of door.new; acts = S.acts streams.new }) }
     ensures most { door.new.limits ≡ door.old.limits }
 {
     let mut busy = false;
@@ -193,8 +197,9 @@ fn give_at<A: Allocator + Copy, S: Streams<A>, C: Clock>(
 ) -> bool
     requires within { index < length places.old }
     ensures moves { (n : ℕ) (left : Left) (limits : Limits) →
-        Moves (Giving n) (kept_stage result n) limits hub.old places.old left hub.new places.new left
-        (S.acts streams.old) (S.acts streams.new) }
+        Moves (Giving n) (kept_stage result n) limits
+        (record { hub = hub.old; places = places.old; left = left; acts = S.acts streams.old })
+        (record { hub = hub.new; places = places.new; left = left; acts = S.acts streams.new }) }
     ensures len { length places.new ≡ length places.old }
 {
     let Some(peer) = &mut places[index] else {
@@ -211,8 +216,9 @@ pub(crate) fn give_all<A: Allocator + Copy, S: Streams<A>, C: Clock>(
     places: &mut [Option<Peer<A>>],
 ) -> bool
     ensures moves { (n : ℕ) (left : Left) (limits : Limits) →
-        Moves (Giving n) (kept_stage result n) limits hub.old places.old left hub.new places.new left
-        (S.acts streams.old) (S.acts streams.new) }
+        Moves (Giving n) (kept_stage result n) limits
+        (record { hub = hub.old; places = places.old; left = left; acts = S.acts streams.old })
+        (record { hub = hub.new; places = places.new; left = left; acts = S.acts streams.new }) }
     ensures len { length places.new ≡ length places.old }
 {
     for index in 0..places.len() {
@@ -233,8 +239,9 @@ fn answer_at<A: Allocator + Copy, S: Streams<A>, C: Clock>(
 ) -> bool
     requires within { index < length places.old }
     ensures moves { (n : ℕ) (left : Left) (limits : Limits) →
-        Moves (Answering n) (Answering n) limits hub.old places.old left hub.new places.new left (S.acts streams.old)
-        (S.acts streams.new) }
+        Moves (Answering n) (Answering n) limits
+        (record { hub = hub.old; places = places.old; left = left; acts = S.acts streams.old })
+        (record { hub = hub.new; places = places.new; left = left; acts = S.acts streams.new }) }
     ensures len { length places.new ≡ length places.old }
 {
     let Some(peer) = &mut places[index] else {
@@ -258,8 +265,9 @@ pub(crate) fn answer_all<A: Allocator + Copy, S: Streams<A>, C: Clock>(
     places: &mut [Option<Peer<A>>],
 ) -> bool
     ensures { (n : ℕ) (left : Left) (limits : Limits) →
-        Moves (Answering n) (Answering n) limits hub.old places.old left hub.new places.new left (S.acts streams.old)
-        (S.acts streams.new) }
+        Moves (Answering n) (Answering n) limits
+        (record { hub = hub.old; places = places.old; left = left; acts = S.acts streams.old })
+        (record { hub = hub.new; places = places.new; left = left; acts = S.acts streams.new }) }
 {
     let mut busy = false;
     for index in 0..places.len() {
@@ -279,8 +287,9 @@ fn shut_at<A: Allocator + Copy, S: Streams<A>>(
 )
     requires within { index < length places.old }
     ensures moves { (stage : Stage) → IsClosing stage end → (left : Left) (limits : Limits) →
-        Moves stage (closed_stage stage) limits hub.old places.old left hub.new places.new left (S.acts streams.old)
-        (S.acts streams.new) }
+        Moves stage (closed_stage stage) limits
+        (record { hub = hub.old; places = places.old; left = left; acts = S.acts streams.old })
+        (record { hub = hub.new; places = places.new; left = left; acts = S.acts streams.new }) }
     ensures free { places.new ≡ set places.old index None }
 {
     let Some(peer) = &places[index] else {
@@ -297,8 +306,9 @@ pub(crate) fn shut_all<A: Allocator + Copy, S: Streams<A>>(
     places: &mut [Option<Peer<A>>],
 )
     ensures moves { (acts : List Act) (s : State) (left : Left) (limits : Limits) →
-        Moves (Ending acts s) (Ending acts s) limits hub.old places.old left hub.new places.new left
-        (S.acts streams.old) (S.acts streams.new) }
+        Moves (Ending acts s) (Ending acts s) limits
+        (record { hub = hub.old; places = places.old; left = left; acts = S.acts streams.old })
+        (record { hub = hub.new; places = places.new; left = left; acts = S.acts streams.new }) }
     ensures free { (index : ℕ) → place_at places.new index ≡ None }
 {
     for index in 0..places.len() {
@@ -333,8 +343,9 @@ fn let_go<A: Allocator + Copy, S: Streams<A>, C: Clock>(
     places: &mut [Option<Peer<A>>],
 ) -> Wait
     ensures { (n : ℕ) (left : Left) (limits : Limits) →
-        Moves (Full n) (Listening n) limits hub.old places.old left hub.new places.new left (S.acts streams.old)
-        (S.acts streams.new) }
+        Moves (Full n) (Listening n) limits
+        (record { hub = hub.old; places = places.old; left = left; acts = S.acts streams.old })
+        (record { hub = hub.new; places = places.new; left = left; acts = S.acts streams.new }) }
 {
     let Some(index) = quietest(places, clock.now().seconds) else {
         return Wait::Second;
@@ -353,8 +364,9 @@ pub(crate) fn make_room<A: Allocator + Copy, S: Streams<A>, C: Clock>(
     places: &mut [Option<Peer<A>>],
     door: &Door<A>,
 ) -> Wait
-    ensures { (n : ℕ) (left : Left) → Moves (Listening n) (Listening n) door.now.limits hub.old places.old left hub.new
-        places.new left (S.acts streams.old) (S.acts streams.new) }
+    ensures { (n : ℕ) (left : Left) → Moves (Listening n) (Listening n) door.now.limits
+        (record { hub = hub.old; places = places.old; left = left; acts = S.acts streams.old })
+        (record { hub = hub.new; places = places.new; left = left; acts = S.acts streams.new }) }
 {
     if door.left == 0 {
         return Wait::Event;

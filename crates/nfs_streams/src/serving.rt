@@ -1,6 +1,7 @@
 //! Serving all streams, one turn after another.
 ghost use Rattle.std.specs.Prelude.{◌≡◌, ◌≤◌, ℕ, List, Option, length, IfOk};
 ghost use Rattle.journal.specs.Disk.{Act as DiskAct};
+ghost use Rattle.journal.specs.Keeping.{passage};
 ghost use Rattle.tree_store.specs.Kept.{Kept};
 ghost use Rattle.nfs_hub.specs.Answer.{Served as ServedState};
 ghost use Rattle.nfs_hub.specs.Machine.{Event};
@@ -8,8 +9,8 @@ ghost use Rattle.nfs_hub.specs.Hub.{LeadsTo};
 ghost use Rattle.nfs_streams.specs.Acts.{Act};
 ghost use Rattle.nfs_streams.specs.Seats.{taken};
 ghost use Rattle.nfs_streams.specs.Keeping.{IsOpen, KeepsTree};
-ghost use Rattle.nfs_streams.specs.Standing.{Left, left_of, Listening, Giving, Loads, Moves, RunGives, Stores};
-ghost use Rattle.nfs_streams.specs.Standing.{turned_stage};
+ghost use Rattle.nfs_streams.specs.Standing.{Left, left_of, Listening, Giving, Loads, Moves, RunGives};
+ghost use Rattle.nfs_streams.specs.Standing.{stored_stage, turned_stage};
 ghost use Rattle.nfs_streams.specs.All.{ServesAll};
 
 use crate::peer::Peer;
@@ -81,7 +82,8 @@ fn load_book<A: Allocator + Copy, S: Streams<A>>(hub: &mut Hub<A>, streams: &mut
 /// Lets the most silent client go, if leases end and one is to go.
 fn expire<A: Allocator + Copy, C: Clock>(hub: &mut Hub<A>, clock: &C, limits: Limits)
     ensures { (n : ℕ) (left : Left) (places : List (Option (Peer A))) (now : Option (List Act)) →
-        Moves (Giving n) (Giving n) limits hub.old places left hub.new places left now now }
+        Moves (Giving n) (Giving n) limits (record { hub = hub.old; places = places; left = left; acts = now })
+        (record { hub = hub.new; places = places; left = left; acts = now }) }
 {
     if !limits.leases {
         return;
@@ -96,7 +98,7 @@ fn keep_tree<A: Allocator + Copy, S: Streams<A>>(
     alloc: A,
     store: &mut Option<Store<A>>,
 ) -> bool
-    ensures { KeepsTree S.adds hub.now store.old result store.new streams.old streams.new }
+    ensures { KeepsTree (passage S.adds streams.old streams.new) hub.now store.old result store.new }
 {
     let Some(store) = store else {
         return true;
@@ -112,8 +114,10 @@ fn store<A: Allocator + Copy, S: Streams<A>>(
     streams: &mut S,
     door: &mut Door<A>,
 ) -> bool
-    ensures stores { Stores result hub.old (left_of door.old) hub.new (left_of door.new) (S.acts streams.old)
-        (S.acts streams.new) }
+    ensures stores { (n : ℕ) (limits : Limits) (places : List (Option (Peer A))) →
+        Moves (Giving n) (stored_stage result n) limits
+        (record { hub = hub.old; places = places; left = left_of door.old; acts = S.acts streams.old })
+        (record { hub = hub.new; places = places; left = left_of door.new; acts = S.acts streams.new }) }
     ensures most { door.new.limits ≡ door.old.limits }
 {
     if !keep_tree(hub, streams, door.alloc, &mut door.store) {
@@ -137,8 +141,9 @@ fn turn<A: Allocator + Copy, S: Streams<A>, C: Clock>(
     door: &mut Door<A>,
 ) -> Result<Wait, Halt>
     requires { length places.old ≤ 16 }
-    ensures moves { (n : ℕ) → Moves (Listening n) (turned_stage result n) door.old.limits hub.old places.old
-        (left_of door.old) hub.new places.new (left_of door.new) (S.acts streams.old) (S.acts streams.new) }
+    ensures moves { (n : ℕ) → Moves (Listening n) (turned_stage result n) door.old.limits
+        (record { hub = hub.old; places = places.old; left = left_of door.old; acts = S.acts streams.old })
+        (record { hub = hub.new; places = places.new; left = left_of door.new; acts = S.acts streams.new }) }
     ensures most { door.new.limits ≡ door.old.limits }
 {
     let heard = listen_all(hub, streams, clock, places, door);
@@ -167,8 +172,9 @@ fn run<A: Allocator + Copy, S: Streams<A>, C: Clock>(
     door: &mut Door<A>,
 ) -> AllEnd
     requires { length places.old ≤ 16 }
-    ensures { RunGives result door.old.limits hub.old places.old (left_of door.old) hub.new places.new
-        (left_of door.new) (S.acts streams.old) (S.acts streams.new) }
+    ensures { RunGives result door.old.limits
+        (record { hub = hub.old; places = places.old; left = left_of door.old; acts = S.acts streams.old })
+        (record { hub = hub.new; places = places.new; left = left_of door.new; acts = S.acts streams.new }) }
 {
     let mut how = Wait::No;
     for _turn in 0..door.limits.turns {
@@ -200,7 +206,8 @@ fn serve_at<A: Allocator + Copy, S: Streams<A>, C: Clock>(
     requires all { door.left ≡ door.limits.connections }
     ensures { (first : ServedState) (events : List Event) → LeadsTo first events hub.old →
         (history : List DiskAct) (kept : Kept) → IsOpen door.store history kept hub.old →
-        ServesAll first events door.store history result door.limits hub.new (S.acts streams.old) (S.acts streams.new) }
+        ServesAll first events (record { limits = door.limits; store = door.store; history = history }) result
+        (record { hub = hub.old; acts = S.acts streams.old }) (record { hub = hub.new; acts = S.acts streams.new }) }
 {
     let end = run(hub, streams, clock, places, &mut door);
     shut_all(hub, streams, places);
@@ -257,7 +264,8 @@ pub fn serve_all<A: Allocator + Copy, S: Streams<A>, C: Clock>(
 ) -> AllEnd
     ensures { (first : ServedState) (events : List Event) → LeadsTo first events hub.old →
         (history : List DiskAct) (kept : Kept) → IsOpen store history kept hub.old →
-        ServesAll first events store history result limits hub.new (S.acts streams.old) (S.acts streams.new) }
+        ServesAll first events (record { limits = limits; store = store; history = history }) result
+        (record { hub = hub.old; acts = S.acts streams.old }) (record { hub = hub.new; acts = S.acts streams.new }) }
 {
     let Ok(mut places) = free_places(alloc) else {
         return AllEnd::Memory;

@@ -19,7 +19,7 @@ use Rattle.nfs_hub.specs.declared.hub.Hub.{Hub}
 use Rattle.nfs_hub.proofs.TurnLaws.{consumes_kept}
 use Rattle.nfs_tool.specs.Reloading.{Giving, Lent, Loads}
 use Rattle.nfs_tool.specs.ScriptLines.{Said, Run, Reload, is_skipped, line_in}
-use Rattle.nfs_tool.specs.Script.{is_answered, is_loaded, load_text, told_text, Tells, LineWrites, LinePrints, Print, is_within, joined, IsCut, IsScriptFault, Stands, Begins, Answered, Answers, GoesOn, Puts, IsTrailOf, WritesTrail, trail_line, trail_text, Finished, Finishes, Reads, ScriptGives}
+use Rattle.nfs_tool.specs.Script.{is_answered, is_loaded, load_text, told_text, Tells, LineWrites, LinePrints, Print, is_within, joined, IsCut, IsScriptFault, Stands, Begins, Answered, Answers, GoesOn, Puts, IsTrailOf, WritesTrail, trail_line, trail_text, Finished, Finishes, Reads, ScriptGives, output, printing, underway, unread, past}
 use Rattle.nfs_tool.specs.declared.reloading.LoadFault.{LoadFault}
 use Rattle.nfs_client.specs.declared.running.Answer.{Answer}
 use Rattle.nfs_tool.specs.declared.scripting.Progress.{Progress}
@@ -28,26 +28,26 @@ use Rattle.nfs_client.specs.declared.fault.ToolFault.{ToolFault}
 -- ---- one line
 
 pub asked_told : {A T : Type 0} (gives : Giving T) (old new : Lent A T) (line : List ℕ) (held held' : Option (List ℕ)) (said : Said) (told : Result (Answer A) ToolFault) (result : Result Bool ToolFault)
-    → is_skipped line ≡ false → line_in line ≡ Some (Run said) → new.texts ≡ old.texts → Tells (told_text told) (is_answered told) held held' result → LineWrites gives old new line held held' result
+    → is_skipped line ≡ false → line_in line ≡ Some (Run said) → new.texts ≡ old.texts → Tells (output (told_text told) (is_answered told)) held held' result → LineWrites gives (printing old held) (printing new held') line result
 asked_told gives old new line held held' said told (Ok good) asks is stays tells =
     (told_text told, inr (inr (inl (record { asks = asks; said = said; is = is; told = told; text = refl; answered = tells.0; stays = stays }))), tells.1)
 asked_told gives old new line held held' said told (Err fault) asks is stays tells = subst IsScriptFault (sym tells) tt
 
 pub reload_told : {A T : Type 0} (gives : Giving T) (old new : Lent A T) (line : List ℕ) (held held' : Option (List ℕ)) (name : List ℕ) (told : Result (Unit {0}) LoadFault) (result : Result Bool ToolFault)
-    → is_skipped line ≡ false → line_in line ≡ Some (Reload name) → Loads gives name old new told → Tells (load_text told) (is_loaded told) held held' result → LineWrites gives old new line held held' result
+    → is_skipped line ≡ false → line_in line ≡ Some (Reload name) → Loads gives name old new told → Tells (output (load_text told) (is_loaded told)) held held' result → LineWrites gives (printing old held) (printing new held') line result
 reload_told gives old new line held held' name told (Ok good) asks is loads tells =
     (load_text told, inr (inr (inr (record { asks = asks; name = name; is = is; told = told; loads = loads; text = refl; answered = tells.0 }))), tells.1)
 reload_told gives old new line held held' name told (Err fault) asks is loads tells = subst IsScriptFault (sym tells) tt
 
 -- a line is answered after earlier lines
-pub line_answered : {A T : Type 0} (gives : Giving T) (old new : Lent A T) (p q : Progress A) (line : List ℕ) (good : Bool) (held held' : Option (List ℕ)) → line ≡ p.line.items → LineWrites gives old new line held held' (Ok good)
-    → q.is_good ≡ (p.is_good && good) → q.line ≡ p.line → Answers gives old new p q held held' (Ok tt)
+pub line_answered : {A T : Type 0} (gives : Giving T) (old new : Lent A T) (p q : Progress A) (line : List ℕ) (good : Bool) (held held' : Option (List ℕ)) → line ≡ p.line.items → LineWrites gives (printing old held) (printing new held') line (Ok good)
+    → q.is_good ≡ (p.is_good && good) → q.line ≡ p.line → Answers gives (underway p (printing old held)) (underway q (printing new held')) (Ok tt)
 line_answered {A = A} gives old new p q line good held held' is writes both same first whole out before =
-    let P : List ℕ → Type 0 = λ l. LinePrints gives old new l writes.0 good in
+    let P : List ℕ → Type 0 = λ l. LinePrints gives old new l (output writes.0 good) in
     record {
       printed = writes.0;
       wrote = writes.2;
-      prints = (old, out, p.is_good, writes.0, good, before, subst P is writes.1, refl, both);
+      prints = (old, output out p.is_good, output writes.0 good, before, subst P is writes.1, refl, both);
       line = same;
     }
 
@@ -72,51 +72,51 @@ cut_line text lines last cut = record {
 
 -- a byte is appended to the part of a line that was read
 pub byte_taken : {A T : Type 0} (gives : Giving T) (lent : Lent A T) (p q : Progress A) (b : ℕ) (held : Option (List ℕ)) → b ≢ 10 → q.line.items ≡ p.line.items ++ b ∷ [] → q.is_good ≡ p.is_good
-    → GoesOn gives lent lent p q (b ∷ []) held held (Ok tt)
-byte_taken {A = A} {T = T} gives lent p q b held other line good first text out stands =
-    let Q : List ℕ → Type 0 = λ l. IsCut (text ++ b ∷ []) stands.whole l in
-    let R : Bool → Type 0 = λ g. Print gives first lent stands.whole out g in
-    let S : List ℕ → Type 0 = λ o. Stands gives first lent q (text ++ b ∷ []) o in
-    let taken : Stands gives first lent q (text ++ b ∷ []) out = record {
+    → GoesOn gives (underway p (printing lent held)) (underway q (printing lent held)) (b ∷ []) (Ok tt)
+byte_taken {A = A} {T = T} gives lent p q b held other line good before stands =
+    let Q : List ℕ → Type 0 = λ l. IsCut (before.read ++ b ∷ []) stands.whole l in
+    let R : Bool → Type 0 = λ g. Print gives before.first lent stands.whole (output before.printed g) in
+    let S : List ℕ → Type 0 = λ o. Stands gives (past before.first (before.read ++ b ∷ []) o) (underway q (printing lent held)) in
+    let taken : Stands gives (past before.first (before.read ++ b ∷ []) before.printed) (underway q (printing lent held)) = record {
       whole = stands.whole;
-      cut = subst Q (sym line) (cut_byte text stands.whole p.line.items b other stands.cut);
-      printed = subst R (sym good) stands.printed;
+      cut = subst Q (sym line) (cut_byte before.read stands.whole p.line.items b other stands.cut);
+      prints = subst R (sym good) stands.prints;
     } in
-    ([], appends_none held, subst S (sym (append-nil out)) taken)
+    ([], appends_none held, subst S (sym (append-nil before.printed)) taken)
 
 -- a line ends
-pub line_ended : {A T : Type 0} (gives : Giving T) (old new : Lent A T) (p mid q : Progress A) (b : ℕ) (held held' : Option (List ℕ)) → b ≡ 10 → Answers gives old new p mid held held' (Ok tt) → q.line.items ≡ [] → q.is_good ≡ mid.is_good
-    → GoesOn gives old new p q (b ∷ []) held held' (Ok tt)
-line_ended {A = A} {T = T} gives old new p mid q b held held' newline answers line good first text out stands =
-    let a : Answered gives first new p mid held held' stands.whole out = answers first stands.whole out stands.printed in
-    let N : ℕ → Type 0 = λ n. IsCut (text ++ n ∷ []) (p.line.items ∷ stands.whole) q.line.items in
-    let Q : List ℕ → Type 0 = λ l. IsCut (text ++ 10 ∷ []) (p.line.items ∷ stands.whole) l in
-    let R : Bool → Type 0 = λ g. Print gives first new (p.line.items ∷ stands.whole) (out ++ a.printed) g in (
+pub line_ended : {A T : Type 0} (gives : Giving T) (old new : Lent A T) (p mid q : Progress A) (b : ℕ) (held held' : Option (List ℕ)) → b ≡ 10 → Answers gives (underway p (printing old held)) (underway mid (printing new held')) (Ok tt) → q.line.items ≡ [] → q.is_good ≡ mid.is_good
+    → GoesOn gives (underway p (printing old held)) (underway q (printing new held')) (b ∷ []) (Ok tt)
+line_ended {A = A} {T = T} gives old new p mid q b held held' newline answers line good before stands =
+    let a : Answered gives (past before.first stands.whole before.printed) (underway p (printing old held)) (underway mid (printing new held')) = answers before.first stands.whole before.printed stands.prints in
+    let N : ℕ → Type 0 = λ n. IsCut (before.read ++ n ∷ []) (p.line.items ∷ stands.whole) q.line.items in
+    let Q : List ℕ → Type 0 = λ l. IsCut (before.read ++ 10 ∷ []) (p.line.items ∷ stands.whole) l in
+    let R : Bool → Type 0 = λ g. Print gives before.first new (p.line.items ∷ stands.whole) (output (before.printed ++ a.printed) g) in (
       a.printed,
       a.wrote,
       record {
         whole = p.line.items ∷ stands.whole;
-        cut = subst N (sym newline) (subst Q (sym line) (cut_line text stands.whole p.line.items stands.cut));
-        printed = subst R (sym good) a.prints;
+        cut = subst N (sym newline) (subst Q (sym line) (cut_line before.read stands.whole p.line.items stands.cut));
+        prints = subst R (sym good) a.prints;
       },
     )
 
 -- ---- pieces
 
-pub goes_nowhere : {A T : Type 0} (gives : Giving T) (lent : Lent A T) (p : Progress A) (held : Option (List ℕ)) → GoesOn gives lent lent p p [] held held (Ok tt)
-goes_nowhere gives lent p held first text out stands =
-    let S : List ℕ → Type 0 = λ t. Stands gives first lent p t (out ++ []) in
-    let O : List ℕ → Type 0 = λ o. Stands gives first lent p text o in
-    ([], appends_none held, subst S (sym (append-nil text)) (subst O (sym (append-nil out)) stands))
+pub goes_nowhere : {A T : Type 0} (gives : Giving T) (lent : Lent A T) (p : Progress A) (held : Option (List ℕ)) → GoesOn gives (underway p (printing lent held)) (underway p (printing lent held)) [] (Ok tt)
+goes_nowhere gives lent p held before stands =
+    let S : List ℕ → Type 0 = λ t. Stands gives (past before.first t (before.printed ++ [])) (underway p (printing lent held)) in
+    let O : List ℕ → Type 0 = λ o. Stands gives (past before.first before.read o) (underway p (printing lent held)) in
+    ([], appends_none held, subst S (sym (append-nil before.read)) (subst O (sym (append-nil before.printed)) stands))
 
-pub goes_further : {A T : Type 0} (gives : Giving T) (x y z : Lent A T) (a b c : Progress A) (front more : List ℕ) (held held' held'' : Option (List ℕ)) → GoesOn gives x y a b front held held' (Ok tt) → GoesOn gives y z b c more held' held'' (Ok tt)
-    → GoesOn gives x z a c (front ++ more) held held'' (Ok tt)
-goes_further gives x y z a b c front more held held' held'' one two first text out stands =
-    let p = one first text out stands in
-    let q = two first (text ++ front) (out ++ p.0) p.2 in
-    let S : List ℕ → Type 0 = λ t. Stands gives first z c t ((out ++ p.0) ++ q.0) in
-    let O : List ℕ → Type 0 = λ o. Stands gives first z c (text ++ (front ++ more)) o in
-    (p.0 ++ q.0, appends_trans held held' held'' p.0 q.0 p.1 q.1, subst O (append_assoc out p.0 q.0) (subst S (append_assoc text front more) q.2))
+pub goes_further : {A T : Type 0} (gives : Giving T) (x y z : Lent A T) (a b c : Progress A) (front more : List ℕ) (held held' held'' : Option (List ℕ)) → GoesOn gives (underway a (printing x held)) (underway b (printing y held')) front (Ok tt) → GoesOn gives (underway b (printing y held')) (underway c (printing z held'')) more (Ok tt)
+    → GoesOn gives (underway a (printing x held)) (underway c (printing z held'')) (front ++ more) (Ok tt)
+goes_further gives x y z a b c front more held held' held'' one two before stands =
+    let p = one before stands in
+    let q = two (past before.first (before.read ++ front) (before.printed ++ p.0)) p.2 in
+    let S : List ℕ → Type 0 = λ t. Stands gives (past before.first t ((before.printed ++ p.0) ++ q.0)) (underway c (printing z held'')) in
+    let O : List ℕ → Type 0 = λ o. Stands gives (past before.first (before.read ++ (front ++ more)) o) (underway c (printing z held'')) in
+    (p.0 ++ q.0, appends_trans held held' held'' p.0 q.0 p.1 q.1, subst O (append_assoc before.printed p.0 q.0) (subst S (append_assoc before.read front more) q.2))
 
 -- ---- the trail
 
@@ -174,24 +174,24 @@ pub record Running {A T : Type 0} (gives : Giving T) (old new : Lent A T) (p : P
   pub reads : Reads count left left'
   pub out : List ℕ
   pub wrote : Appends held held' out
-  pub stands : Stands gives old new p (concat reads.pieces) out
+  pub stands : Stands gives (past old (concat reads.pieces) out) (underway p (printing new held'))
 
 pub runs_none : {A T : Type 0} (gives : Giving T) (lent : Lent A T) (p : Progress A) (left held : Option (List ℕ)) → Begins p → Running gives lent lent p 0 left left held held
 runs_none gives lent p left held begins =
     let Q : List ℕ → Type 0 = λ l. IsCut [] [] l in
-    let R : Bool → Type 0 = λ g. Print gives lent lent [] [] g in
+    let R : Bool → Type 0 = λ g. Print gives lent lent [] (output [] g) in
     record {
       reads = record { pieces = []; are = All-nil IsPiece; few = omega arith; read = consumes_none left };
       out = [];
       wrote = appends_none held;
-      stands = record { whole = []; cut = subst Q (sym begins.0) (record { parts = refl; are_lines = tt; is_line = refl }); printed = subst R (sym begins.1) (refl, refl, refl) };
+      stands = record { whole = []; cut = subst Q (sym begins.0) (record { parts = refl; are_lines = tt; is_line = refl }); prints = subst R (sym begins.1) (refl, refl, refl) };
     }
 
 pub runs_further : {A T : Type 0} (gives : Giving T) (x y z : Lent A T) (p q : Progress A) (count : ℕ) (piece : List ℕ) (left left' left'' held held' held'' : Option (List ℕ)) → Running gives x y p count left left' held held'
-    → IsPiece piece → Consumes left' left'' piece → GoesOn gives y z p q piece held' held'' (Ok tt) → Running gives x z q (count + 1) left left'' held held''
+    → IsPiece piece → Consumes left' left'' piece → GoesOn gives (underway p (printing y held')) (underway q (printing z held'')) piece (Ok tt) → Running gives x z q (count + 1) left left'' held held''
 runs_further gives x y z p q count piece left left' left'' held held' held'' r is more goes =
-    let g = goes x (concat r.reads.pieces) r.out r.stands in
-    let S : List ℕ → Type 0 = λ t. Stands gives x z q t (r.out ++ g.0) in
+    let g = goes (past x (concat r.reads.pieces) r.out) r.stands in
+    let S : List ℕ → Type 0 = λ t. Stands gives (past x t (r.out ++ g.0)) (underway q (printing z held'')) in
     record {
       reads = reads_more r.reads piece left'' (count + 1) (omega arith) is more;
       out = r.out ++ g.0;
@@ -200,9 +200,9 @@ runs_further gives x y z p q count piece left left' left'' held held' held'' r i
     }
 
 pub script_ended : {A T : Type 0} (gives : Giving T) (x y z : Lent A T) (p : Progress A) (count n : ℕ) (buf : List ℕ) (left left' left'' held held' held'' : Option (List ℕ)) (result : Result Bool ToolFault)
-    → Running gives x y p count left left' held held' → count < 1000000 → n ≡ 0 → Consumes left' left'' (take n buf) → IsAtEnd left'' → Finishes gives y z p held' held'' result → ScriptGives gives x z left left'' held held'' result
+    → Running gives x y p count left left' held held' → count < 1000000 → n ≡ 0 → Consumes left' left'' (take n buf) → IsAtEnd left'' → Finishes gives (underway p (printing y held')) (printing z held'') result → ScriptGives gives (unread left (printing x held)) (unread left'' (printing z held'')) result
 script_ended {A = A} {T = T} gives x y z p count n buf left left' left'' held held' held'' (Ok good) r below none more ends finishes =
-    let f : Finished gives x z p good held' held'' (concat r.reads.pieces) r.out = finishes x (concat r.reads.pieces) r.out r.stands in
+    let f : Finished gives (past x (concat r.reads.pieces) r.out) (underway p (printing y held')) (printing z held'') good = finishes (past x (concat r.reads.pieces) r.out) r.stands in
     let C : ℕ → Type 0 = λ m. Consumes left' left'' (take m buf) in
     let W : List ℕ → Type 0 = λ o. Appends held held'' o in
     record {

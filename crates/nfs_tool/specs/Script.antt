@@ -19,6 +19,7 @@ use Rattle.nfs_tool.specs.Reloading.{Giving, Lent, Loads}
 use Rattle.nfs_client.specs.Running.{Runs}
 use Rattle.nfs_tool.specs.ScriptLines.{Said, Run, Reload, is_skipped, line_in}
 use Rattle.nfs_client.specs.Sessions.{OpenGives}
+use Rattle.nfs_client.specs.Streams.{Directions}
 use Rattle.nfs_client.specs.declared.client.Client.{Client}
 use Rattle.nfs_tool.specs.declared.reloading.LoadFault.{LoadFault}
 use Rattle.nfs_tool.specs.declared.reloading.LoadFault.TheVariants.{NoText, NoBook, Exhausted}
@@ -34,15 +35,15 @@ abbrev pub owner : List ℕ
 owner = codes "nfsc"
 
 -- the command of a client with a session of its own, over a stream; or no session is opened
-abbrev pub RunsOver : {S A : Type 0} → (S → Option (List ℕ)) → (S → Option (List ℕ)) → S → Said → List ℕ
-    → Result (Answer A) ToolFault → Type 0
-RunsOver {S} {A} contents remaining stream said verifier told =
+abbrev pub RunsOver : {S A : Type 0} → Directions S → S → Said → List ℕ → Result (Answer A) ToolFault → Type 0
+RunsOver {S} {A} directions stream said verifier told =
     ((fault : ToolFault)
-    × OpenGives {S = S} {A = A} contents remaining stream said.uid said.gid owner verifier (Err fault)
+    × OpenGives {S = S} {A = A} directions stream said.uid said.gid (record { id = owner; verifier = verifier })
+    (Err fault)
     × (told ≡ Err fault))
     ⊎ ((old : Client S A) × (new : Client S A)
-    × OpenGives contents remaining stream said.uid said.gid owner verifier (Ok old)
-    × Runs contents remaining said.command old new told)
+    × OpenGives directions stream said.uid said.gid (record { id = owner; verifier = verifier }) (Ok old)
+    × Runs directions said.command old new told)
 
 -- a client whose connection isn't opened can't write to it
 abbrev pub unconnected : HubFault → ToolFault
@@ -100,45 +101,52 @@ is_loaded (Err fault) = false
 
 -- ---- one line, by the hub and the texts before it and after it
 
+-- what is printed, and whether nothing of it is `bad line`, `failed` or `book`
+pub record Output : Type 0 where
+  pub text : List ℕ
+  pub good : Bool
+
+abbrev pub output : List ℕ → Bool → Output
+output text good = record { text = text; good = good }
+
 -- the answer to a command is printed; the texts stay
-pub record Asked {A T : Type 0} (old new : Lent A T) (line out : List ℕ) (good : Bool) : Type 0 where
+pub record Asked {A T : Type 0} (old new : Lent A T) (line : List ℕ) (out : Output) : Type 0 where
   pub asks : is_skipped line ≡ false
   pub said : Said
   pub is : line_in line ≡ Some (Run said)
   pub told : Result (Answer A) ToolFault
-  pub text : out ≡ told_text told
-  pub answered : good ≡ is_answered told
+  pub text : out.text ≡ told_text told
+  pub answered : out.good ≡ is_answered told
   pub stays : new.texts ≡ old.texts
 
 -- another book is loaded, or isn't, and that is printed
-pub record Reloaded {A T : Type 0} (gives : Giving T) (old new : Lent A T) (line out : List ℕ)
-    (good : Bool) : Type 0 where
+pub record Reloaded {A T : Type 0} (gives : Giving T) (old new : Lent A T) (line : List ℕ)
+    (out : Output) : Type 0 where
   pub asks : is_skipped line ≡ false
   pub name : List ℕ
   pub is : line_in line ≡ Some (Reload name)
   pub told : Result (Unit {0}) LoadFault
   pub loads : Loads gives name old new told
-  pub text : out ≡ load_text told
-  pub answered : good ≡ is_loaded told
+  pub text : out.text ≡ load_text told
+  pub answered : out.good ≡ is_loaded told
 
--- The effect and the text of a line, and whether the text is neither `bad line` nor `failed` nor
--- `book`. A skipped line prints no text.
-abbrev pub LinePrints : {A T : Type 0} → Giving T → Lent A T → Lent A T → List ℕ → List ℕ → Bool → Type 0
-LinePrints gives old new line out good =
-    ((is_skipped line ≡ true) × (out ≡ []) × (good ≡ true) × (new ≡ old))
-    ⊎ ((is_skipped line ≡ false) × (line_in line ≡ None) × (out ≡ bad_line) × (good ≡ false) × (new ≡ old))
-    ⊎ Asked old new line out good
-    ⊎ Reloaded gives old new line out good
+-- The effect and the output of a line. A skipped line prints no text.
+abbrev pub LinePrints : {A T : Type 0} → Giving T → Lent A T → Lent A T → List ℕ → Output → Type 0
+LinePrints gives old new line out =
+    ((is_skipped line ≡ true) × (out.text ≡ []) × (out.good ≡ true) × (new ≡ old))
+    ⊎ ((is_skipped line ≡ false) × (line_in line ≡ None) × (out.text ≡ bad_line) × (out.good ≡ false) × (new ≡ old))
+    ⊎ Asked old new line out
+    ⊎ Reloaded gives old new line out
 
 -- ---- lines, the last of them first
 
--- the effects and the texts of lines in order, and whether no text is `bad line`, `failed` or `book`
-abbrev pub Print : {A T : Type 0} → Giving T → Lent A T → Lent A T → List (List ℕ) → List ℕ → Bool → Type 0
-Print gives old new [] out good = (new ≡ old) × (out ≡ []) × (good ≡ true)
-Print {A = A} {T = T} gives old new (line ∷ before) out good =
-    (mid : Lent A T) × (earlier : List ℕ) × (was_good : Bool) × (printed : List ℕ) × (is_good : Bool)
-    × Print gives old mid before earlier was_good
-    × LinePrints gives mid new line printed is_good × (out ≡ earlier ++ printed) × (good ≡ (was_good && is_good))
+-- the effects and the outputs of lines in order
+abbrev pub Print : {A T : Type 0} → Giving T → Lent A T → Lent A T → List (List ℕ) → Output → Type 0
+Print gives old new [] out = (new ≡ old) × (out.text ≡ []) × (out.good ≡ true)
+Print {A = A} {T = T} gives old new (line ∷ before) out =
+    (mid : Lent A T) × (earlier : Output) × (printed : Output) × Print gives old mid before earlier
+    × LinePrints gives mid new line printed × (out.text ≡ earlier.text ++ printed.text)
+    × (out.good ≡ (earlier.good && printed.good))
 
 abbrev pub is_within : ℕ → Bool
 is_within b = not (b == 10)
@@ -180,12 +188,45 @@ IsScriptFault Write = Unit {0}
 IsScriptFault Memory = Unit {0}
 IsScriptFault fault = ⊥
 
--- the state of a script with this hub and these texts after this text, with the printed text
-pub record Stands {A T : Type 0} (gives : Giving T) (old new : Lent A T) (p : Progress A)
-    (text out : List ℕ) : Type 0 where
+-- the hub and the texts that a script is lent, with what its writer holds
+pub record Printing (A T : Type 0) : Type 0 where
+  pub lent : Lent A T
+  pub held : Option (List ℕ)
+
+abbrev pub printing : {A T : Type 0} → Lent A T → Option (List ℕ) → Printing A T
+printing lent held = record { lent = lent; held = held }
+
+-- the same, with the progress of the script
+pub record Underway (A T : Type 0) : Type 0 where
+  pub progress : Progress A
+  pub printing : Printing A T
+
+abbrev pub underway : {A T : Type 0} → Progress A → Printing A T → Underway A T
+underway progress printing = record { progress = progress; printing = printing }
+
+-- the same, with what is left of the script for its reader
+pub record Unread (A T : Type 0) : Type 0 where
+  pub left : Option (List ℕ)
+  pub printing : Printing A T
+
+abbrev pub unread : {A T : Type 0} → Option (List ℕ) → Printing A T → Unread A T
+unread left printing = record { left = left; printing = printing }
+
+-- a script up to now: the hub and the texts as it found them, what was read of it (a text, or lines),
+-- and what was printed
+pub record Past (A T X : Type 0) : Type 0 where
+  pub first : Lent A T
+  pub read : X
+  pub printed : List ℕ
+
+abbrev pub past : {A T X : Type 0} → Lent A T → X → List ℕ → Past A T X
+past first read printed = record { first = first; read = read; printed = printed }
+
+-- the state of a script after the text that it read
+pub record Stands {A T : Type 0} (gives : Giving T) (before : Past A T (List ℕ)) (here : Underway A T) : Type 0 where
   pub whole : List (List ℕ)
-  pub cut : IsCut text whole p.line.items
-  pub printed : Print gives old new whole out p.is_good
+  pub cut : IsCut before.read whole here.progress.line.items
+  pub prints : Print gives before.first here.printing.lent whole (output before.printed here.progress.is_good)
 
 -- no bytes were read
 abbrev pub Begins : {A : Type 0} → Progress A → Type 0
@@ -200,40 +241,43 @@ Puts text held held' (Err fault) = fault ≡ Write
 abbrev pub WritesLine : {X : Type 0} → List ℕ → Option (List ℕ) → Option (List ℕ) → Result X ToolFault → Type 0
 WritesLine text held held' result = Puts (text ++ 10 ∷ []) held held' result
 
--- a text is printed, and whether it is neither `bad line` nor `failed`
-abbrev pub Tells : List ℕ → Bool → Option (List ℕ) → Option (List ℕ) → Result Bool ToolFault → Type 0
-Tells text good held held' (Ok told) = (told ≡ good) × Appends held held' text
-Tells text good held held' (Err fault) = fault ≡ Write
+-- an output is printed, and whether it is good is answered; or the writer fails
+abbrev pub Tells : Output → Option (List ℕ) → Option (List ℕ) → Result Bool ToolFault → Type 0
+Tells out held held' (Ok told) = (told ≡ out.good) × Appends held held' out.text
+Tells out held held' (Err fault) = fault ≡ Write
 
 -- the text of a line is written
-abbrev pub LineWrites : {A T : Type 0} → Giving T → Lent A T → Lent A T → List ℕ → Option (List ℕ) → Option (List ℕ)
-    → Result Bool ToolFault → Type 0
-LineWrites gives old new line held held' (Ok good) =
-    (printed : List ℕ) × LinePrints gives old new line printed good × Appends held held' printed
-LineWrites gives old new line held held' (Err fault) = IsScriptFault fault
+abbrev pub LineWrites : {A T : Type 0} → Giving T → Printing A T → Printing A T → List ℕ → Result Bool ToolFault
+    → Type 0
+LineWrites gives old new line (Ok good) =
+    (printed : List ℕ) × LinePrints gives old.lent new.lent line (output printed good)
+    × Appends old.held new.held printed
+LineWrites gives old new line (Err fault) = IsScriptFault fault
 
 -- the line that was read so far is answered after these lines, and stays
-pub record Answered {A T : Type 0} (gives : Giving T) (first new : Lent A T) (p q : Progress A)
-    (held held' : Option (List ℕ)) (whole : List (List ℕ)) (out : List ℕ) : Type 0 where
+pub record Answered {A T : Type 0} (gives : Giving T) (before : Past A T (List (List ℕ)))
+    (old new : Underway A T) : Type 0 where
   pub printed : List ℕ
-  pub wrote : Appends held held' printed
-  pub prints : Print gives first new (p.line.items ∷ whole) (out ++ printed) q.is_good
-  pub line : q.line ≡ p.line
+  pub wrote : Appends old.printing.held new.printing.held printed
+  pub prints : Print gives before.first new.printing.lent (old.progress.line.items ∷ before.read)
+      (output (before.printed ++ printed) new.progress.is_good)
+  pub line : new.progress.line ≡ old.progress.line
 
-abbrev pub Answers : {A T : Type 0} → Giving T → Lent A T → Lent A T → Progress A → Progress A → Option (List ℕ)
-    → Option (List ℕ) → Result (Unit {0}) ToolFault → Type 0
-Answers {A = A} {T = T} gives old new p q held held' (Ok done) =
-    (first : Lent A T) → (whole : List (List ℕ)) → (out : List ℕ) → Print gives first old whole out p.is_good
-    → Answered gives first new p q held held' whole out
-Answers gives old new p q held held' (Err fault) = IsScriptFault fault
+abbrev pub Answers : {A T : Type 0} → Giving T → Underway A T → Underway A T → Result (Unit {0}) ToolFault → Type 0
+Answers {A = A} {T = T} gives old new (Ok done) =
+    (first : Lent A T) → (whole : List (List ℕ)) → (out : List ℕ)
+    → Print gives first old.printing.lent whole (output out old.progress.is_good)
+    → Answered gives (past first whole out) old new
+Answers gives old new (Err fault) = IsScriptFault fault
 
 -- the script goes on after this piece, and the text printed for it is written
-abbrev pub GoesOn : {A T : Type 0} → Giving T → Lent A T → Lent A T → Progress A → Progress A → List ℕ
-    → Option (List ℕ) → Option (List ℕ) → Result (Unit {0}) ToolFault → Type 0
-GoesOn {A = A} {T = T} gives old new p q piece held held' (Ok done) =
-    (first : Lent A T) → (text : List ℕ) → (out : List ℕ) → Stands gives first old p text out
-    → (printed : List ℕ) × Appends held held' printed × Stands gives first new q (text ++ piece) (out ++ printed)
-GoesOn gives old new p q piece held held' (Err fault) = IsScriptFault fault
+abbrev pub GoesOn : {A T : Type 0} → Giving T → Underway A T → Underway A T → List ℕ → Result (Unit {0}) ToolFault
+    → Type 0
+GoesOn {A = A} {T = T} gives old new piece (Ok done) =
+    (before : Past A T (List ℕ)) → Stands gives before old
+    → (printed : List ℕ) × Appends old.printing.held new.printing.held printed
+    × Stands gives (past before.first (before.read ++ piece) (before.printed ++ printed)) new
+GoesOn gives old new piece (Err fault) = IsScriptFault fault
 
 -- the trail of a hub is written
 abbrev pub WritesTrail : {A X : Type 0} → Hub A → Option (List ℕ) → Option (List ℕ) → Result X ToolFault → Type 0
@@ -241,22 +285,21 @@ WritesTrail hub held held' (Ok x) = (text : List ℕ) × IsTrailOf hub text × A
 WritesTrail hub held held' (Err fault) = fault ≡ Write
 
 -- the last line is answered, and after it comes the trail of the hub in its state then
-pub record Finished {A T : Type 0} (gives : Giving T) (first new : Lent A T) (p : Progress A) (good : Bool)
-    (held held' : Option (List ℕ)) (text out : List ℕ) : Type 0 where
+pub record Finished {A T : Type 0} (gives : Giving T) (before : Past A T (List ℕ)) (old : Underway A T)
+    (new : Printing A T) (good : Bool) : Type 0 where
   pub whole : List (List ℕ)
-  pub cut : IsCut text whole p.line.items
+  pub cut : IsCut before.read whole old.progress.line.items
   pub printed : List ℕ
-  pub prints : Print gives first new (p.line.items ∷ whole) (out ++ printed) good
+  pub prints : Print gives before.first new.lent (old.progress.line.items ∷ whole)
+      (output (before.printed ++ printed) good)
   pub trail : List ℕ
-  pub is_trail : IsTrailOf new.hub trail
-  pub wrote : Appends held held' (printed ++ trail)
+  pub is_trail : IsTrailOf new.lent.hub trail
+  pub wrote : Appends old.printing.held new.held (printed ++ trail)
 
-abbrev pub Finishes : {A T : Type 0} → Giving T → Lent A T → Lent A T → Progress A → Option (List ℕ) → Option (List ℕ)
-    → Result Bool ToolFault → Type 0
-Finishes {A = A} {T = T} gives old new p held held' (Ok good) =
-    (first : Lent A T) → (text : List ℕ) → (out : List ℕ) → Stands gives first old p text out
-    → Finished gives first new p good held held' text out
-Finishes gives old new p held held' (Err fault) = IsScriptFault fault
+abbrev pub Finishes : {A T : Type 0} → Giving T → Underway A T → Printing A T → Result Bool ToolFault → Type 0
+Finishes {A = A} {T = T} gives old new (Ok good) =
+    (before : Past A T (List ℕ)) → Stands gives before old → Finished gives before old new good
+Finishes gives old new (Err fault) = IsScriptFault fault
 
 -- the most reads of a script
 abbrev pub MOST_READS : ℕ
@@ -271,20 +314,18 @@ pub record Reads (most : ℕ) (left left' : Option (List ℕ)) : Type 0 where
 
 -- All of the reader was read, and each of its lines was answered; after them comes the trail of the
 -- hub in its state then. The read that finds the end is one of the most reads.
-pub record Ended {A T : Type 0} (gives : Giving T) (old new : Lent A T) (good : Bool)
-    (left left' held held' : Option (List ℕ)) : Type 0 where
-  pub reads : Reads (MOST_READS - 1) left left'
-  pub at_end : IsAtEnd left'
+pub record Ended {A T : Type 0} (gives : Giving T) (old new : Unread A T) (good : Bool) : Type 0 where
+  pub reads : Reads (MOST_READS - 1) old.left new.left
+  pub at_end : IsAtEnd new.left
   pub whole : List (List ℕ)
   pub last : List ℕ
   pub cut : IsCut (concat reads.pieces) whole last
   pub printed : List ℕ
-  pub prints : Print gives old new (last ∷ whole) printed good
+  pub prints : Print gives old.printing.lent new.printing.lent (last ∷ whole) (output printed good)
   pub trail : List ℕ
-  pub is_trail : IsTrailOf new.hub trail
-  pub wrote : Appends held held' (printed ++ trail)
+  pub is_trail : IsTrailOf new.printing.lent.hub trail
+  pub wrote : Appends old.printing.held new.printing.held (printed ++ trail)
 
-abbrev pub ScriptGives : {A T : Type 0} → Giving T → Lent A T → Lent A T → Option (List ℕ) → Option (List ℕ)
-    → Option (List ℕ) → Option (List ℕ) → Result Bool ToolFault → Type 0
-ScriptGives gives old new left left' held held' (Ok good) = Ended gives old new good left left' held held'
-ScriptGives gives old new left left' held held' (Err fault) = IsScriptFault fault × Reads MOST_READS left left'
+abbrev pub ScriptGives : {A T : Type 0} → Giving T → Unread A T → Unread A T → Result Bool ToolFault → Type 0
+ScriptGives gives old new (Ok good) = Ended gives old new good
+ScriptGives gives old new (Err fault) = IsScriptFault fault × Reads MOST_READS old.left new.left

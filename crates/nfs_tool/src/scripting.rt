@@ -2,11 +2,12 @@
 //! lines that load another book.
 ghost use Rattle.std.specs.Prelude.{◌≡◌, ◌∷◌, [], ◌&&◌, ◌++◌, false, true, Ok, map, option_map, length, codes, decimal};
 ghost use Rattle.std.specs.List.{flat_map};
+ghost use Rattle.nfs_client.specs.Streams.{directions_of};
 ghost use Rattle.nfs_tool.specs.Reloading.{lent};
 ghost use Rattle.nfs_tool.specs.Script.{RunsOver, unconnected, is_refusal, is_answered, is_loaded, fault_line};
 ghost use Rattle.nfs_tool.specs.Script.{bad_line, book_number, book_text, told_text, load_text, trail_line, Puts};
 ghost use Rattle.nfs_tool.specs.Script.{WritesLine, Tells, LineWrites, Begins, Answers, GoesOn, WritesTrail, Finishes};
-ghost use Rattle.nfs_tool.specs.Script.{ScriptGives};
+ghost use Rattle.nfs_tool.specs.Script.{ScriptGives, output, printing, underway, unread};
 ghost use Rattle.nfs_tool.specs.ScriptLines.{is_skipped, words_in, line_in};
 ghost use Rattle.nfs_tool.specs.ScriptViews.{said_line, wish_line};
 
@@ -61,7 +62,7 @@ fn run_over<S: Read + Write + Drop, A: Allocator + Copy>(
     said: Said<'_>,
     verifier: [u8; 8],
 ) -> Result<Answer<A>, ToolFault>
-    ensures { RunsOver S.contents S.remaining stream (said_line said.entry) verifier result }
+    ensures { RunsOver (directions_of S.contents S.remaining) stream (said_line said.entry) verifier result }
 {
     let mut client = match Client::open(alloc, stream, said.uid, said.gid, OWNER, verifier) {
         Ok(client) => client,
@@ -103,7 +104,8 @@ fn put_line<W: Write>(text: &[u8], writer: &mut W) -> Result<(), ToolFault>
 
 /// Writes the text of a fault as a line. Whether the fault is a refusal by the server.
 fn tell_fault<W: Write>(fault: ToolFault, writer: &mut W) -> Result<bool, ToolFault>
-    ensures { Tells (fault_line fault) (is_refusal fault) (W.contents writer.old) (W.contents writer.new) result }
+    ensures { Tells (output (fault_line fault) (is_refusal fault)) (W.contents writer.old)
+        (W.contents writer.new) result }
 {
     match put_line(fault.text().as_bytes(), writer) {
         Ok(()) => Ok(matches!(fault, ToolFault::Refused(_, _))),
@@ -116,7 +118,8 @@ fn tell<A: Allocator, W: Write>(
     told: Result<Answer<A>, ToolFault>,
     writer: &mut W,
 ) -> Result<bool, ToolFault>
-    ensures { Tells (told_text told) (is_answered told) (W.contents writer.old) (W.contents writer.new) result }
+    ensures { Tells (output (told_text told) (is_answered told)) (W.contents writer.old)
+        (W.contents writer.new) result }
 {
     match told {
         Ok(answer) => match write_out(writer, answer.as_bytes()) {
@@ -129,7 +132,7 @@ fn tell<A: Allocator, W: Write>(
 
 /// Writes that a line has no wish, or names a book without a text.
 fn tell_bad_line<W: Write>(writer: &mut W) -> Result<bool, ToolFault>
-    ensures { Tells bad_line false (W.contents writer.old) (W.contents writer.new) result }
+    ensures { Tells (output bad_line false) (W.contents writer.old) (W.contents writer.new) result }
 {
     match put_line(b"bad line", writer) {
         Ok(()) => Ok(false),
@@ -163,7 +166,7 @@ fn put_book<W: Write>(fault: BookFault, writer: &mut W) -> Result<(), ToolFault>
 
 /// Writes that a text is no book.
 fn tell_book<W: Write>(fault: BookFault, writer: &mut W) -> Result<bool, ToolFault>
-    ensures { Tells (book_text fault ++ 10 ∷ []) false (W.contents writer.old) (W.contents writer.new) result }
+    ensures { Tells (output (book_text fault ++ 10 ∷ []) false) (W.contents writer.old) (W.contents writer.new) result }
 {
     match put_book(fault, writer) {
         Ok(()) => Ok(false),
@@ -173,7 +176,7 @@ fn tell_book<W: Write>(fault: BookFault, writer: &mut W) -> Result<bool, ToolFau
 
 /// Writes that another book is loaded.
 fn tell_loaded<W: Write>(writer: &mut W) -> Result<bool, ToolFault>
-    ensures { Tells (load_text (Ok tt)) true (W.contents writer.old) (W.contents writer.new) result }
+    ensures { Tells (output (load_text (Ok tt)) true) (W.contents writer.old) (W.contents writer.new) result }
 {
     match put_line(b"ok", writer) {
         Ok(()) => Ok(true),
@@ -183,7 +186,7 @@ fn tell_loaded<W: Write>(writer: &mut W) -> Result<bool, ToolFault>
 
 /// Writes the outcome of loading another book. Whether it is loaded.
 fn tell_load<W: Write>(told: Result<(), LoadFault>, writer: &mut W) -> Result<bool, ToolFault>
-    ensures { Tells (load_text told) (is_loaded told) (W.contents writer.old) (W.contents writer.new) result }
+    ensures { Tells (output (load_text told) (is_loaded told)) (W.contents writer.old) (W.contents writer.new) result }
 {
     match told {
         Ok(()) => tell_loaded(writer),
@@ -217,8 +220,8 @@ fn answer_words<A: Allocator + Copy, T: Texts, W: Write>(
     writer: &mut W,
 ) -> Result<bool, ToolFault>
     requires { is_skipped line.now ≡ false }
-    ensures { LineWrites T.text_gives (lent hub.old texts.old) (lent hub.new texts.new) line.now (W.contents writer.old)
-        (W.contents writer.new) result }
+    ensures { LineWrites T.text_gives (printing (lent hub.old texts.old) (W.contents writer.old))
+        (printing (lent hub.new texts.new) (W.contents writer.new)) line.now result }
 {
     let words = words_in(alloc, line)?;
     match wished(line, &words) {
@@ -238,8 +241,8 @@ fn answer_line<A: Allocator + Copy, T: Texts, W: Write>(
     number: u32,
     writer: &mut W,
 ) -> Result<bool, ToolFault>
-    ensures { LineWrites T.text_gives (lent hub.old texts.old) (lent hub.new texts.new) line.now (W.contents writer.old)
-        (W.contents writer.new) result }
+    ensures { LineWrites T.text_gives (printing (lent hub.old texts.old) (W.contents writer.old))
+        (printing (lent hub.new texts.new) (W.contents writer.new)) line.now result }
 {
     if is_skipped(line) {
         Ok(true)
@@ -275,8 +278,9 @@ impl<A: Allocator + Copy> Progress<A> {
         texts: &mut T,
         writer: &mut W,
     ) -> Result<(), ToolFault>
-        ensures { Answers T.text_gives (lent hub.old texts.old) (lent hub.new texts.new) self.old self.new
-            (W.contents writer.old) (W.contents writer.new) result }
+        ensures { Answers T.text_gives
+            (underway self.old (printing (lent hub.old texts.old) (W.contents writer.old)))
+            (underway self.new (printing (lent hub.new texts.new) (W.contents writer.new))) result }
     {
         let Some(number) = self.lines.checked_add(1) else {
             return Err(ToolFault::Read);
@@ -301,8 +305,9 @@ impl<A: Allocator + Copy> Progress<A> {
         byte: u8,
         writer: &mut W,
     ) -> Result<(), ToolFault>
-        ensures { GoesOn T.text_gives (lent hub.old texts.old) (lent hub.new texts.new) self.old self.new (byte ∷ [])
-            (W.contents writer.old) (W.contents writer.new) result }
+        ensures { GoesOn T.text_gives
+            (underway self.old (printing (lent hub.old texts.old) (W.contents writer.old)))
+            (underway self.new (printing (lent hub.new texts.new) (W.contents writer.new))) (byte ∷ []) result }
     {
         if byte != b'\n' {
             self.line.push(byte)?;
@@ -327,8 +332,9 @@ impl<A: Allocator + Copy> Progress<A> {
         piece: &[u8],
         writer: &mut W,
     ) -> Result<(), ToolFault>
-        ensures { GoesOn T.text_gives (lent hub.old texts.old) (lent hub.new texts.new) self.old self.new piece.now
-            (W.contents writer.old) (W.contents writer.new) result }
+        ensures { GoesOn T.text_gives
+            (underway self.old (printing (lent hub.old texts.old) (W.contents writer.old)))
+            (underway self.new (printing (lent hub.new texts.new) (W.contents writer.new))) piece.now result }
     {
         for byte in piece {
             match self.take_byte(alloc, global, hub, texts, *byte, writer) {
@@ -386,8 +392,8 @@ fn finish<A: Allocator + Copy, T: Texts, W: Write>(
     progress: Progress<A>,
     writer: &mut W,
 ) -> Result<bool, ToolFault>
-    ensures { Finishes T.text_gives (lent hub.old texts.old) (lent hub.new texts.new) progress (W.contents writer.old)
-        (W.contents writer.new) result }
+    ensures { Finishes T.text_gives (underway progress (printing (lent hub.old texts.old) (W.contents writer.old)))
+        (printing (lent hub.new texts.new) (W.contents writer.new)) result }
 {
     let mut progress = progress;
     match progress.answer(alloc, global, hub, texts, writer) {
@@ -422,8 +428,9 @@ pub fn script<A: Allocator + Copy, T: Texts, R: Read, W: Write>(
     reader: &mut R,
     writer: &mut W,
 ) -> Result<bool, ToolFault>
-    ensures { ScriptGives T.text_gives (lent hub.old texts.old) (lent hub.new texts.new) (R.remaining reader.old)
-        (R.remaining reader.new) (W.contents writer.old) (W.contents writer.new) result }
+    ensures { ScriptGives T.text_gives
+        (unread (R.remaining reader.old) (printing (lent hub.old texts.old) (W.contents writer.old)))
+        (unread (R.remaining reader.new) (printing (lent hub.new texts.new) (W.contents writer.new))) result }
 {
     let mut progress = Progress::new(alloc);
     for _read in 0..MOST_READS {

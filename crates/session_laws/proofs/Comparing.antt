@@ -5,7 +5,7 @@ use Rattle.session_slots.specs.declared.slot.Turn.{Turn}
 use Rattle.session_slots.specs.declared.slot.Turn.TheVariants as turns
 use Rattle.session_slots.specs.Slots.{Call, turn_of}
 use Rattle.session_slots.specs.Acting.{State, ActsOnce}
-use Rattle.session_laws.specs.Turns.{Server, all_noted, some_noted, MOST_IN_TURN, TakesIn, Runs, Event, Serves, Restarts, Steps, begun, Leads, NeverReturns}
+use Rattle.session_laws.specs.Turns.{Server, all_noted, some_noted, MOST_IN_TURN, IfNew, RunsIn, Runs, Event, Serves, Restarts, Steps, begun, Leads, NeverReturns}
 use Rattle.session_laws.proofs.Turning.{acts_once as act_once, is_stored as are_stored}
 
 -- ---- numbers
@@ -34,7 +34,7 @@ module _ {World : Type 0} (run : Call → World → List ℕ → World → Type 
     led : Leads run leaves calls old new
 
   with_call : (most : ℕ) (t : Turn) (slot : ℕ) (call : Call) (old mid : State World) (new : World) →
-      TakesIn (some_noted leaves) run false t slot call old mid → Led most mid.world new → Led (suc most) old.world new
+      IfNew t (RunsIn (some_noted leaves) run false (slot, call) old mid) (mid ≡ old) → Led most mid.world new → Led (suc most) old.world new
   with_call most turns.New slot call old mid new r l = record { calls = call ∷ l.calls; few = one_more (length l.calls) most l.few; led = (r.results, mid.world, r.ran, r.leaves refl, l.led) }
   with_call most turns.Repeat slot call old mid new is l = record { calls = l.calls; few = no_more (length l.calls) most l.few; led = subst (λ s. Leads run leaves l.calls s.world new) is l.led }
   with_call most (turns.Refused status) slot call old mid new is l = record { calls = l.calls; few = no_more (length l.calls) most l.few; led = subst (λ s. Leads run leaves l.calls s.world new) is l.led }
@@ -48,13 +48,13 @@ module _ {World : Type 0} (run : Call → World → List ℕ → World → Type 
 
   -- the call left the world
   left_one : (most : ℕ) (t : Turn) (slot : ℕ) (call : Call) (old mid : State World) → NeverReturns run leaves → suc most < MOST_IN_TURN →
-      TakesIn (some_noted leaves) run false t slot call old mid → Led most mid.world old.world → mid.world ≡ old.world
+      IfNew t (RunsIn (some_noted leaves) run false (slot, call) old mid) (mid ≡ old) → Led most mid.world old.world → mid.world ≡ old.world
   left_one most turns.New slot call old mid never few r l = never call r.results l.calls old.world mid.world (few_of (length l.calls) most MOST_IN_TURN l.few few) r.ran (r.leaves refl) l.led
   left_one most turns.Repeat slot call old mid never few is l = ap (λ s. s.world) is
   left_one most (turns.Refused status) slot call old mid never few is l = ap (λ s. s.world) is
 
   takes : (stores : Bool) (t : Turn) (slot : ℕ) (call : Call) (old mid : State World) → (stores ≡ false → mid.world ≡ old.world) →
-      TakesIn (some_noted leaves) run stores t slot call old mid → TakesIn (all_noted World) run stores t slot call old mid
+      IfNew t (RunsIn (some_noted leaves) run stores (slot, call) old mid) (mid ≡ old) → IfNew t (RunsIn (all_noted World) run stores (slot, call) old mid) (mid ≡ old)
   takes stores turns.New slot call old mid left r = record { results = r.results; before = r.before; sent = r.sent; ran = r.ran; leaves = left; stands = r.stands; memory = r.memory; others = r.others }
   takes stores turns.Repeat slot call old mid left is = is
   takes stores (turns.Refused status) slot call old mid left is = is

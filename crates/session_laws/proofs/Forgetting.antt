@@ -6,7 +6,7 @@ use Rattle.session_slots.specs.Limits.{MOST_AHEAD}
 use Rattle.session_slots.specs.Counting.{due}
 use Rattle.session_slots.specs.Slots.{Call, Kept, old_turn, turn_of}
 use Rattle.session_slots.specs.Acting.{Memory, Entry, State, unused, of_slot, begun_again, ActsOnce}
-use Rattle.session_laws.specs.Turns.{Server, IsNear, begun, RunsIn, TakesIn, all_stored, found, Event, Serves, Restarts, Steps}
+use Rattle.session_laws.specs.Turns.{Server, IsNear, begun, RunsIn, IfNew, all_stored, found, Event, Serves, Restarts, Steps}
 use Rattle.session_laws.specs.WrongRules.{forgets_changes, forgets_calls, IsMadeOf, counts, does_nothing, forgets_slots, turns_over}
 
 abbrev call_of : ℕ → Call
@@ -39,7 +39,7 @@ twice = record { now = record { world = 2; slots = λ k. if k == 0 then with_cal
 same_call : List Event
 same_call = Serves ((0, call_of 1) ∷ []) true ∷ Restarts ∷ Serves ((0, call_of 1) ∷ []) true ∷ []
 
-runs_once : RunsIn (forgets_slots ℕ) counts true 0 (call_of 1) (unused 0) (once 1).now
+runs_once : RunsIn (forgets_slots ℕ) counts true (0, call_of 1) (unused 0) (once 1).now
 unfolding once
 runs_once = record {
   results = [];
@@ -52,7 +52,7 @@ runs_once = record {
   others = λ k apart. ap (λ b. if b then with_call 1 else no_call) (apart_from k 0 apart);
 }
 
-runs_twice : RunsIn (forgets_slots ℕ) counts true 0 (call_of 1) (found (once 1)).now twice.now
+runs_twice : RunsIn (forgets_slots ℕ) counts true (0, call_of 1) (found (once 1)).now twice.now
 unfolding once twice
 runs_twice = record {
   results = [];
@@ -101,7 +101,7 @@ again_ran = record { world = true; slots = λ k. if k == 1 then with_call 1 else
 lost_events : List Event
 lost_events = Serves ((0, call_of 1) ∷ (1, call_of 1) ∷ []) false ∷ Restarts ∷ Serves ((1, call_of 1) ∷ []) true ∷ []
 
-runs_first : RunsIn (forgets_changes Bool) turns_over false 0 (call_of 1) (unused false) first_ran
+runs_first : RunsIn (forgets_changes Bool) turns_over false (0, call_of 1) (unused false) first_ran
 unfolding first_ran
 runs_first = record {
   results = [];
@@ -114,7 +114,7 @@ runs_first = record {
   others = λ k apart. ap (λ b. if b then with_call 1 else no_call) (apart_from k 0 apart);
 }
 
-runs_second : RunsIn (forgets_changes Bool) turns_over false 1 (call_of 1) first_ran both_ran
+runs_second : RunsIn (forgets_changes Bool) turns_over false (1, call_of 1) first_ran both_ran
 unfolding first_ran both_ran
 runs_second = record {
   results = [];
@@ -127,7 +127,7 @@ runs_second = record {
   others = λ k apart. ap (λ b. if b then with_call 1 else if k == 0 then with_call 1 else no_call) (apart_from k 1 apart);
 }
 
-runs_again : RunsIn (forgets_changes Bool) turns_over true 1 (call_of 1) (found not_kept).now again_ran
+runs_again : RunsIn (forgets_changes Bool) turns_over true (1, call_of 1) (found not_kept).now again_ran
 unfolding both_ran not_kept again_ran
 runs_again = record {
   results = [];
@@ -210,7 +210,7 @@ is_new (suc n) = ap (λ b. if b then turns.New else old_turn (Some (kept_of (due
     after_it : (n : ℕ) → due (suc n) ≡ due (due n)
     after_it n = omega arith
 
-runs_next : (n : ℕ) → RunsIn (forgets_calls (Unit {0})) does_nothing false 0 (call_of (due n)) (after_many n).now (after_many (suc n)).now
+runs_next : (n : ℕ) → RunsIn (forgets_calls (Unit {0})) does_nothing false (0, call_of (due n)) (after_many n).now (after_many (suc n)).now
 unfolding many slots_after after_many
 runs_next n = record {
   results = [];
@@ -223,8 +223,8 @@ runs_next n = record {
   others = λ k apart. others_stay n k apart;
 }
 
-takes_next : (n : ℕ) (t : Turn) → t ≡ turns.New → TakesIn (forgets_calls (Unit {0})) does_nothing false t 0 (call_of (due n)) (after_many n).now (after_many (suc n)).now
-takes_next n t is = subst (λ t. TakesIn (forgets_calls (Unit {0})) does_nothing false t 0 (call_of (due n)) (after_many n).now (after_many (suc n)).now) (sym is) (runs_next n)
+takes_next : (n : ℕ) (t : Turn) → t ≡ turns.New → IfNew t (RunsIn (forgets_calls (Unit {0})) does_nothing false (0, call_of (due n)) (after_many n).now (after_many (suc n)).now) ((after_many (suc n)).now ≡ (after_many n).now)
+takes_next n t is = subst (λ t. IfNew t (RunsIn (forgets_calls (Unit {0})) does_nothing false (0, call_of (due n)) (after_many n).now (after_many (suc n)).now) ((after_many (suc n)).now ≡ (after_many n).now)) (sym is) (runs_next n)
 
 all_turns : (m n : ℕ) → Steps (forgets_calls (Unit {0})) does_nothing (turns_from m n) (after_many m) (found (after_many (n + m)))
 unfolding many slots_after after_many turns_from

@@ -9,7 +9,7 @@ use Rattle.session_slots.specs.Acting.{Memory, Entry, State, of_slot, GivesUp, b
 use Rattle.session_slots.proofs.Histories.{is_number}
 use Rattle.session_slots.proofs.Lagging.{repeat_is_not_next, below, next_between}
 use Rattle.session_slots.proofs.Numbered.{newest_is, not_again, is_new, never_new}
-use Rattle.session_laws.specs.Turns.{Server, IsNear, all_noted, begun, RunsIn, TakesIn, Runs, MOST_IN_TURN, Ends, found, Event, Serves, Restarts, Step, Steps}
+use Rattle.session_laws.specs.Turns.{Server, IsNear, all_noted, begun, RunsIn, IfNew, Runs, MOST_IN_TURN, Ends, found, Event, Serves, Restarts, Step, Steps}
 
 -- ---- numbers
 
@@ -153,7 +153,7 @@ module _ {World : Type 0} (run : Call → World → List ℕ → World → Type 
         waiting = λ q. let l = h q in record { count = suc l.count; after = (w ∙ q, l.after); few = one_more l.count MOST_AHEAD count l.few };
       })
 
-  added_if : (stores : Bool) (slot : ℕ) (call : Call) (old new : State World) (count : ℕ) (r : RunsIn (all_noted World) run stores slot call old new) →
+  added_if : (stores : Bool) (slot : ℕ) (call : Call) (old new : State World) (count : ℕ) (r : RunsIn (all_noted World) run stores (slot, call) old new) →
       Ready stores old slot r.before count → (k : ℕ) (b : Bool) → (slot == k) ≡ b →
       Holds stores (new.slots k) (if b then record { slot = slot; kept = record { call = call; results = r.results }; written = stores } ∷ entries k r.before else entries k r.before) (suc count)
   added_if stores slot call old new count r ready k true q =
@@ -163,7 +163,7 @@ module _ {World : Type 0} (run : Call → World → List ℕ → World → Type 
       subst (λ (m : Memory). Holds stores m (entries k r.before) (suc count)) (sym (r.others k (is_apart slot k q)))
       (goes_on stores (old.slots k) (entries k r.before) count (ready.there k (is_apart slot k q)))
 
-  added : (stores : Bool) (slot : ℕ) (call : Call) (old new : State World) (count : ℕ) (r : RunsIn (all_noted World) run stores slot call old new) →
+  added : (stores : Bool) (slot : ℕ) (call : Call) (old new : State World) (count : ℕ) (r : RunsIn (all_noted World) run stores (slot, call) old new) →
       Ready stores old slot r.before count → Lives stores new (suc count)
   added stores slot call old new count r ready =
       let e : Entry = record { slot = slot; kept = record { call = call; results = r.results }; written = stores } in
@@ -243,7 +243,7 @@ module _ {World : Type 0} (run : Call → World → List ℕ → World → Type 
 
   -- A slot that doesn't lag takes none in the place of its last call.
   in_turn : (stores : Bool) (slot : ℕ) (call : Call) (old new : State World) (count : ℕ) → Lives stores old count →
-      RunsIn (all_noted World) run stores slot call old new → (call.number == due (last_number number_of (newest (keeps (entries slot old.calls))))) ≡ true → Lives stores new (suc count)
+      RunsIn (all_noted World) run stores (slot, call) old new → (call.number == due (last_number number_of (newest (keeps (entries slot old.calls))))) ≡ true → Lives stores new (suc count)
   in_turn stores slot call old new count l r is_due =
       let number : call.number ≡ due (length (keeps (entries slot old.calls)) % 2 ^ 32) =
       is_number call.number (due (last_number number_of (newest (keeps (entries slot old.calls))))) is_due ∙ ap due (newest_is (keeps (entries slot old.calls)) (l.numbered slot)) in
@@ -262,7 +262,7 @@ module _ {World : Type 0} (run : Call → World → List ℕ → World → Type 
       let clash : true ≡ false = sym next ∙ repeat_is_not_next number (last_number number_of (s.slots slot).stored) small (equal number (last_number number_of (s.slots slot).stored) (due_before slot number before sent ∙ sym last)) in cc
 
   after_restart : (stores : Bool) (slot : ℕ) (call : Call) (old new : State World) (count : ℕ) → Lives stores old count →
-      RunsIn (all_noted World) run stores slot call old new → (old.slots slot).lags ≡ true → is_next true (last_number number_of (old.slots slot).stored) call.number ≡ true → Lives stores new (suc count)
+      RunsIn (all_noted World) run stores (slot, call) old new → (old.slots slot).lags ≡ true → is_next true (last_number number_of (old.slots slot).stored) call.number ≡ true → Lives stores new (suc count)
   after_restart stores slot call old new count l r lags next =
       elim r.sent.stand [
         | inl is ↦ added stores slot call old new count r (ready_after stores old slot r.before count is l)
@@ -275,7 +275,7 @@ module _ {World : Type 0} (run : Call → World → List ℕ → World → Type 
   kept_now b m stored now is h = h ∙ ap (λ b. if b then stored else now) is
 
   taken : (stores lags : Bool) (slot : ℕ) (call : Call) (old new : State World) (count : ℕ) → (old.slots slot).lags ≡ lags →
-      turn_of lags (old.slots slot).kept call ≡ turns.New → RunsIn (all_noted World) run stores slot call old new → Lives stores old count → Lives stores new (suc count)
+      turn_of lags (old.slots slot).kept call ≡ turns.New → RunsIn (all_noted World) run stores (slot, call) old new → Lives stores old count → Lives stores new (suc count)
   taken stores false slot call old new count is t r l =
       let kept : (old.slots slot).kept ≡ newest (keeps (entries slot old.calls)) = kept_now false (old.slots slot) (old.slots slot).stored (newest (keeps (entries slot old.calls))) is (l.holds slot).kept in
       in_turn stores slot call old new count l r
@@ -289,7 +289,7 @@ module _ {World : Type 0} (run : Call → World → List ℕ → World → Type 
   waits stores s count l = record { ran = l.ran; numbered = l.numbered; holds = λ k. goes_on stores (s.slots k) (entries k s.calls) count (l.holds k) }
 
   came : (stores : Bool) (t : Turn) (slot : ℕ) (call : Call) (old new : State World) (count : ℕ) → turn_of (old.slots slot).lags (old.slots slot).kept call ≡ t →
-      TakesIn (all_noted World) run stores t slot call old new → Lives stores old count → Lives stores new (suc count)
+      IfNew t (RunsIn (all_noted World) run stores (slot, call) old new) (new ≡ old) → Lives stores old count → Lives stores new (suc count)
   came stores turns.New slot call old new count is h l = taken stores (old.slots slot).lags slot call old new count refl is h l
   came stores turns.Repeat slot call old new count is h l = subst (λ s. Lives stores s (suc count)) (sym h) (waits stores old count l)
   came stores (turns.Refused status) slot call old new count is h l = subst (λ s. Lives stores s (suc count)) (sym h) (waits stores old count l)

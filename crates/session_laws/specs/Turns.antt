@@ -60,27 +60,26 @@ pub record MayWait {World : Type 0} (rule : Rule World) (calls : List (ℕ × Ca
 
 -- A new call on a slot is run, and kept with its results. It counts as written where the turn is stored.
 pub record RunsIn {World : Type 0} (rule : Rule World) (run : Call → World → List ℕ → World → Type 0) (stores : Bool)
-    (slot : ℕ) (call : Call) (old new : State World) : Type 0 where
+    (c : ℕ × Call) (old new : State World) : Type 0 where
   pub results : List ℕ
   pub before : List Entry
-  pub sent : Sends slot old.calls call.number before
-  pub ran : run call old.world results new.world
+  pub sent : Sends c.0 old.calls c.1.number before
+  pub ran : run c.1 old.world results new.world
   pub leaves : stores ≡ false → rule.leaves old.world new.world
   pub stands : new.calls
-      ≡ record { slot = slot; kept = record { call = call; results = results }; written = stores } ∷ before
-  pub memory : new.slots slot ≡ record {
+      ≡ record { slot = c.0; kept = record { call = c.1; results = results }; written = stores } ∷ before
+  pub memory : new.slots c.0 ≡ record {
     lags = false;
-    kept = Some (record { call = call; results = results });
-    stored = (old.slots slot).stored;
+    kept = Some (record { call = c.1; results = results });
+    stored = (old.slots c.0).stored;
   }
-  pub others : (other : ℕ) → other ≢ slot → new.slots other ≡ old.slots other
+  pub others : (other : ℕ) → other ≢ c.0 → new.slots other ≡ old.slots other
 
--- a call by its turn on the slot: only a new one is run
-abbrev pub TakesIn : {World : Type 0} → Rule World → (Call → World → List ℕ → World → Type 0) → Bool → Turn →
-    ℕ → Call → State World → State World → Type 0
-TakesIn rule run stores turns.New slot call old new = RunsIn rule run stores slot call old new
-TakesIn rule run stores turns.Repeat slot call old new = new ≡ old
-TakesIn rule run stores (turns.Refused status) slot call old new = new ≡ old
+-- a call by its turn on its slot: only a new one is run, and another one leaves all as it is
+abbrev pub IfNew : Turn → Type 0 → Type 0 → Type 0
+IfNew turns.New runs stays = runs
+IfNew turns.Repeat runs stays = stays
+IfNew (turns.Refused status) runs stays = stays
 
 -- the calls of a turn, each on its slot, one after the other
 abbrev pub Runs : {World : Type 0} → Rule World → (Call → World → List ℕ → World → Type 0) → Bool →
@@ -88,7 +87,7 @@ abbrev pub Runs : {World : Type 0} → Rule World → (Call → World → List �
 Runs rule run stores [] old new = new ≡ old
 Runs {World} rule run stores (c ∷ calls) old new =
     (mid : State World)
-    × TakesIn rule run stores (turn_of (old.slots c.0).lags (old.slots c.0).kept c.1) c.0 c.1 old mid
+    × IfNew (turn_of (old.slots c.0).lags (old.slots c.0).kept c.1) (RunsIn rule run stores c old mid) (mid ≡ old)
     × Runs rule run stores calls mid new
 
 -- the world is stored, and the slots with it

@@ -1,6 +1,6 @@
 -- Why a store isn't gone on with.
 use Rattle.std.specs.Prelude.{◌≡◌, ◌⊎◌, ℕ, List, Some, None}
-use Rattle.journal.specs.Keeping.{BothFound, NotBoth}
+use Rattle.journal.specs.Keeping.{passage, BothFound, NotBoth}
 use Rattle.store_files.specs.declared.damage.Damage.TheVariants.{Missing, Key as NoKey}
 use Rattle.store_files.specs.declared.fault.FolderFault.{FolderFault}
 use Rattle.store_files.specs.declared.fault.FolderFault.TheVariants.{InUse as HadByAnother, Failed as Said}
@@ -34,13 +34,13 @@ stop_by NoMemory = Memory
 pub record AreLoaded (old new : StoreFolder) : Type 0 where
   pub a : List ℕ
   pub b : List ℕ
-  pub found : BothFound Keeps a b old new
+  pub found : BothFound (passage Keeps old new) a b
 
 -- a stop by a version that isn't known, with a place in the files that were loaded
 abbrev pub IsVersionStop : StoreFolder → StoreStop → StoreFolder → Type 0
 IsVersionStop old InUse new = ⊥
 IsVersionStop old (Failed failure) new = ⊥
-IsVersionStop old (Version None) new = AreLoaded old new ⊎ NotBoth Keeps old new
+IsVersionStop old (Version None) new = AreLoaded old new ⊎ NotBoth (passage Keeps old new)
 IsVersionStop old (Version (Some p)) new =
     (l : AreLoaded old new) × IsPlaceIn old.key l.a l.b p p.part
 IsVersionStop old (Damaged damage) new = ⊥
@@ -50,7 +50,7 @@ IsVersionStop old Memory new = ⊥
 abbrev pub IsDamageStop : StoreFolder → StoreStop → StoreFolder → Type 0
 IsDamageStop old InUse new = ⊥
 IsDamageStop old (Failed failure) new =
-    (mid : StoreFolder) × NotBoth Keeps old mid × (failure ≡ mid.failure) × (new ≡ without_failure mid)
+    (mid : StoreFolder) × NotBoth (passage Keeps old mid) × (failure ≡ mid.failure) × (new ≡ without_failure mid)
 IsDamageStop old (Version place) new = ⊥
 IsDamageStop old (Damaged damage) new = (l : AreLoaded old new) × IsWrongWith old.key l.a l.b damage
-IsDamageStop old Memory new = AreLoaded old new ⊎ NotBoth Keeps old new
+IsDamageStop old Memory new = AreLoaded old new ⊎ NotBoth (passage Keeps old new)

@@ -21,14 +21,18 @@ pub record Stops {W : Type 0} (contents : W → Option (List ℕ)) (bytes : List
   pub unseen : new.seen ≡ old.seen
   pub failed : new.has_failed ≡ true
 
--- By whether the keeper had failed before, and its answer now. A keeper that has failed answers so
--- again, and stays unchanged.
-abbrev pub KeepsSo : {W : Type 0} → (W → Option (List ℕ)) → List ℕ → Log → Bool → Bool → TrailKeeper W → TrailKeeper W
-    → Type 0
-KeepsSo contents front log true true old new = ⊥
-KeepsSo contents front log true false old new = new ≡ old
-KeepsSo contents front log false true old new = Kept contents front log old new
-KeepsSo contents front log false false old new = Stops contents (new_text front old.seen log) old new
+-- By whether the keeper had failed before, and its answer now: what was to be done is, or the writer
+-- failed at it. A keeper that has failed answers so again, and stays unchanged.
+abbrev pub GoesSo : Bool → Bool → Type 0 → Type 0 → Type 0 → Type 0
+GoesSo true true done stops stays = ⊥
+GoesSo true false done stops stays = stays
+GoesSo false true done stops stays = done
+GoesSo false false done stops stays = stops
+
+abbrev pub KeepsSo : {W : Type 0} → (W → Option (List ℕ)) → List ℕ → Log → Bool → TrailKeeper W → TrailKeeper W → Type 0
+KeepsSo contents front log answer old new =
+    GoesSo old.has_failed answer (Kept contents front log old new)
+    (Stops contents (new_text front old.seen log) old new) (new ≡ old)
 
 -- Bytes that are no lines of the trail are appended, and no line more is seen.
 pub record Added {W : Type 0} (contents : W → Option (List ℕ)) (bytes : List ℕ) (old new : TrailKeeper W) : Type 0 where
@@ -36,12 +40,9 @@ pub record Added {W : Type 0} (contents : W → Option (List ℕ)) (bytes : List
   pub unseen : new.seen ≡ old.seen
   pub going : new.has_failed ≡ false
 
--- The same for such bytes.
-abbrev pub AddsSo : {W : Type 0} → (W → Option (List ℕ)) → List ℕ → Bool → Bool → TrailKeeper W → TrailKeeper W → Type 0
-AddsSo contents bytes true true old new = ⊥
-AddsSo contents bytes true false old new = new ≡ old
-AddsSo contents bytes false true old new = Added contents bytes old new
-AddsSo contents bytes false false old new = Stops contents bytes old new
+abbrev pub AddsSo : {W : Type 0} → (W → Option (List ℕ)) → List ℕ → Bool → TrailKeeper W → TrailKeeper W → Type 0
+AddsSo contents bytes answer old new =
+    GoesSo old.has_failed answer (Added contents bytes old new) (Stops contents bytes old new) (new ≡ old)
 
 -- Where all earlier lines were seen, and no others, the later lines are appended, and all lines are
 -- seen.

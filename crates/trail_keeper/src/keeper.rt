@@ -59,7 +59,7 @@ impl<W: Write> TrailKeeper<W> {
     /// Ends the line that bytes with this last one leave open, if they do, so that the next line
     /// begins at the front of one. `false`: the writer failed, or took no bytes, now or before.
     pub fn end_line(&mut self, last: Option<u8>) -> bool
-        ensures { AddsSo W.contents (line_end last) self.old.has_failed result self.old self.new }
+        ensures { AddsSo W.contents (line_end last) result self.old self.new }
     {
         if self.has_failed {
             return false;
@@ -72,7 +72,7 @@ impl<W: Write> TrailKeeper<W> {
     /// writer failed, or took no bytes, now or before.
     pub fn start(&mut self, front: &[u8]) -> bool
         requires { length front.now ≤ MOST_FRONT }
-        ensures { AddsSo W.contents (start_text front.now) self.old.has_failed result self.old self.new }
+        ensures { AddsSo W.contents (start_text front.now) result self.old self.new }
     {
         if self.has_failed {
             return false;
@@ -89,7 +89,7 @@ impl<W: Write> TrailKeeper<W> {
     /// `false`: the writer failed, or took no bytes, now or before. At most a front of these lines
     /// was appended then, and no later call writes any bytes.
     pub fn keep<A: Allocator + Copy>(&mut self, guard: &Guard<A>) -> bool
-        ensures { KeepsSo W.contents [] guard.now.log self.old.has_failed result self.old self.new }
+        ensures { KeepsSo W.contents [] guard.now.log result self.old self.new }
     {
         self.keep_after(guard, &[])
     }
@@ -97,7 +97,7 @@ impl<W: Write> TrailKeeper<W> {
     /// As [`keep`](Self::keep), with the same bytes in front of each line, at most 32.
     pub fn keep_after<A: Allocator + Copy>(&mut self, guard: &Guard<A>, front: &[u8]) -> bool
         requires { length front.now ≤ MOST_FRONT }
-        ensures { KeepsSo W.contents front.now guard.now.log self.old.has_failed result self.old self.new }
+        ensures { KeepsSo W.contents front.now guard.now.log result self.old self.new }
     {
         if self.has_failed {
             return false;

@@ -117,9 +117,9 @@ module _ (key : ℕ) (acts : List Act) (a b : Bytes) (left_a : MayLeave (on_disk
     fits = subst (λ (more : Bytes). Fluke key (generation + 1) 0 later more ⊎ HeadFluke key (generation + 1) generation later more) (sym (more_of_other s)) chance.1;
   }
 
-pub leaves_live : (key generation : ℕ) (s : Slot) (kept later : List Frame) (going : Bool) (checkpoint : Content) (acts : List Act) (is : Option Content → Type 0) → IsLive key generation s kept later going checkpoint acts → written_since s acts ≡ all_framed key generation (length kept) later → ((front : List Frame) → IsFront front later → is (Some (record { parts = checkpoint.parts; records = checkpoint.records ++ bodies front }))) → Leaves key acts is
+pub leaves_live : (key generation : ℕ) (s : Slot) (kept later : List Frame) (going : Bool) (checkpoint : Content) (acts : List Act) (is : Option Content → Type 0) → IsLive (record { key = key; generation = generation; slot = s; kept = kept; later = later; checkpoint = checkpoint }) going acts → written_since s acts ≡ all_framed key generation (length kept) later → ((front : List Frame) → IsFront front later → is (Some (record { parts = checkpoint.parts; records = checkpoint.records ++ bodies front }))) → Leaves key acts is
 leaves_live key generation s kept later going checkpoint acts is live are so a b left_a left_b =
-    let law = live_law key generation s kept later going checkpoint acts live a b left_a left_b in
+    let law = live_law (record { key = key; generation = generation; slot = s; kept = kept; later = later; checkpoint = checkpoint }) going acts live a b left_a left_b in
     let chance = by_chance key acts a b left_a left_b generation s kept later going live.written are in (
       λ slot number content chosen.
           ⊎_elim

@@ -2,7 +2,7 @@
 use Rattle.std.proofs.Common.{◌≡◌, inl, inr, ⊎_elim, ℕ, List, [], ◌∷◌, ◌++◌, Option, refl, sym, subst, append_assoc}
 use Rattle.journal.specs.Disk.{Act}
 use Rattle.journal.specs.Files.{Content}
-use Rattle.journal.specs.Keeping.{Adding}
+use Rattle.journal.specs.Keeping.{Adding, passage}
 use Rattle.tree_store.specs.Leaving.{Chain, Fluked, Leaves, AlwaysLeaves, Does}
 
 chain_append : {D : Type 0} (adds : Adding D) (later earlier : List Act) (old mid new : D) → Chain adds earlier old mid → Chain adds later mid new → Chain adds (later ++ earlier) old new
@@ -17,7 +17,7 @@ leaves_append key (act ∷ later) earlier history is one two = (
 )
 
 -- one step after another
-pub does_then : {D : Type 0} (adds : Adding D) (key : ℕ) (history : List Act) (is : Option Content → Type 0) (between after : List Act → Type 0) (old mid new : D) → Does adds key history is between old mid → ((acts : List Act) → between acts → Does adds key acts is after mid new) → Does adds key history is after old new
+pub does_then : {D : Type 0} (adds : Adding D) (key : ℕ) (history : List Act) (is : Option Content → Type 0) (between after : List Act → Type 0) (old mid new : D) → Does (passage adds old mid) key history is between → ((acts : List Act) → between acts → Does (passage adds mid new) key acts is after) → Does (passage adds old new) key history is after
 does_then adds key history is between after old mid new one on =
     let two = on (one.acts ++ history) one.so in
     record {
@@ -27,13 +27,13 @@ does_then adds key history is between after old mid new one on =
       so = subst after (sym (append_assoc two.acts one.acts history)) two.so;
     }
 
-pub does_nothing : {D : Type 0} (adds : Adding D) (key : ℕ) (history : List Act) (is : Option Content → Type 0) (after : List Act → Type 0) (old new : D) → Leaves key history is → new ≡ old → after history → Does adds key history is after old new
+pub does_nothing : {D : Type 0} (adds : Adding D) (key : ℕ) (history : List Act) (is : Option Content → Type 0) (after : List Act → Type 0) (old new : D) → Leaves key history is → new ≡ old → after history → Does (passage adds old new) key history is after
 does_nothing adds key history is after old new left same so = record { acts = []; chain = same; leaves = left; so = so }
 
-pub does_one : {D : Type 0} (adds : Adding D) (key : ℕ) (history : List Act) (is : Option Content → Type 0) (after : List Act → Type 0) (old new : D) (act : Act) → Leaves key history is → adds old act new → Leaves key (act ∷ history) is → after (act ∷ history) → Does adds key history is after old new
+pub does_one : {D : Type 0} (adds : Adding D) (key : ℕ) (history : List Act) (is : Option Content → Type 0) (after : List Act → Type 0) (old new : D) (act : Act) → Leaves key history is → adds old act new → Leaves key (act ∷ history) is → after (act ∷ history) → Does (passage adds old new) key history is after
 does_one adds key history is after old new act left added then so = record { acts = act ∷ []; chain = (old, refl, added); leaves = (then, left); so = so }
 
-pub does_two : {D : Type 0} (adds : Adding D) (key : ℕ) (history : List Act) (is : Option Content → Type 0) (after : List Act → Type 0) (old mid new : D) (first second : Act) → Leaves key history is → adds old first mid → Leaves key (first ∷ history) is → adds mid second new → Leaves key (second ∷ first ∷ history) is → after (second ∷ first ∷ history) → Does adds key history is after old new
+pub does_two : {D : Type 0} (adds : Adding D) (key : ℕ) (history : List Act) (is : Option Content → Type 0) (after : List Act → Type 0) (old mid new : D) (first second : Act) → Leaves key history is → adds old first mid → Leaves key (first ∷ history) is → adds mid second new → Leaves key (second ∷ first ∷ history) is → after (second ∷ first ∷ history) → Does (passage adds old new) key history is after
 does_two adds key history is after old mid new first second left one then two last so = record { acts = second ∷ first ∷ []; chain = (mid, (old, refl, one), two); leaves = (last, (then, left)); so = so }
 
 -- ---- less is said
@@ -49,7 +49,7 @@ always_also : (key : ℕ) (acts history : List Act) (is also : Option Content �
 always_also key [] history is also so left = leaves_also key history is also so left
 always_also key (act ∷ acts) history is also so left = (leaves_also key (act ∷ acts ++ history) is also so left.0, always_also key acts history is also so left.1)
 
-pub does_also : {D : Type 0} (adds : Adding D) (key : ℕ) (history : List Act) (is also : Option Content → Type 0) (after then : List Act → Type 0) (old new : D) → ((c : Option Content) → is c → also c) → ((acts : List Act) → after acts → then acts) → Does adds key history is after old new → Does adds key history also then old new
+pub does_also : {D : Type 0} (adds : Adding D) (key : ℕ) (history : List Act) (is also : Option Content → Type 0) (after then : List Act → Type 0) (old new : D) → ((c : Option Content) → is c → also c) → ((acts : List Act) → after acts → then acts) → Does (passage adds old new) key history is after → Does (passage adds old new) key history also then
 does_also adds key history is also after then old new so more d = record {
   acts = d.acts;
   chain = d.chain;

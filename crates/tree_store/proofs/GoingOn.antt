@@ -9,8 +9,8 @@ use Rattle.journal.specs.Disk.{Act, Appended, Tore, Synced, Unsynced, on_disk}
 use Rattle.journal.specs.Frames.{Bytes, Frame, IsFit}
 use Rattle.journal.specs.Files.{Content, bodies}
 use Rattle.journal.specs.Crash.{IsFront}
-use Rattle.journal.specs.Living.{IsLive}
-use Rattle.journal.specs.Keeping.{Adding}
+use Rattle.journal.specs.Living.{IsLive, all_kept}
+use Rattle.journal.specs.Keeping.{Adding, passage}
 use Rattle.compound_run.specs.Known.{Known}
 use Rattle.client_changes.specs.Applying.{Leads}
 use Rattle.tree_store.specs.declared.fault.StoreFault.{StoreFault}
@@ -39,13 +39,13 @@ stands_leaves key history store kept is s so =
     leaves_live key store.journal.generation store.journal.slot s.frames [] true s.content history is s.live (none_written store.journal.slot history s.none_loose)
     (λ front it. so (content_of s.content.parts (s.content.records ++ bodies front)) (subst (λ (c : Content). Holds c kept) (same_content s.content front it) s.holds))
 
-pub stands_of : (key : ℕ) (history : List Act) (store : Store) (kept : Kept) (j : Journal) (frames : List Frame) (content : Content) → store.journal ≡ j → store.known ≡ kept.1 → IsLive key j.generation j.slot frames [] true content history → (on_disk j.slot history).loose ≡ false → Holds content kept → j.key ≡ key → j.number ≡ length frames → j.safe ≡ length frames → j.has_failed ≡ false → Stands key history store kept
+pub stands_of : (key : ℕ) (history : List Act) (store : Store) (kept : Kept) (j : Journal) (frames : List Frame) (content : Content) → store.journal ≡ j → store.known ≡ kept.1 → IsLive (all_kept key j.generation j.slot frames content) true history → (on_disk j.slot history).loose ≡ false → Holds content kept → j.key ≡ key → j.number ≡ length frames → j.safe ≡ length frames → j.has_failed ≡ false → Stands key history store kept
 stands_of key history store kept j frames content is next live none holds key_is number safe going =
     let back : j ≡ store.journal = sym is in
     record {
       frames = frames;
       content = content;
-      live = subst (λ (i : Journal). IsLive key i.generation i.slot frames [] true content history) back live;
+      live = subst (λ (i : Journal). IsLive (all_kept key i.generation i.slot frames content) true history) back live;
       none_loose = subst (λ (i : Journal). (on_disk i.slot history).loose ≡ false) back none;
       holds = holds;
       key_is = subst (λ (i : Journal). i.key ≡ key) back key_is;
@@ -108,7 +108,7 @@ module _ {D : Type 0} (adds : Adding D) (store store' : Store) (kept aim : Kept)
         (record_unsynced key j.generation j.slot s.frames s.content history s.live s.none_loose j.number s.number_is f fit marked)
         (written_unsynced key j.generation j.slot s.frames s.content history s.live s.none_loose j.number s.number_is f fit marked) either
 
-    live : IsLive key j.generation j.slot (s.frames ++ f ∷ []) [] true (content_of s.content.parts (s.content.records ++ bytes ∷ [])) (Synced j.slot ∷ Appended j.slot (framed_of j bytes) ∷ history)
+    live : IsLive (all_kept key j.generation j.slot (s.frames ++ f ∷ []) (content_of s.content.parts (s.content.records ++ bytes ∷ []))) true (Synced j.slot ∷ Appended j.slot (framed_of j bytes) ∷ history)
     live = record_synced key j.generation j.slot s.frames s.content history s.live s.none_loose j.number s.number_is f fit marked
 
     synced : Leaves key (Synced j.slot ∷ Appended j.slot (framed_of j bytes) ∷ history) is
@@ -127,7 +127,7 @@ module _ {D : Type 0} (adds : Adding D) (store store' : Store) (kept aim : Kept)
   abbrev After : Result (Unit {0}) StoreFault → List Act → Type 0
   After result acts = IfDone (λ done. Stands key acts store' aim) acts result
 
-  pub goes_on : (result : Result (Unit {0}) StoreFault) (j' : Journal) (old new : D) → RecordGives adds j bytes result j' old new → (result ≡ Ok tt → (store'.journal ≡ j') × (store'.known ≡ aim.1)) → Does adds key history is (After result) old new
+  pub goes_on : (result : Result (Unit {0}) StoreFault) (j' : Journal) (old new : D) → RecordGives (passage adds old new) j bytes result j' → (result ≡ Ok tt → (store'.journal ≡ j') × (store'.known ≡ aim.1)) → Does (passage adds old new) key history is (After result)
   goes_on (Ok done) j' old new (twice, fit, same) stored =
       let by = stored refl in
       does_two adds key history is (After (Ok done)) old twice.mid new (Appended j.slot (framed_of j bytes)) (Synced j.slot) first twice.one (then fit) twice.two (synced fit) (stands fit (by.0 ∙ same) by.1)
@@ -142,7 +142,7 @@ module _ {D : Type 0} (adds : Adding D) (store store' : Store) (kept aim : Kept)
   goes_on (Err Damaged) j' old new gives stored = elim gives [ ]
   goes_on (Err Memory) j' old new same stored = does_nothing adds key history is (After (Err Memory)) old new first same tt
 
-pub nothing_done : {D : Type 0} (adds : Adding D) (store : Store) (kept aim : Kept) (history : List Act) (s : Stands store.journal.key history store kept) (after : List Act → Type 0) (old new : D) → new ≡ old → after history → Does adds store.journal.key history (IsHeldOr kept aim) after old new
+pub nothing_done : {D : Type 0} (adds : Adding D) (store : Store) (kept aim : Kept) (history : List Act) (s : Stands store.journal.key history store kept) (after : List Act → Type 0) (old new : D) → new ≡ old → after history → Does (passage adds old new) store.journal.key history (IsHeldOr kept aim) after
 nothing_done adds store kept aim history s after old new same so =
     does_nothing adds store.journal.key history (IsHeldOr kept aim) after old new (stands_leaves store.journal.key history store kept (IsHeldOr kept aim) s (λ c h. inl (c, refl, h))) same so
 

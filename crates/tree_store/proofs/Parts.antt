@@ -6,7 +6,7 @@ use Rattle.journal.specs.Disk.{Act, Appended, Tore, Synced, Unsynced, Emptied, U
 use Rattle.journal.specs.Frames.{Bytes, Frame, PART, framed, frame_with, IsFit, all_framed}
 use Rattle.journal.specs.Files.{Content, contents, with_part, bodies}
 use Rattle.journal.specs.Crash.{IsFront, IsWritten}
-use Rattle.journal.specs.Living.{IsLive}
+use Rattle.journal.specs.Living.{IsLive, all_kept}
 use Rattle.journal.specs.Replacing.{IsBase, IsReplaced}
 use Rattle.journal.specs.Keeping.{end_frame}
 use Rattle.journal.proofs.Steps.{on_itself, framed_append, append_law, sync_law}
@@ -165,7 +165,7 @@ module _ (key generation : ℕ) (s : Slot) (content : Option Content) (frames : 
   pub written_part_unsynced : written_since (other s) (Unsynced (other s) ∷ Appended (other s) bytes ∷ acts) ≡ all_framed key (generation + 1) 0 (frames ++ f ∷ [])
   written_part_unsynced = bytes_on_itself (other s) (λ (b : Bytes). b ++ bytes) (written_since (other s) acts) ∙ now_written
 
-  pub end_synced : (checkpoint : Content) → contents (frames ++ f ∷ []) ≡ Some checkpoint → IsLive key (generation + 1) (other s) (frames ++ f ∷ []) [] true checkpoint (Synced (other s) ∷ Appended (other s) bytes ∷ acts)
+  pub end_synced : (checkpoint : Content) → contents (frames ++ f ∷ []) ≡ Some checkpoint → IsLive (all_kept key (generation + 1) (other s) (frames ++ f ∷ []) checkpoint) true (Synced (other s) ∷ Appended (other s) bytes ∷ acts)
   end_synced checkpoint whole = finish_law key generation s content (frames ++ f ∷ []) checkpoint (Appended (other s) bytes ∷ acts) (record { counts = base_after; written = written.0 }) whole
 
   pub written_end_synced : written_since (other s) (Synced (other s) ∷ Appended (other s) bytes ∷ acts) ≡ []

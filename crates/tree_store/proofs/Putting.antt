@@ -26,7 +26,7 @@ use Rattle.journal.specs.declared.journal.Checkpoint.{Checkpoint}
 use Rattle.journal.specs.Disk.{Act}
 use Rattle.journal.specs.Frames.{Bytes}
 use Rattle.journal.specs.Files.{Content}
-use Rattle.journal.specs.Keeping.{Adding}
+use Rattle.journal.specs.Keeping.{Adding, passage}
 use Rattle.tree_store.specs.declared.fault.StoreFault.{StoreFault}
 use Rattle.tree_store.specs.declared.fault.StoreFault.TheVariants.{Failed, Version, Damaged, Memory}
 use Rattle.tree_store.specs.Kept.{kept_with}
@@ -39,20 +39,20 @@ use Rattle.tree_store.proofs.Writing.{begun_leaves}
 
 -- ---- steps
 
-pub appends_nothing : {D : Type 0} (adds : Adding D) (c : Checkpoint) (key generation : ℕ) (s : Slot) (content : Option Content) (so_far : List Bytes) (history : List Act) (b : IsBegun key generation s content c so_far history) (after : List Act → Type 0) (old new : D) → new ≡ old → after history → Does adds key history (λ o. o ≡ content) after old new
+pub appends_nothing : {D : Type 0} (adds : Adding D) (c : Checkpoint) (key generation : ℕ) (s : Slot) (content : Option Content) (so_far : List Bytes) (history : List Act) (b : IsBegun key generation s content c so_far history) (after : List Act → Type 0) (old new : D) → new ≡ old → after history → Does (passage adds old new) key history (λ o. o ≡ content) after
 appends_nothing adds c key generation s content so_far history b after old new same so =
     does_nothing adds key history (λ o. o ≡ content) after old new (begun_leaves key generation s content c so_far history b) same so
 
-pub appends_none : {D : Type 0} (adds : Adding D) (c : Checkpoint) (d : D) → Appends adds c [] (Ok tt) c d d
+pub appends_none : {D : Type 0} (adds : Adding D) (c : Checkpoint) (d : D) → Appends (passage adds d d) c [] (Ok tt) c
 appends_none adds c d key generation s content so_far history b =
     appends_nothing adds c key generation s content so_far history b (λ acts. IsBegun key generation s content c (so_far ++ []) acts) d d refl
     (subst (λ (l : List Bytes). IsBegun key generation s content c l history) (sym (append-nil so_far)) b)
 
-pub appends_then : {D : Type 0} (adds : Adding D) (c c' c'' : Checkpoint) (first more : List Bytes) (result : Result (Unit {0}) StoreFault) (old mid new : D) → Appends adds c first (Ok tt) c' old mid → Appends adds c' more result c'' mid new → Appends adds c (first ++ more) result c'' old new
+pub appends_then : {D : Type 0} (adds : Adding D) (c c' c'' : Checkpoint) (first more : List Bytes) (result : Result (Unit {0}) StoreFault) (old mid new : D) → Appends (passage adds old mid) c first (Ok tt) c' → Appends (passage adds mid new) c' more result c'' → Appends (passage adds old new) c (first ++ more) result c''
 appends_then adds c c' c'' first more result old mid new one two key generation s content so_far history b =
     does_then adds key history (λ o. o ≡ content) (λ acts. IsBegun key generation s content c' (so_far ++ first) acts) (λ acts. IfDone (λ done. IsBegun key generation s content c'' (so_far ++ (first ++ more)) acts) acts result) old mid new
     (one key generation s content so_far history b)
-    (λ acts begun. subst (λ (l : List Bytes). Does adds key acts (λ o. o ≡ content) (λ later. IfDone (λ done. IsBegun key generation s content c'' l later) later result) mid new) (append_assoc so_far first more)
+    (λ acts begun. subst (λ (l : List Bytes). Does (passage adds mid new) key acts (λ o. o ≡ content) (λ later. IfDone (λ done. IsBegun key generation s content c'' l later) later result)) (append_assoc so_far first more)
     (two key generation s content (so_far ++ first) acts begun))
 
 still_fault : (so also : Unit {0} → Type 0) (acts : List Act) (fault : StoreFault) → IfDone so acts (Err fault) → IfDone also acts (Err fault)
@@ -62,7 +62,7 @@ still_fault so also acts Damaged it = it
 still_fault so also acts Memory it = tt
 
 -- after a fault nothing more is appended
-pub appends_fault : {D : Type 0} (adds : Adding D) (c c' c'' : Checkpoint) (first all : List Bytes) (fault : StoreFault) (old new : D) → Appends adds c first (Err fault) c' old new → Appends adds c all (Err fault) c'' old new
+pub appends_fault : {D : Type 0} (adds : Adding D) (c c' c'' : Checkpoint) (first all : List Bytes) (fault : StoreFault) (old new : D) → Appends (passage adds old new) c first (Err fault) c' → Appends (passage adds old new) c all (Err fault) c''
 appends_fault adds c c' c'' first all fault old new one key generation s content so_far history b =
     does_also adds key history (λ o. o ≡ content) (λ o. o ≡ content) (λ acts. IfDone {X = Unit {0}} (λ done. IsBegun key generation s content c' (so_far ++ first) acts) acts (Err fault)) (λ acts. IfDone {X = Unit {0}} (λ done. IsBegun key generation s content c'' (so_far ++ all) acts) acts (Err fault)) old new
     (λ o is. is) (λ acts it. still_fault (λ done. IsBegun key generation s content c' (so_far ++ first) acts) (λ done. IsBegun key generation s content c'' (so_far ++ all) acts) acts fault it)
@@ -145,7 +145,7 @@ pub record ObjectsPut {D : Type 0} (adds : Adding D) (w : World) (at : ℕ) (c c
   pub are : w.objects ≡ before ++ left
   pub next : number_after w at ≡ option_map (λ e. e.0) (slice_get left 0)
   pub have : AllByRecursion HasObjectSpelling before
-  pub appended : Appends adds c (map object_bytes before) (Ok tt) c' old new
+  pub appended : Appends (passage adds old new) c (map object_bytes before) (Ok tt) c'
 
 pub objects_begun : {D : Type 0} (adds : Adding D) (w : World) (c : Checkpoint) (d : D) → IsSound w → ObjectsPut adds w 0 c c d d
 objects_begun adds w c d sound = record { before = []; left = w.objects; are = refl; next = (read_in_order w sound).first_object; have = tt; appended = appends_none adds c d }
@@ -190,7 +190,7 @@ one_value : {X : Type 0} (x y : X) → Some x ≡ Some y → x ≡ y
 one_value x y e = cc
 
 -- one object more
-pub object_put : {D : Type 0} (adds : Adding D) (w : World) (at number : ℕ) (c c' c'' : Checkpoint) (bytes : Bytes) (old mid new : D) → IsSound w → ObjectsPut adds w at c c' old mid → number_after w at ≡ Some number → IfSome (object w number) (λ o. (bytes ≡ object_bytes (number, o)) × HasSpelling part (object_value number o)) → Appends adds c' (bytes ∷ []) (Ok tt) c'' mid new → ObjectsPut adds w number c c'' old new
+pub object_put : {D : Type 0} (adds : Adding D) (w : World) (at number : ℕ) (c c' c'' : Checkpoint) (bytes : Bytes) (old mid new : D) → IsSound w → ObjectsPut adds w at c c' old mid → number_after w at ≡ Some number → IfSome (object w number) (λ o. (bytes ≡ object_bytes (number, o)) × HasSpelling part (object_value number o)) → Appends (passage adds mid new) c' (bytes ∷ []) (Ok tt) c'' → ObjectsPut adds w number c c'' old new
 object_put adds w at number c c' c'' bytes old mid new sound so_far some written one =
     let n = next_object w so_far.before so_far.left number sound so_far.are (sym so_far.next ∙ some) in
     let it : (bytes ≡ object_bytes (number, n.o)) × HasSpelling part (object_value number n.o) = subst (λ (x : Option Object). IfSome x (λ o. (bytes ≡ object_bytes (number, o)) × HasSpelling part (object_value number o))) n.found written in
@@ -200,8 +200,8 @@ object_put adds w at number c c' c'' bytes old mid new sound so_far some written
       are = so_far.are ∙ ap (λ (l : List (ℕ × Object)). so_far.before ++ l) n.is ∙ sym (append_assoc so_far.before ((number, n.o) ∷ []) n.rest);
       next = n.next;
       have = all_push HasObjectSpelling so_far.before (number, n.o) so_far.have it.1;
-      appended = subst (λ (l : List Bytes). Appends adds c l (Ok tt) c'' old new) (sym (map_push object_bytes so_far.before (number, n.o)))
-          (appends_then adds c c' c'' (map object_bytes so_far.before) (object_bytes (number, n.o) ∷ []) (Ok tt) old mid new so_far.appended (subst (λ (b : Bytes). Appends adds c' (b ∷ []) (Ok tt) c'' mid new) it.0 one));
+      appended = subst (λ (l : List Bytes). Appends (passage adds old new) c l (Ok tt) c'') (sym (map_push object_bytes so_far.before (number, n.o)))
+          (appends_then adds c c' c'' (map object_bytes so_far.before) (object_bytes (number, n.o) ∷ []) (Ok tt) old mid new so_far.appended (subst (λ (b : Bytes). Appends (passage adds mid new) c' (b ∷ []) (Ok tt) c'') it.0 one));
     }
 
 none_left : (objects : List (ℕ × Object)) → option_map (λ e. e.0) (slice_get objects 0) ≡ None → objects ≡ []
@@ -251,7 +251,7 @@ number_closer adds w at number c c' old new sound p some =
     (later_number at w.objects number some, (let most = sound.counted.numbers in omega (arith, below, most)))
 
 -- after a part that isn't written nothing more is appended
-pub appends_stop : {D : Type 0} (adds : Adding D) (c c' c'' : Checkpoint) (first all : List Bytes) (old new : D) → Appends adds c first (Ok tt) c' old new → Appends adds c all (Err Memory) c'' old new
+pub appends_stop : {D : Type 0} (adds : Adding D) (c c' c'' : Checkpoint) (first all : List Bytes) (old new : D) → Appends (passage adds old new) c first (Ok tt) c' → Appends (passage adds old new) c all (Err Memory) c''
 appends_stop adds c c' c'' first all old new one key generation s content so_far history b =
     does_also adds key history (λ o. o ≡ content) (λ o. o ≡ content) (λ acts. IsBegun key generation s content c' (so_far ++ first) acts) (λ acts. Unit {0}) old new (λ o is. is) (λ acts it. tt)
     (one key generation s content so_far history b)
@@ -269,7 +269,7 @@ pub record NamesPut {D : Type 0} (adds : Adding D) (w : World) (at : ℕ) (c c' 
   pub are : w.names ≡ before ++ left
   pub next : any_after w at ≡ slice_get left 0
   pub have : AllByRecursion HasNameSpelling before
-  pub appended : Appends adds c (map name_bytes before) (Ok tt) c' old new
+  pub appended : Appends (passage adds old new) c (map name_bytes before) (Ok tt) c'
 
 pub names_begun : {D : Type 0} (adds : Adding D) (w : World) (c : Checkpoint) (d : D) → IsSound w → NamesPut adds w 0 c c d d
 names_begun adds w c d sound = record { before = []; left = w.names; are = refl; next = (read_in_order w sound).first_name; have = tt; appended = appends_none adds c d }
@@ -299,7 +299,7 @@ name_in adds w at n c c' old new p some =
     subst (IsIn n) (sym (p.are ∙ ap (λ (l : List Name). p.before ++ l) x.is)) (in_middle p.before n x.rest)
 
 -- one name more
-pub name_put : {D : Type 0} (adds : Adding D) (w : World) (at : ℕ) (n : Name) (c c' c'' : Checkpoint) (bytes : Bytes) (old mid new : D) → IsSound w → NamesPut adds w at c c' old mid → any_after w at ≡ Some n → bytes ≡ name_bytes n → HasNameSpelling n → Appends adds c' (bytes ∷ []) (Ok tt) c'' mid new → NamesPut adds w n.cookie c c'' old new
+pub name_put : {D : Type 0} (adds : Adding D) (w : World) (at : ℕ) (n : Name) (c c' c'' : Checkpoint) (bytes : Bytes) (old mid new : D) → IsSound w → NamesPut adds w at c c' old mid → any_after w at ≡ Some n → bytes ≡ name_bytes n → HasNameSpelling n → Appends (passage adds mid new) c' (bytes ∷ []) (Ok tt) c'' → NamesPut adds w n.cookie c c'' old new
 name_put adds w at n c c' c'' bytes old mid new sound so_far some is has one =
     let x = next_name so_far.left n (sym so_far.next ∙ some) in
     let are : w.names ≡ so_far.before ++ n ∷ x.rest = so_far.are ∙ ap (λ (l : List Name). so_far.before ++ l) x.is in
@@ -309,8 +309,8 @@ name_put adds w at n c c' c'' bytes old mid new sound so_far some is has one =
       are = are ∙ sym (append_assoc so_far.before (n ∷ []) x.rest);
       next = (read_in_order w sound).next_name so_far.before x.rest n are;
       have = all_push HasNameSpelling so_far.before n so_far.have has;
-      appended = subst (λ (l : List Bytes). Appends adds c l (Ok tt) c'' old new) (sym (map_push name_bytes so_far.before n))
-          (appends_then adds c c' c'' (map name_bytes so_far.before) (name_bytes n ∷ []) (Ok tt) old mid new so_far.appended (subst (λ (b : Bytes). Appends adds c' (b ∷ []) (Ok tt) c'' mid new) is one));
+      appended = subst (λ (l : List Bytes). Appends (passage adds old new) c l (Ok tt) c'') (sym (map_push name_bytes so_far.before n))
+          (appends_then adds c c' c'' (map name_bytes so_far.before) (name_bytes n ∷ []) (Ok tt) old mid new so_far.appended (subst (λ (b : Bytes). Appends (passage adds mid new) c' (b ∷ []) (Ok tt) c'') is one));
     }
 
 no_name_left : (names : List Name) → slice_get names 0 ≡ None → names ≡ []

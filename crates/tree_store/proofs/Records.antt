@@ -9,7 +9,7 @@ use Rattle.journal.specs.Disk.{Act, Found, Unfound, Appended, Tore, Synced, Unsy
 use Rattle.journal.specs.Frames.{Bytes, Frame, END, framed, IsFit, all_framed}
 use Rattle.journal.specs.Files.{Content, contents, with_part, bodies}
 use Rattle.journal.specs.Crash.{IsFront, IsWritten}
-use Rattle.journal.specs.Living.{IsLive, IsPassed}
+use Rattle.journal.specs.Living.{IsLive, all_kept, IsPassed}
 use Rattle.journal.proofs.Steps.{on_itself, append_law, sync_law}
 use Rattle.tree_store.specs.Leaving.{written_since, if_same_bytes}
 
@@ -106,7 +106,7 @@ more_contents (f ∷ kept) more c is = by_test (f.kind == END) (contents kept) (
 
 -- ---- the acts of a record
 
-module _ (key generation : ℕ) (s : Slot) (kept : List Frame) (content : Content) (acts : List Act) (live : IsLive key generation s kept [] true content acts) (none : (on_disk s acts).loose ≡ false) (number : ℕ) (place : number ≡ length kept) (f : Frame) (fit : IsFit key generation number f) (marked : f.safe ≤ length kept) where
+module _ (key generation : ℕ) (s : Slot) (kept : List Frame) (content : Content) (acts : List Act) (live : IsLive (all_kept key generation s kept content) true acts) (none : (on_disk s acts).loose ≡ false) (number : ℕ) (place : number ≡ length kept) (f : Frame) (fit : IsFit key generation number f) (marked : f.safe ≤ length kept) where
   abbrev bytes : Bytes
   bytes = framed key generation number f
 
@@ -124,16 +124,16 @@ module _ (key generation : ℕ) (s : Slot) (kept : List Frame) (content : Conten
   same_there : on_disk (other s) (Appended s bytes ∷ acts) ≡ on_disk (other s) acts
   same_there = off_this s (with_bytes bytes) (on_disk (other s) acts)
 
-  pub record_appended : IsLive key generation s kept (f ∷ []) true content (Appended s bytes ∷ acts)
+  pub record_appended : IsLive (record { key = key; generation = generation; slot = s; kept = kept; later = f ∷ []; checkpoint = content }) true (Appended s bytes ∷ acts)
   record_appended = record { written = written.0; whole = live.whole; some = live.some; passed = passed_still (on_disk (other s) (Appended s bytes ∷ acts)) same_there }
 
-  pub record_torn : IsLive key generation s kept (f ∷ []) false content (Tore s bytes ∷ acts)
+  pub record_torn : IsLive (record { key = key; generation = generation; slot = s; kept = kept; later = f ∷ []; checkpoint = content }) false (Tore s bytes ∷ acts)
   record_torn = record { written = written.1; whole = live.whole; some = live.some; passed = passed_still (on_disk (other s) (Tore s bytes ∷ acts)) (off_this s with_torn (on_disk (other s) acts)) }
 
-  pub record_unsynced : IsLive key generation s kept (f ∷ []) false content (Unsynced s ∷ Appended s bytes ∷ acts)
+  pub record_unsynced : IsLive (record { key = key; generation = generation; slot = s; kept = kept; later = f ∷ []; checkpoint = content }) false (Unsynced s ∷ Appended s bytes ∷ acts)
   record_unsynced = record { written = (sync_law key generation kept (f ∷ []) s (Appended s bytes ∷ acts) written.0).1; whole = live.whole; some = live.some; passed = passed_still (on_disk (other s) (Appended s bytes ∷ acts)) same_there }
 
-  pub record_synced : IsLive key generation s (kept ++ f ∷ []) [] true (record { parts = content.parts; records = content.records ++ f.body ∷ [] }) (Synced s ∷ Appended s bytes ∷ acts)
+  pub record_synced : IsLive (all_kept key generation s (kept ++ f ∷ []) (record { parts = content.parts; records = content.records ++ f.body ∷ [] })) true (Synced s ∷ Appended s bytes ∷ acts)
   record_synced = record {
     written = (sync_law key generation kept (f ∷ []) s (Appended s bytes ∷ acts) written.0).0;
     whole = more_contents kept (f ∷ []) content live.whole;

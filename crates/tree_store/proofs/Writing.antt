@@ -11,9 +11,9 @@ use Rattle.journal.specs.Frames.{Bytes, Frame, PART, framed, frame_with, IsFit, 
 use Rattle.journal.specs.Files.{Content, contents, bodies}
 use Rattle.journal.specs.Opening.{Chooses}
 use Rattle.journal.specs.Crash.{IsFront}
-use Rattle.journal.specs.Living.{IsLive}
+use Rattle.journal.specs.Living.{IsLive, all_kept}
 use Rattle.journal.specs.Replacing.{IsReplaced}
-use Rattle.journal.specs.Keeping.{Adding, FrameGives, BeginGives, FinishGives, end_frame}
+use Rattle.journal.specs.Keeping.{Adding, passage, checkpoint_file, FrameGives, BeginGives, FinishGives, end_frame}
 use Rattle.journal.proofs.Replacing.{start_law, renew_law}
 use Rattle.tree_store.specs.declared.fault.StoreFault.{StoreFault}
 use Rattle.tree_store.specs.declared.fault.StoreFault.TheVariants.{Failed, Version, Damaged, Memory}
@@ -83,7 +83,7 @@ module _ (key generation : ℕ) (s : Slot) (content : Option Content) (history :
   synced = leaves_replaced key generation s content [] true (Synced (other s) ∷ Emptied (other s) ∷ history) (λ o. o ≡ content) (steps.begun_synced key generation s content history counts.base)
       (steps.written_synced key generation s content history counts.base) refl nothing_whole
 
-  pub begin_goes : {D : Type 0} (adds : Adding D) (c : Checkpoint) (old new : D) → BeginGives adds key s generation (Ok c) old new → Does adds key history (λ o. o ≡ content) (IsBegun key generation s content c []) old new
+  pub begin_goes : {D : Type 0} (adds : Adding D) (c : Checkpoint) (old new : D) → BeginGives (passage adds old new) key s generation (Ok c) → Does (passage adds old new) key history (λ o. o ≡ content) (IsBegun key generation s content c [])
   begin_goes adds c old new (twice, same) =
       does_two adds key history (λ o. o ≡ content) (IsBegun key generation s content c []) old twice.mid new (Emptied (other s)) (Synced (other s)) counts.leaves twice.one emptied twice.two synced
       (record {
@@ -92,7 +92,7 @@ module _ (key generation : ℕ) (s : Slot) (content : Option Content) (history :
         checkpoint_is = same;
       })
 
-  pub begin_fails : {D : Type 0} (adds : Adding D) (fault : JournalFault) (old new : D) → BeginGives adds key s generation (Err fault) old new → Does adds key history (λ o. o ≡ content) (λ acts. Unit {0}) old new
+  pub begin_fails : {D : Type 0} (adds : Adding D) (fault : JournalFault) (old new : D) → BeginGives (passage adds old new) key s generation (Err fault) → Does (passage adds old new) key history (λ o. o ≡ content) (λ acts. Unit {0})
   begin_fails adds faults.TooLong old new gives = elim gives [ ]
   begin_fails adds faults.Memory old new gives = elim gives [ ]
   begin_fails adds faults.Full old new gives = does_nothing adds key history (λ o. o ≡ content) (λ acts. Unit {0}) old new counts.leaves gives.1 tt
@@ -100,7 +100,7 @@ module _ (key generation : ℕ) (s : Slot) (content : Option Content) (history :
   begin_fails adds faults.Failed old new (inr twice) =
       does_two adds key history (λ o. o ≡ content) (λ acts. Unit {0}) old twice.mid new (Emptied (other s)) (Unsynced (other s)) counts.leaves twice.one emptied twice.two unsynced tt
 
-  pub begin_failed : {D : Type 0} (adds : Adding D) (old new : D) → BeginGives adds key s generation (Err faults.Failed) old new → Does adds key history (λ o. o ≡ content) HasFailed old new
+  pub begin_failed : {D : Type 0} (adds : Adding D) (old new : D) → BeginGives (passage adds old new) key s generation (Err faults.Failed) → Does (passage adds old new) key history (λ o. o ≡ content) HasFailed
   begin_failed adds old new (inl it) = does_one adds key history (λ o. o ≡ content) HasFailed old new (Unemptied (other s)) counts.leaves it unemptied (λ going. going)
   begin_failed adds old new (inr twice) =
       does_two adds key history (λ o. o ≡ content) HasFailed old twice.mid new (Emptied (other s)) (Unsynced (other s)) counts.leaves twice.one emptied twice.two unsynced (λ going. going)
@@ -132,11 +132,14 @@ module _ {D : Type 0} (adds : Adding D) (c c' : Checkpoint) (bytes : Bytes) (key
   abbrev f : Frame
   f = frame_with PART 0 bytes
 
+  abbrev begun_as : Checkpoint
+  begun_as = record { key = key; slot = other s; generation = generation + 1; number = length parts; has_failed = false }
+
   place : length parts ≡ length (part_frames parts)
   place = sym (frames_count parts)
 
-  gives_at : (r : Result (Unit {0}) JournalFault) (old new : D) → FrameGives adds c.slot c.key c.generation c.number f c.has_failed c'.number c'.has_failed r old new → FrameGives adds (other s) key (generation + 1) (length parts) f false c'.number c'.has_failed r old new
-  gives_at r old new gives = subst (λ (d : Checkpoint). FrameGives adds d.slot d.key d.generation d.number f d.has_failed c'.number c'.has_failed r old new) b.checkpoint_is gives
+  gives_at : (r : Result (Unit {0}) JournalFault) (old new : D) → FrameGives (passage adds old new) (checkpoint_file c) f r (checkpoint_file c') → FrameGives (passage adds old new) (checkpoint_file begun_as) f r (checkpoint_file c')
+  gives_at r old new gives = subst (λ (d : Checkpoint). FrameGives (passage adds old new) (checkpoint_file d) f r (checkpoint_file c')) b.checkpoint_is gives
 
   ahead : List Frame
   ahead = part_frames parts ++ f ∷ []
@@ -163,34 +166,34 @@ module _ {D : Type 0} (adds : Adding D) (c c' : Checkpoint) (bytes : Bytes) (key
   first : Leaves key history (λ o. o ≡ content)
   first = begun_leaves key generation s content c parts history b
 
-  pub part_goes : (old new : D) → FrameGives adds c.slot c.key c.generation c.number f c.has_failed c'.number c'.has_failed (Ok tt) old new → Does adds key history (λ o. o ≡ content) (λ acts. IsBegun key generation s content c' (parts ++ bytes ∷ []) acts) old new
+  pub part_goes : (old new : D) → FrameGives (passage adds old new) (checkpoint_file c) f (Ok tt) (checkpoint_file c') → Does (passage adds old new) key history (λ o. o ≡ content) (λ acts. IsBegun key generation s content c' (parts ++ bytes ∷ []) acts)
   part_goes old new gives =
       let g = gives_at (Ok tt) old new gives in
       let next = begun g.1 g.3 g.4 in
       does_one adds key history (λ o. o ≡ content) (λ acts. IsBegun key generation s content c' (parts ++ bytes ∷ []) acts) old new (Appended (other s) (framed key (generation + 1) (length parts) f)) first g.0
       (begun_leaves key generation s content c' (parts ++ bytes ∷ []) (Appended (other s) (framed key (generation + 1) (length parts) f) ∷ history) next) next
 
-  part_fails : (fault : JournalFault) (old new : D) → FrameGives adds c.slot c.key c.generation c.number f c.has_failed c'.number c'.has_failed (Err fault) old new → Does adds key history (λ o. o ≡ content) (λ acts. Unit {0}) old new
+  part_fails : (fault : JournalFault) (old new : D) → FrameGives (passage adds old new) (checkpoint_file c) f (Err fault) (checkpoint_file c') → Does (passage adds old new) key history (λ o. o ≡ content) (λ acts. Unit {0})
   part_fails fault old new gives = failing fault (gives_at (Err fault) old new gives)
     where
-      failing : (fault : JournalFault) → FrameGives adds (other s) key (generation + 1) (length parts) f false c'.number c'.has_failed (Err fault) old new → Does adds key history (λ o. o ≡ content) (λ acts. Unit {0}) old new
+      failing : (fault : JournalFault) → FrameGives (passage adds old new) (checkpoint_file begun_as) f (Err fault) (checkpoint_file c') → Does (passage adds old new) key history (λ o. o ≡ content) (λ acts. Unit {0})
       failing faults.TooLong g = does_nothing adds key history (λ o. o ≡ content) (λ acts. Unit {0}) old new first g.1 tt
       failing faults.Memory g = does_nothing adds key history (λ o. o ≡ content) (λ acts. Unit {0}) old new first g.0 tt
       failing faults.Full g = does_nothing adds key history (λ o. o ≡ content) (λ acts. Unit {0}) old new first g.1 tt
       failing faults.Failed (inl g) = does_nothing adds key history (λ o. o ≡ content) (λ acts. Unit {0}) old new first g.1 tt
       failing faults.Failed (inr g) = does_one adds key history (λ o. o ≡ content) (λ acts. Unit {0}) old new (Tore (other s) (framed key (generation + 1) (length parts) f)) first g.0 (torn g.1) tt
 
-  part_failed : (old new : D) → FrameGives adds c.slot c.key c.generation c.number f c.has_failed c'.number c'.has_failed (Err faults.Failed) old new → Does adds key history (λ o. o ≡ content) HasFailed old new
+  part_failed : (old new : D) → FrameGives (passage adds old new) (checkpoint_file c) f (Err faults.Failed) (checkpoint_file c') → Does (passage adds old new) key history (λ o. o ≡ content) HasFailed
   part_failed old new gives = failing (gives_at (Err faults.Failed) old new gives)
     where
-      failing : FrameGives adds (other s) key (generation + 1) (length parts) f false c'.number c'.has_failed (Err faults.Failed) old new → Does adds key history (λ o. o ≡ content) HasFailed old new
+      failing : FrameGives (passage adds old new) (checkpoint_file begun_as) f (Err faults.Failed) (checkpoint_file c') → Does (passage adds old new) key history (λ o. o ≡ content) HasFailed
       failing (inl g) = absurd (not_failed g.0)
       failing (inr g) = does_one adds key history (λ o. o ≡ content) HasFailed old new (Tore (other s) (framed key (generation + 1) (length parts) f)) first g.0 (torn g.1) (λ going. going)
 
-  pub part_not : (fault : JournalFault) (told : StoreFault) (so : List Act → Unit {0} → Type 0) (old new : D) → told ≡ said fault → FrameGives adds c.slot c.key c.generation c.number f c.has_failed c'.number c'.has_failed (Err fault) old new → Does adds key history (λ o. o ≡ content) (λ acts. IfDone (so acts) acts (Err told)) old new
-  part_not fault told so old new is gives = subst (λ (e : StoreFault). Does adds key history (λ o. o ≡ content) (λ acts. IfDone (so acts) acts (Err e)) old new) (sym is) (by_fault fault gives)
+  pub part_not : (fault : JournalFault) (told : StoreFault) (so : List Act → Unit {0} → Type 0) (old new : D) → told ≡ said fault → FrameGives (passage adds old new) (checkpoint_file c) f (Err fault) (checkpoint_file c') → Does (passage adds old new) key history (λ o. o ≡ content) (λ acts. IfDone (so acts) acts (Err told))
+  part_not fault told so old new is gives = subst (λ (e : StoreFault). Does (passage adds old new) key history (λ o. o ≡ content) (λ acts. IfDone (so acts) acts (Err e))) (sym is) (by_fault fault gives)
     where
-      by_fault : (fault : JournalFault) → FrameGives adds c.slot c.key c.generation c.number f c.has_failed c'.number c'.has_failed (Err fault) old new → Does adds key history (λ o. o ≡ content) (λ acts. IfDone (so acts) acts (Err (said fault))) old new
+      by_fault : (fault : JournalFault) → FrameGives (passage adds old new) (checkpoint_file c) f (Err fault) (checkpoint_file c') → Does (passage adds old new) key history (λ o. o ≡ content) (λ acts. IfDone (so acts) acts (Err (said fault)))
       by_fault faults.Failed gives = part_failed old new gives
       by_fault faults.TooLong gives = part_fails faults.TooLong old new gives
       by_fault faults.Memory gives = part_fails faults.Memory old new gives
@@ -205,8 +208,8 @@ module _ {D : Type 0} (adds : Adding D) (c : Checkpoint) (key generation : ℕ) 
   end_place : length parts ≡ length (part_frames parts)
   end_place = sym (frames_count parts)
 
-  end_gives : (r : Result Journal JournalFault) (old new : D) → FinishGives adds c r old new → FinishGives adds (record { key = key; slot = other s; generation = generation + 1; number = length parts; has_failed = false }) r old new
-  end_gives r old new gives = subst (λ (d : Checkpoint). FinishGives adds d r old new) b.checkpoint_is gives
+  end_gives : (r : Result Journal JournalFault) (old new : D) → FinishGives (passage adds old new) c r → FinishGives (passage adds old new) (record { key = key; slot = other s; generation = generation + 1; number = length parts; has_failed = false }) r
+  end_gives r old new gives = subst (λ (d : Checkpoint). FinishGives (passage adds old new) d r) b.checkpoint_is gives
 
   held : (front : List Frame) (x : Content) → IsFront front (part_frames parts ++ end_frame ∷ []) → contents front ≡ Some x → IsFoundOr content aim (Some x)
   held front x it whole = inr (x, refl, subst (λ (d : Content). Holds d aim) (sym (one_whole parts front x it whole)) holds)
@@ -230,7 +233,7 @@ module _ {D : Type 0} (adds : Adding D) (c : Checkpoint) (key generation : ℕ) 
         (steps.part_unsynced key generation s content (part_frames parts) history b.replaced b.written (length parts) end_place end_frame fit refl)
         (steps.written_part_unsynced key generation s content (part_frames parts) history b.replaced b.written (length parts) end_place end_frame fit refl) (inl refl) held
 
-    end_live : IsLive key (generation + 1) (other s) (part_frames parts ++ end_frame ∷ []) [] true (content_of parts []) (Synced (other s) ∷ Appended (other s) end_bytes ∷ history)
+    end_live : IsLive (all_kept key (generation + 1) (other s) (part_frames parts ++ end_frame ∷ []) (content_of parts [])) true (Synced (other s) ∷ Appended (other s) end_bytes ∷ history)
     end_live = steps.end_synced key generation s content (part_frames parts) history b.replaced b.written (length parts) end_place end_frame fit refl (content_of parts []) (all_whole parts)
 
     end_kept : Leaves key (Synced (other s) ∷ Appended (other s) end_bytes ∷ history) (IsFoundOr content aim)
@@ -246,19 +249,19 @@ module _ {D : Type 0} (adds : Adding D) (c : Checkpoint) (key generation : ℕ) 
         (steps.none_loose_end key generation s content (part_frames parts) history b.replaced b.written (length parts) end_place end_frame fit refl)
         holds refl count count refl
 
-  pub finish_goes : (j : Journal) (store : Store) (old new : D) → FinishGives adds c (Ok j) old new → store.journal ≡ j → store.known ≡ aim.1 → Does adds key history (IsFoundOr content aim) (λ acts. Stands key acts store aim) old new
+  pub finish_goes : (j : Journal) (store : Store) (old new : D) → FinishGives (passage adds old new) c (Ok j) → store.journal ≡ j → store.known ≡ aim.1 → Does (passage adds old new) key history (IsFoundOr content aim) (λ acts. Stands key acts store aim)
   finish_goes j store old new gives is next =
       let g = end_gives (Ok j) old new gives in
       does_two adds key history (IsFoundOr content aim) (λ acts. Stands key acts store aim) old g.0.mid new (Appended (other s) end_bytes) (Synced (other s)) before g.0.one (end_appended g.1) g.0.two (end_kept g.1)
       (end_stands g.1 store (is ∙ g.3) next)
 
-  pub finish_fails : (fault : JournalFault) (old new : D) → FinishGives adds c (Err fault) old new → Does adds key history (IsFoundOr content aim) (λ acts. Unit {0}) old new
+  pub finish_fails : (fault : JournalFault) (old new : D) → FinishGives (passage adds old new) c (Err fault) → Does (passage adds old new) key history (IsFoundOr content aim) (λ acts. Unit {0})
   finish_fails fault old new gives = failing fault (end_gives (Err fault) old new gives)
     where
-      nothing : new ≡ old → Does adds key history (IsFoundOr content aim) (λ acts. Unit {0}) old new
+      nothing : new ≡ old → Does (passage adds old new) key history (IsFoundOr content aim) (λ acts. Unit {0})
       nothing same = does_nothing adds key history (IsFoundOr content aim) (λ acts. Unit {0}) old new before same tt
 
-      failing : (fault : JournalFault) → FinishGives adds (record { key = key; slot = other s; generation = generation + 1; number = length parts; has_failed = false }) (Err fault) old new → Does adds key history (IsFoundOr content aim) (λ acts. Unit {0}) old new
+      failing : (fault : JournalFault) → FinishGives (passage adds old new) (record { key = key; slot = other s; generation = generation + 1; number = length parts; has_failed = false }) (Err fault) → Does (passage adds old new) key history (IsFoundOr content aim) (λ acts. Unit {0})
       failing faults.TooLong g = elim g [ ]
       failing faults.Memory g = nothing g
       failing faults.Full g = nothing g.1
@@ -267,10 +270,10 @@ module _ {D : Type 0} (adds : Adding D) (c : Checkpoint) (key generation : ℕ) 
       failing faults.Failed (inr (inr twice, fit)) =
           does_two adds key history (IsFoundOr content aim) (λ acts. Unit {0}) old twice.mid new (Appended (other s) end_bytes) (Unsynced (other s)) before twice.one (end_appended fit) twice.two (end_unsynced fit) tt
 
-  pub finish_failed : (old new : D) → FinishGives adds c (Err faults.Failed) old new → Does adds key history (IsFoundOr content aim) HasFailed old new
+  pub finish_failed : (old new : D) → FinishGives (passage adds old new) c (Err faults.Failed) → Does (passage adds old new) key history (IsFoundOr content aim) HasFailed
   finish_failed old new gives = failing (end_gives (Err faults.Failed) old new gives)
     where
-      failing : FinishGives adds (record { key = key; slot = other s; generation = generation + 1; number = length parts; has_failed = false }) (Err faults.Failed) old new → Does adds key history (IsFoundOr content aim) HasFailed old new
+      failing : FinishGives (passage adds old new) (record { key = key; slot = other s; generation = generation + 1; number = length parts; has_failed = false }) (Err faults.Failed) → Does (passage adds old new) key history (IsFoundOr content aim) HasFailed
       failing (inl g) = absurd (not_failed g.0)
       failing (inr (inl it, fit)) = does_one adds key history (IsFoundOr content aim) HasFailed old new (Tore (other s) end_bytes) before it (end_torn fit) (λ going. going)
       failing (inr (inr twice, fit)) =
@@ -279,23 +282,23 @@ module _ {D : Type 0} (adds : Adding D) (c : Checkpoint) (key generation : ℕ) 
 -- ---- a whole checkpoint
 
 module _ {D : Type 0} (adds : Adding D) (key generation : ℕ) (s : Slot) (content : Option Content) (history : List Act) (counts : Counts key generation s content history) (aim : Kept) where
-  pub checkpoint_nothing : (after : List Act → Type 0) (old new : D) → new ≡ old → after history → Does adds key history (IsFoundOr content aim) after old new
+  pub checkpoint_nothing : (after : List Act → Type 0) (old new : D) → new ≡ old → after history → Does (passage adds old new) key history (IsFoundOr content aim) after
   checkpoint_nothing after old new same so = does_nothing adds key history (IsFoundOr content aim) after old new (leaves_also key history (λ o. o ≡ content) (IsFoundOr content aim) (λ o is. inl is) counts.leaves) same so
 
-  pub checkpoint_unbegun : (fault : JournalFault) (told : StoreFault) {X : Type 0} (so : List Act → X → Type 0) (old new : D) → told ≡ said fault → BeginGives adds key s generation (Err fault) old new → Does adds key history (IsFoundOr content aim) (λ acts. IfDone (so acts) acts (Err told)) old new
-  checkpoint_unbegun fault told so old new is gives = subst (λ (e : StoreFault). Does adds key history (IsFoundOr content aim) (λ acts. IfDone (so acts) acts (Err e)) old new) (sym is) (by_fault fault gives)
+  pub checkpoint_unbegun : (fault : JournalFault) (told : StoreFault) {X : Type 0} (so : List Act → X → Type 0) (old new : D) → told ≡ said fault → BeginGives (passage adds old new) key s generation (Err fault) → Does (passage adds old new) key history (IsFoundOr content aim) (λ acts. IfDone (so acts) acts (Err told))
+  checkpoint_unbegun fault told so old new is gives = subst (λ (e : StoreFault). Does (passage adds old new) key history (IsFoundOr content aim) (λ acts. IfDone (so acts) acts (Err e))) (sym is) (by_fault fault gives)
     where
-      also : (after : List Act → Type 0) → Does adds key history (λ o. o ≡ content) after old new → Does adds key history (IsFoundOr content aim) after old new
+      also : (after : List Act → Type 0) → Does (passage adds old new) key history (λ o. o ≡ content) after → Does (passage adds old new) key history (IsFoundOr content aim) after
       also after d = does_also adds key history (λ o. o ≡ content) (IsFoundOr content aim) after after old new (λ o it. inl it) (λ acts it. it) d
 
-      by_fault : (fault : JournalFault) → BeginGives adds key s generation (Err fault) old new → Does adds key history (IsFoundOr content aim) (λ acts. IfDone (so acts) acts (Err (said fault))) old new
+      by_fault : (fault : JournalFault) → BeginGives (passage adds old new) key s generation (Err fault) → Does (passage adds old new) key history (IsFoundOr content aim) (λ acts. IfDone (so acts) acts (Err (said fault)))
       by_fault faults.Failed gives = also HasFailed (begin_failed key generation s content history counts adds old new gives)
       by_fault faults.TooLong gives = also (λ acts. Unit {0}) (begin_fails key generation s content history counts adds faults.TooLong old new gives)
       by_fault faults.Memory gives = also (λ acts. Unit {0}) (begin_fails key generation s content history counts adds faults.Memory old new gives)
       by_fault faults.Full gives = also (λ acts. Unit {0}) (begin_fails key generation s content history counts adds faults.Full old new gives)
 
-  module _ (c c' : Checkpoint) (all : List Bytes) (old mid : D) (begins : BeginGives adds key s generation (Ok c) old mid) where
-    pub checkpoint_stops : (fault : StoreFault) (new : D) {X : Type 0} (also : List Act → X → Type 0) → Appends adds c all (Err fault) c' mid new → Does adds key history (IsFoundOr content aim) (λ acts. IfDone (also acts) acts (Err fault)) old new
+  module _ (c c' : Checkpoint) (all : List Bytes) (old mid : D) (begins : BeginGives (passage adds old mid) key s generation (Ok c)) where
+    pub checkpoint_stops : (fault : StoreFault) (new : D) {X : Type 0} (also : List Act → X → Type 0) → Appends (passage adds mid new) c all (Err fault) c' → Does (passage adds old new) key history (IsFoundOr content aim) (λ acts. IfDone (also acts) acts (Err fault))
     checkpoint_stops fault new {X} also appends =
         does_also adds key history (λ o. o ≡ content) (IsFoundOr content aim) (λ acts. IfDone {X = Unit {0}} (λ done. IsBegun key generation s content c' ([] ++ all) acts) acts (Err fault)) (λ acts. IfDone (also acts) acts (Err fault)) old new (λ o is. inl is)
         (λ acts it. stopped acts fault (λ done. IsBegun key generation s content c' ([] ++ all) acts) (also acts) it)
@@ -308,24 +311,24 @@ module _ {D : Type 0} (adds : Adding D) (key generation : ℕ) (s : Slot) (conte
         stopped acts Damaged so also it = it
         stopped acts Memory so also it = tt
 
-    module _ (end : D) (appends : Appends adds c all (Ok tt) c' mid end) (holds : Holds (content_of all []) aim) where
-      whole : Does adds key history (IsFoundOr content aim) (IsBegun key generation s content c' all) old end
+    module _ (end : D) (appends : Appends (passage adds mid end) c all (Ok tt) c') (holds : Holds (content_of all []) aim) where
+      whole : Does (passage adds old end) key history (IsFoundOr content aim) (IsBegun key generation s content c' all)
       whole =
           does_also adds key history (λ o. o ≡ content) (IsFoundOr content aim) (IsBegun key generation s content c' all) (IsBegun key generation s content c' all) old end (λ o is. inl is) (λ acts it. it)
           (does_then adds key history (λ o. o ≡ content) (IsBegun key generation s content c []) (IsBegun key generation s content c' all) old mid end
           (begin_goes key generation s content history counts adds c old mid begins) (λ acts b. appends key generation s content [] acts b))
 
-      pub checkpoint_done : (j : Journal) (store : Store) (new : D) → FinishGives adds c' (Ok j) end new → store.journal ≡ j → store.known ≡ aim.1 → Does adds key history (IsFoundOr content aim) (λ acts. Stands key acts store aim) old new
+      pub checkpoint_done : (j : Journal) (store : Store) (new : D) → FinishGives (passage adds end new) c' (Ok j) → store.journal ≡ j → store.known ≡ aim.1 → Does (passage adds old new) key history (IsFoundOr content aim) (λ acts. Stands key acts store aim)
       checkpoint_done j store new gives is next =
           does_then adds key history (IsFoundOr content aim) (IsBegun key generation s content c' all) (λ acts. Stands key acts store aim) old end new whole
           (λ acts b. finish_goes adds c' key generation s content all aim holds acts b j store end new gives is next)
 
-      pub checkpoint_unfinished : (fault : JournalFault) (told : StoreFault) {X : Type 0} (so : List Act → X → Type 0) (new : D) → told ≡ said fault → FinishGives adds c' (Err fault) end new → Does adds key history (IsFoundOr content aim) (λ acts. IfDone (so acts) acts (Err told)) old new
+      pub checkpoint_unfinished : (fault : JournalFault) (told : StoreFault) {X : Type 0} (so : List Act → X → Type 0) (new : D) → told ≡ said fault → FinishGives (passage adds end new) c' (Err fault) → Does (passage adds old new) key history (IsFoundOr content aim) (λ acts. IfDone (so acts) acts (Err told))
       checkpoint_unfinished fault told so new is gives =
-          subst (λ (e : StoreFault). Does adds key history (IsFoundOr content aim) (λ acts. IfDone (so acts) acts (Err e)) old new) (sym is)
+          subst (λ (e : StoreFault). Does (passage adds old new) key history (IsFoundOr content aim) (λ acts. IfDone (so acts) acts (Err e))) (sym is)
           (does_then adds key history (IsFoundOr content aim) (IsBegun key generation s content c' all) (λ acts. IfDone (so acts) acts (Err (said fault))) old end new whole (λ acts b. by_fault acts b fault gives))
         where
-          by_fault : (acts : List Act) → IsBegun key generation s content c' all acts → (fault : JournalFault) → FinishGives adds c' (Err fault) end new → Does adds key acts (IsFoundOr content aim) (λ later. IfDone (so later) later (Err (said fault))) end new
+          by_fault : (acts : List Act) → IsBegun key generation s content c' all acts → (fault : JournalFault) → FinishGives (passage adds end new) c' (Err fault) → Does (passage adds end new) key acts (IsFoundOr content aim) (λ later. IfDone (so later) later (Err (said fault)))
           by_fault acts b faults.Failed gives = finish_failed adds c' key generation s content all aim holds acts b end new gives
           by_fault acts b faults.TooLong gives = finish_fails adds c' key generation s content all aim holds acts b faults.TooLong end new gives
           by_fault acts b faults.Memory gives = finish_fails adds c' key generation s content all aim holds acts b faults.Memory end new gives

@@ -6,7 +6,7 @@ use Rattle.journal.specs.Disk.{Act, Found as WasFound}
 use Rattle.journal.specs.Frames.{Bytes}
 use Rattle.journal.specs.Files.{Content}
 use Rattle.journal.specs.Opening.{Chooses, Refuses}
-use Rattle.journal.specs.Keeping.{Adding, BothFound, NotBoth}
+use Rattle.journal.specs.Keeping.{Passage, BothFound, NotBoth}
 use Rattle.node_tree.specs.World.{World}
 use Rattle.compound_run.specs.Known.{Known}
 use Rattle.client_changes.specs.Comparing.{AreSame}
@@ -52,16 +52,16 @@ OpensSo key a b (Err Version) = Refuses key a b true
 OpensSo key a b (Err Damaged) = AreDamaged key a b
 OpensSo key a b (Err Memory) = Unit {0}
 
-abbrev pub BothFoundAnd : {D : Type 0} → Adding D → (Bytes → Bytes → Type 0) → D → D → Type 0
-BothFoundAnd adds so old new = (a : Bytes) × (b : Bytes) × BothFound adds a b old new × so a b
+abbrev pub BothFoundAnd : {D : Type 0} → Passage D → (Bytes → Bytes → Type 0) → Type 0
+BothFoundAnd p so = (a : Bytes) × (b : Bytes) × BothFound p a b × so a b
 
 -- Both files were found, and this is what they have; or one of them wasn't.
-abbrev pub Opens : {A D : Type 0} → Adding D → ℕ → Result (Base × Option (Found A)) StoreFault → D → D → Type 0
-Opens adds key (Err Failed) old new = NotBoth adds old new
-Opens adds key (Err Memory) old new = NotBoth adds old new ⊎ BothFoundAnd adds (λ a b. Unit {0}) old new
-Opens adds key (Err Version) old new = BothFoundAnd adds (λ a b. Refuses key a b true) old new
-Opens adds key (Err Damaged) old new = BothFoundAnd adds (AreDamaged key) old new
-Opens adds key (Ok found) old new = BothFoundAnd adds (λ a b. OpensSo key a b (Ok found)) old new
+abbrev pub Opens : {A D : Type 0} → Passage D → ℕ → Result (Base × Option (Found A)) StoreFault → Type 0
+Opens p key (Err Failed) = NotBoth p
+Opens p key (Err Memory) = NotBoth p ⊎ BothFoundAnd p (λ a b. Unit {0})
+Opens p key (Err Version) = BothFoundAnd p (λ a b. Refuses key a b true)
+Opens p key (Err Damaged) = BothFoundAnd p (AreDamaged key)
+Opens p key (Ok found) = BothFoundAnd p (λ a b. OpensSo key a b (Ok found))
 
 -- ---- starting
 
@@ -79,15 +79,14 @@ BegunSo key history (Err Memory) aim = Unit {0}
 
 -- Over two files of which one was chosen. A crash at any moment leaves what was chosen, or what was
 -- to be kept. At the end the store stands for what was to be kept.
-abbrev pub StartsSo : {D : Type 0} → Adding D → Base → Kept → Result Store StoreFault → D → D → Type 0
-StartsSo adds base aim result old new =
+abbrev pub StartsSo : {D : Type 0} → Passage D → Base → Kept → Result Store StoreFault → Type 0
+StartsSo p base aim result =
     (a b : Bytes) (content : Option Content) → Chooses base.key a b base.slot base.generation content
-    → Does adds base.key (both_found a b) (IsFoundOr content aim) (λ acts. BegunSo base.key acts result aim) old new
+    → Does p base.key (both_found a b) (IsFoundOr content aim) (λ acts. BegunSo base.key acts result aim)
 
 -- What is to be kept is the world, and what is known of clients.
-abbrev pub Starts : {D : Type 0} → Adding D → Base → World → Known → Result Store StoreFault → D → D → Type 0
-Starts adds base w now result old new =
-    (known : Known) × AreSame known now × StartsSo adds base (kept_with w known) result old new
+abbrev pub Starts : {D : Type 0} → Passage D → Base → World → Known → Result Store StoreFault → Type 0
+Starts p base w now result = (known : Known) × AreSame known now × StartsSo p base (kept_with w known) result
 
 -- ---- keeping
 
@@ -101,16 +100,12 @@ KeptSo key history (Err Version) store old aim now = ⊥
 KeptSo key history (Err Damaged) store old aim now = ⊥
 KeptSo key history (Err Memory) store old aim now = store.journal.has_failed ≡ true
 
--- Of a store that stands for what is kept, from where the notes of the world lead. A crash at any
--- moment leaves that, or what was to be kept. At the end the store stands for one of them.
-abbrev pub KeepsSo : {D : Type 0} → Adding D → Store → World → Known → Known → Result (Unit {0}) StoreFault → Store
-    → D → D → Type 0
-KeepsSo adds store w known now result store' old new =
-    (history : List Act) (kept : Kept) → Stands store.journal.key history store kept → Follows kept w
-    → Does adds store.journal.key history (IsHeldOr kept (kept_with w known))
-    (λ acts. KeptSo store.journal.key acts result store' kept (kept_with w known) (kept_with w now)) old new
-
-abbrev pub Keeps : {D : Type 0} → Adding D → Store → World → Known → Result (Unit {0}) StoreFault → Store → D → D
-    → Type 0
-Keeps adds store w now result store' old new =
-    (known : Known) × AreSame known now × KeepsSo adds store w known now result store' old new
+-- Of a store that stands for what is kept, from where the notes of the world lead. What is to be
+-- kept is the world, and what is known of clients. A crash at any moment leaves what is kept, or
+-- what was to be kept. At the end the store stands for one of them.
+abbrev pub Keeps : {D : Type 0} → Passage D → Store → World → Known → Result (Unit {0}) StoreFault → Store → Type 0
+Keeps p store w now result store' =
+    (known : Known) × AreSame known now × ((history : List Act) (kept : Kept)
+    → Stands store.journal.key history store kept → Follows kept w
+    → Does p store.journal.key history (IsHeldOr kept (kept_with w known))
+    (λ acts. KeptSo store.journal.key acts result store' kept (kept_with w known) (kept_with w now)))

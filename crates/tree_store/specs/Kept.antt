@@ -1,6 +1,6 @@
 -- What outlives a restart is the world, but for the notes of its changes, and what is known of
 -- clients.
-use Rattle.std.specs.Prelude.{◌≡◌, ◌⊎◌}
+use Rattle.std.specs.Prelude.{◌≡◌}
 use Rattle.node_tree.specs.World.{World}
 use Rattle.tree_changes.specs.Noting.{bare, Noted}
 use Rattle.compound_run.specs.Known.{Known}

@@ -9,7 +9,7 @@ use Rattle.journal.specs.Frames.{Bytes, Frame, all_framed}
 use Rattle.journal.specs.Files.{Content}
 use Rattle.journal.specs.Opening.{Chooses, Refuses, in_slot}
 use Rattle.journal.specs.Crash.{IsWritten, Fluke, HeadFluke}
-use Rattle.journal.specs.Keeping.{Adding}
+use Rattle.journal.specs.Keeping.{Adding, Passage}
 
 -- these acts, the newest first, were done one after the other
 abbrev pub Chain : {D : Type 0} → Adding D → List Act → D → D → Type 0
@@ -79,9 +79,9 @@ HasFailed (act ∷ acts) = IsGoing act → ⊥
 
 -- Acts were done after a history: a crash at any moment of them leaves what is so, and after them this holds of all
 -- acts.
-pub record Does {D : Type 0} (adds : Adding D) (key : ℕ) (history : List Act) (is : Option Content → Type 0)
-    (after : List Act → Type 0) (old new : D) : Type 0 where
+pub record Does {D : Type 0} (p : Passage D) (key : ℕ) (history : List Act) (is : Option Content → Type 0)
+    (after : List Act → Type 0) : Type 0 where
   pub acts : List Act
-  pub chain : Chain adds acts old new
+  pub chain : Chain p.adds acts p.old p.new
   pub leaves : AlwaysLeaves key acts history is
   pub so : after (acts ++ history)

@@ -1,9 +1,9 @@
 -- A store that stands for what is kept.
-use Rattle.std.specs.Prelude.{ℕ, ◌≡◌, true, false, List, [], length}
+use Rattle.std.specs.Prelude.{ℕ, ◌≡◌, true, false, List, length}
 use Rattle.journal.specs.Disk.{Act, on_disk}
 use Rattle.journal.specs.Frames.{Frame}
 use Rattle.journal.specs.Files.{Content}
-use Rattle.journal.specs.Living.{IsLive}
+use Rattle.journal.specs.Living.{IsLive, all_kept}
 use Rattle.tree_store.specs.Running.{Store}
 use Rattle.tree_store.specs.Kept.{Kept}
 use Rattle.tree_store.specs.Holds.{Holds}
@@ -13,7 +13,7 @@ use Rattle.tree_store.specs.Holds.{Holds}
 pub record Stands (key : ℕ) (history : List Act) (store : Store) (kept : Kept) : Type 0 where
   pub frames : List Frame
   pub content : Content
-  pub live : IsLive key store.journal.generation store.journal.slot frames [] true content history
+  pub live : IsLive (all_kept key store.journal.generation store.journal.slot frames content) true history
   pub none_loose : (on_disk store.journal.slot history).loose ≡ false
   pub holds : Holds content kept
   pub key_is : store.journal.key ≡ key

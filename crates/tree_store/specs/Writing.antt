@@ -10,12 +10,13 @@ use Rattle.journal.specs.Disk.{Act, Appended, Tore, Synced, Unsynced, other, on_
 use Rattle.journal.specs.Frames.{Bytes, Frame, PART, RECORD, framed, all_framed, frame_with, IsFit}
 use Rattle.journal.specs.Files.{Content}
 use Rattle.journal.specs.Replacing.{IsBase, IsReplaced}
-use Rattle.journal.specs.Keeping.{Adding, Twice}
+use Rattle.journal.specs.Keeping.{Passage, Unchanged, Once, Twice}
 use Rattle.node_tree.specs.World.{World, Object, Name}
 use Rattle.compound_run.specs.Known.{Known}
 use Rattle.client_changes.specs.Comparing.{AreNear}
 use Rattle.tree_changes.specs.Parts.{part, parts, object_value, name_value}
 use Rattle.tree_store.specs.declared.checkpoint.Fronts as checkpoints
+use Rattle.tree_store.specs.declared.checkpoint.Place.{Place}
 use Rattle.tree_store.specs.declared.checkpoint.Written.{Written}
 use Rattle.tree_store.specs.declared.fault.StoreFault.{StoreFault}
 use Rattle.tree_store.specs.declared.fault.StoreFault.TheVariants.{Failed, Version, Damaged, Memory}
@@ -34,20 +35,18 @@ abbrev pub framed_of : Journal → Bytes → Bytes
 framed_of j bytes = framed j.key j.generation j.number (frame_of j bytes)
 
 -- A record was appended and then synced, or the disk has failed, now or before, or nothing was done.
-abbrev pub RecordGives : {D : Type 0} → Adding D → Journal → Bytes → Result (Unit {0}) StoreFault → Journal → D → D
-    → Type 0
-RecordGives adds j bytes (Ok done) j' old new =
-    Twice adds (Appended j.slot (framed_of j bytes)) (Synced j.slot) old new
+abbrev pub RecordGives : {D : Type 0} → Passage D → Journal → Bytes → Result (Unit {0}) StoreFault → Journal → Type 0
+RecordGives p j bytes (Ok done) j' =
+    Twice p (Appended j.slot (framed_of j bytes)) (Synced j.slot)
     × IsFit j.key j.generation j.number (frame_of j bytes)
     × (j' ≡ record j { number = j.number + 1; safe = j.number + 1; has_failed = false })
-RecordGives adds j bytes (Err Failed) j' old new =
-    ((j.has_failed ≡ true) × (new ≡ old))
-    ⊎ ((adds old (Tore j.slot (framed_of j bytes)) new
-    ⊎ Twice adds (Appended j.slot (framed_of j bytes)) (Unsynced j.slot) old new)
+RecordGives p j bytes (Err Failed) j' =
+    ((j.has_failed ≡ true) × Unchanged p)
+    ⊎ ((Once p (Tore j.slot (framed_of j bytes)) ⊎ Twice p (Appended j.slot (framed_of j bytes)) (Unsynced j.slot))
     × IsFit j.key j.generation j.number (frame_of j bytes))
-RecordGives adds j bytes (Err Version) j' old new = ⊥
-RecordGives adds j bytes (Err Damaged) j' old new = ⊥
-RecordGives adds j bytes (Err Memory) j' old new = new ≡ old
+RecordGives p j bytes (Err Version) j' = ⊥
+RecordGives p j bytes (Err Damaged) j' = ⊥
+RecordGives p j bytes (Err Memory) j' = Unchanged p
 
 -- ---- a checkpoint
 
@@ -74,13 +73,13 @@ IfDone so acts (Err Memory) = Unit {0}
 
 -- Of a checkpoint that is being written: more parts are appended, and a crash at any moment leaves what the old file
 -- has.
-abbrev pub Appends : {D : Type 0} → Adding D → Checkpoint → List Bytes → Result (Unit {0}) StoreFault → Checkpoint → D
-    → D → Type 0
-Appends adds c more result c' old new =
+abbrev pub Appends : {D : Type 0} → Passage D → Checkpoint → List Bytes → Result (Unit {0}) StoreFault → Checkpoint
+    → Type 0
+Appends p c more result c' =
     (key generation : ℕ) (s : Slot) (content : Option Content) (parts : List Bytes) (history : List Act)
     → IsBegun key generation s content c parts history
-    → Does adds key history (λ o. o ≡ content)
-    (λ acts. IfDone (λ done. IsBegun key generation s content c' (parts ++ more) acts) acts result) old new
+    → Does p key history (λ o. o ≡ content)
+    (λ acts. IfDone (λ done. IsBegun key generation s content c' (parts ++ more) acts) acts result)
 
 -- the bytes of an object and of a name, and that they are read again
 abbrev pub object_bytes : ℕ × Object → Bytes
@@ -129,23 +128,21 @@ written_store w = record { journal = w.journal; known = w.known }
 
 -- Over a file that counts. A crash at any moment leaves what it has, or what was to be kept. At the
 -- end a store of what was written stands for what was to be kept.
-abbrev pub Checkpoints : {A D : Type 0} → Adding D → ℕ → Slot → ℕ → Kept → Result (Written A) StoreFault → D → D
-    → Type 0
-Checkpoints adds key s generation aim result old new =
-    (content : Option Content) (history : List Act) → Counts key generation s content history
-    → Does adds key history (IsFoundOr content aim)
-    (λ acts. IfDone (λ w. Stands key acts (written_store w) aim) acts result) old new
+abbrev pub Checkpoints : {A D : Type 0} → Passage D → Place → Kept → Result (Written A) StoreFault → Type 0
+Checkpoints p place aim result =
+    (content : Option Content) (history : List Act) → Counts place.key place.generation place.slot content history
+    → Does p place.key history (IsFoundOr content aim)
+    (λ acts. IfDone (λ w. Stands place.key acts (written_store w) aim) acts result)
 
 -- ---- a store that goes on
 
 -- Of a store that stands for what is kept. A crash at any moment leaves that, or what was to be
 -- kept. At the end the store stands for the latter, or it has failed.
-abbrev pub GoesOn : {D : Type 0} → Adding D → Store → Kept → Kept → Result (Unit {0}) StoreFault → Store → D → D
-    → Type 0
-GoesOn adds store kept aim result store' old new =
+abbrev pub GoesOn : {D : Type 0} → Passage D → Store → Kept → Kept → Result (Unit {0}) StoreFault → Store → Type 0
+GoesOn p store kept aim result store' =
     (history : List Act) → Stands store.journal.key history store kept
-    → Does adds store.journal.key history (IsHeldOr kept aim)
-    (λ acts. IfDone (λ done. Stands store.journal.key acts store' aim) acts result) old new
+    → Does p store.journal.key history (IsHeldOr kept aim)
+    (λ acts. IfDone (λ done. Stands store.journal.key acts store' aim) acts result)
 
 -- nothing was noted, and what is known of clients is kept, but for slots, on each of which fewer than 2^20 calls came
 pub record IsIdle (store : Store) (bytes : Bytes) (now : Known) : Type 0 where

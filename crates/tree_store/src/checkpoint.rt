@@ -7,6 +7,7 @@ ghost use Rattle.tree_changes.specs.Parts.{part, counters_value};
 ghost use Rattle.compound_run.specs.Known.{Known as KnownSo};
 ghost use Rattle.client_changes.specs.Comparing.{AreSame};
 ghost use Rattle.compound_run.specs.Views.{lent_view};
+ghost use Rattle.journal.specs.Keeping.{passage};
 ghost use Rattle.tree_store.specs.Kept.{kept_with};
 ghost use Rattle.tree_store.specs.Writing.{Appends, Checkpoints, FrontsLead, all_parts, fronts_list, fronts_of};
 ghost use Rattle.tree_store.specs.Writing.{object_bytes, name_bytes, HasObjectSpelling, HasNameSpelling, HaveSpelling};
@@ -44,8 +45,8 @@ struct Parts<A: Allocator> {
 impl<A: Allocator + Copy> Parts<A> {
     /// Appends the part that stands in the buffer, which is empty then.
     fn put<D: Disk>(&mut self, disk: &mut D, alloc: A) -> Result<(), StoreFault>
-        ensures appends { Appends D.adds self.old.checkpoint (self.old.writer.bytes ∷ []) result self.new.checkpoint
-            disk.old disk.new }
+        ensures appends { Appends (passage D.adds disk.old disk.new) self.old.checkpoint (self.old.writer.bytes ∷ [])
+            result self.new.checkpoint }
         ensures empty { self.new.writer.bytes ≡ [] }
     {
         self.size = self.size.saturating_add(self.writer.len() as u64);
@@ -64,8 +65,8 @@ impl<A: Allocator + Copy> Parts<A> {
         alloc: A,
         bytes: &Vec<u8, A>,
     ) -> Result<(), StoreFault>
-        ensures appends { Appends D.adds self.old.checkpoint (bytes.now.items ∷ []) result self.new.checkpoint disk.old
-            disk.new }
+        ensures appends { Appends (passage D.adds disk.old disk.new) self.old.checkpoint (bytes.now.items ∷ []) result
+            self.new.checkpoint }
         ensures stays { self.new.writer ≡ self.old.writer }
     {
         self.size = self.size.saturating_add(bytes.len() as u64);
@@ -82,8 +83,8 @@ impl<A: Allocator + Copy> Parts<A> {
         alloc: A,
         fronts: &Fronts<A>,
     ) -> Result<(), StoreFault>
-        ensures appends { Appends D.adds self.old.checkpoint (fronts_list (fronts_of fronts.now)) result
-            self.new.checkpoint disk.old disk.new }
+        ensures appends { Appends (passage D.adds disk.old disk.new) self.old.checkpoint
+            (fronts_list (fronts_of fronts.now)) result self.new.checkpoint }
         ensures stays { self.new.writer ≡ self.old.writer }
     {
         match self.put_bytes(disk, alloc, &fronts.first) {
@@ -105,8 +106,8 @@ impl<A: Allocator + Copy> Parts<A> {
         tree: &Tree<A>,
     ) -> Result<(), StoreFault>
         requires { self.old.writer.bytes ≡ [] }
-        ensures appends { Appends D.adds self.old.checkpoint (spelling part (counters_value tree.now) ∷ []) result
-            self.new.checkpoint disk.old disk.new }
+        ensures appends { Appends (passage D.adds disk.old disk.new) self.old.checkpoint
+            (spelling part (counters_value tree.now) ∷ []) result self.new.checkpoint }
         ensures has_spelling { OnOk result (HasSpelling part (counters_value tree.now)) }
         ensures empty { self.new.writer.bytes ≡ [] }
     {
@@ -125,8 +126,8 @@ impl<A: Allocator + Copy> Parts<A> {
     ) -> Result<(), StoreFault>
         requires empty { self.old.writer.bytes ≡ [] }
         requires sound { IsSound tree.now }
-        ensures appends { Appends D.adds self.old.checkpoint (map object_bytes tree.now.objects) result
-            self.new.checkpoint disk.old disk.new }
+        ensures appends { Appends (passage D.adds disk.old disk.new) self.old.checkpoint
+            (map object_bytes tree.now.objects) result self.new.checkpoint }
         ensures has_spelling { OnOk result (AllByRecursion HasObjectSpelling tree.now.objects) }
         ensures empty { OnOk result (self.new.writer.bytes ≡ []) }
     {
@@ -152,8 +153,8 @@ impl<A: Allocator + Copy> Parts<A> {
     ) -> Result<(), StoreFault>
         requires empty { self.old.writer.bytes ≡ [] }
         requires sound { IsSound tree.now }
-        ensures appends { Appends D.adds self.old.checkpoint (map name_bytes tree.now.names) result self.new.checkpoint
-            disk.old disk.new }
+        ensures appends { Appends (passage D.adds disk.old disk.new) self.old.checkpoint (map name_bytes tree.now.names)
+            result self.new.checkpoint }
         ensures has_spelling { OnOk result (AllByRecursion HasNameSpelling tree.now.names) }
     {
         let mut at = 0;
@@ -179,8 +180,8 @@ impl<A: Allocator + Copy> Parts<A> {
     ) -> Result<(), StoreFault>
         requires empty { self.old.writer.bytes ≡ [] }
         requires sound { IsSound tree.now }
-        ensures appends { Appends D.adds self.old.checkpoint (all_parts tree.now (fronts_of fronts.now)) result
-            self.new.checkpoint disk.old disk.new }
+        ensures appends { Appends (passage D.adds disk.old disk.new) self.old.checkpoint
+            (all_parts tree.now (fronts_of fronts.now)) result self.new.checkpoint }
         ensures has_spelling { OnOk result (HaveSpelling tree.now) }
     {
         match self.put_fronts(disk, alloc, fronts) {
@@ -257,8 +258,7 @@ fn write_parts<D: Disk, A: Allocator + Copy>(
     known: Known<A>,
 ) -> Result<Written<A>, StoreFault>
     requires { FrontsLead (fronts_of fronts.now) known }
-    ensures { Checkpoints D.adds place.key place.slot place.generation (kept_with tree.now known) result disk.old
-        disk.new }
+    ensures { Checkpoints (passage D.adds disk.old disk.new) place (kept_with tree.now known) result }
 {
     // of a tree of which something was looked up it is known that it is sound
     let _root = tree.object(ROOT);
@@ -298,7 +298,7 @@ pub(crate) fn write_checkpoint<D: Disk, A: Allocator + Copy>(
     now: Lent<'_, A>,
 ) -> Result<Written<A>, StoreFault>
     ensures { (known : KnownSo) × AreSame known (lent_view now.entry) ×
-        Checkpoints D.adds place.key place.slot place.generation (kept_with tree.now known) result disk.old disk.new }
+        Checkpoints (passage D.adds disk.old disk.new) place (kept_with tree.now known) result }
 {
     let Ok(fronts) = Fronts::written(alloc, now) else {
         return Err(StoreFault::Memory);

@@ -1,4 +1,5 @@
 //! A server starts from what two files have.
+ghost use Rattle.journal.specs.Keeping.{passage};
 ghost use Rattle.tree_store.specs.Keeping.{Opens, OpensSo};
 
 use crate::fault::StoreFault;
@@ -64,7 +65,7 @@ pub fn open<D: Disk, A: Allocator + Copy>(
     alloc: A,
     key: u64,
 ) -> Result<(Base, Option<Found<A>>), StoreFault>
-    ensures { Opens D.adds key result disk.old disk.new }
+    ensures { Opens (passage D.adds disk.old disk.new) key result }
 {
     let (a, b) = match load(disk, alloc) {
         Ok(files) => files,

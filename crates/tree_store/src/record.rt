@@ -2,6 +2,7 @@
 ghost use Rattle.std.specs.Prelude.{◌≡◌, ◌++◌, Some, IfOk, OnOk};
 ghost use Rattle.client_changes.specs.Comparing.{AreSame};
 ghost use Rattle.compound_run.specs.Views.{lent_view};
+ghost use Rattle.journal.specs.Keeping.{passage};
 ghost use Rattle.tree_store.specs.Folded.{whole_of};
 ghost use Rattle.tree_store.specs.Holds.{LeadsWhole};
 ghost use Rattle.tree_store.specs.Writing.{RecordGives};
@@ -70,7 +71,7 @@ pub(crate) fn keep_record<D: Disk, A: Allocator>(
     alloc: A,
     bytes: &[u8],
 ) -> Result<(), StoreFault>
-    ensures { RecordGives D.adds journal.old bytes.now result journal.new disk.old disk.new }
+    ensures { RecordGives (passage D.adds disk.old disk.new) journal.old bytes.now result journal.new }
 {
     match journal.append(disk, alloc, bytes) {
         Ok(()) => {}

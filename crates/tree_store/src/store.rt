@@ -5,6 +5,7 @@ ghost use Rattle.node_tree.specs.World.{World};
 ghost use Rattle.compound_run.specs.Known.{Known as KnownSo};
 ghost use Rattle.client_changes.specs.Comparing.{AreSame};
 ghost use Rattle.compound_run.specs.Views.{lent_view};
+ghost use Rattle.journal.specs.Keeping.{passage};
 ghost use Rattle.tree_store.specs.Kept.{Kept, kept_with};
 ghost use Rattle.tree_store.specs.Keeping.{Starts, Keeps};
 ghost use Rattle.tree_store.specs.Writing.{GoesOn, IsIdle};
@@ -60,7 +61,7 @@ impl<A: Allocator + Copy> Store<A> {
         tree: &Tree<A>,
         now: Lent<'_, A>,
     ) -> Result<Self, StoreFault>
-        ensures { Starts D.adds base tree.now (lent_view now.entry) result disk.old disk.new }
+        ensures { Starts (passage D.adds disk.old disk.new) base tree.now (lent_view now.entry) result }
     {
         let place = Place {
             key: base.key,
@@ -100,7 +101,8 @@ impl<A: Allocator + Copy> Store<A> {
         now: Lent<'_, A>,
     ) -> Result<(), StoreFault>
         ensures goes_on { (known : KnownSo) × AreSame known (lent_view now.entry) ×
-            ((kept : Kept) → GoesOn D.adds self.old kept (kept_with tree.now known) result self.new disk.old disk.new) }
+            ((kept : Kept) →
+            GoesOn (passage D.adds disk.old disk.new) self.old kept (kept_with tree.now known) result self.new) }
         ensures failed { OnErr result (self.new.journal.has_failed ≡ true) }
     {
         let place = Place {
@@ -131,7 +133,7 @@ impl<A: Allocator + Copy> Store<A> {
     ) -> Result<(), StoreFault>
         ensures goes_on { (known : KnownSo) × AreSame known (lent_view now.entry) ×
             ((kept : Kept) (w : World) → Replays kept.0 turn.now.notes.now w →
-            GoesOn D.adds self.old kept (w, known) result self.new disk.old disk.new) }
+            GoesOn (passage D.adds disk.old disk.new) self.old kept (w, known) result self.new) }
         ensures failed { OnErr result (self.new.journal.has_failed ≡ true) }
     {
         let mut journal = self.journal;
@@ -164,7 +166,8 @@ impl<A: Allocator + Copy> Store<A> {
         tree: &Tree<A>,
         now: Lent<'_, A>,
     ) -> Result<(), StoreFault>
-        ensures keeps { Keeps D.adds self.old tree.now (lent_view now.entry) result self.new disk.old disk.new }
+        ensures keeps { Keeps (passage D.adds disk.old disk.new) self.old tree.now (lent_view now.entry) result
+            self.new }
         ensures failed { self.old.journal.has_failed ≡ true → (result ≡ Err Failed) × (disk.new ≡ disk.old) }
         ensures idle { self.old.journal.has_failed ≡ false → tree.now.notes.is_lost ≡ false →
             IsIdle self.old tree.now.notes.bytes (lent_view now.entry) → IsOk result × (disk.new ≡ disk.old) }

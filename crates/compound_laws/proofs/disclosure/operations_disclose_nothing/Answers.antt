@@ -1,5 +1,5 @@
-use Rattle.compound_laws.proofs.Disclosing.{operations_disclose_nothing}
+use Rattle.compound_laws.proofs.Operations.{laws_of}
 use Rattle.compound_laws.proofs.disclosure.operations_disclose_nothing.Goals as goal
 
 pub returns : goal.returns
-returns c = operations_disclose_nothing
+returns c context handles op = (laws_of context handles op).discloses

@@ -1,6 +1,6 @@
 use Rattle.std.proofs.Common.{◌≡◌, ◌∙◌, ◌+◌, ◌≤◌, ℕ, Some, None, map, sym, ap, subst, arith, length}
 use Rattle.journal.specs.Frames.{Bytes, lent, frame_at}
-use Rattle.journal.specs.Files.{IsRead}
+use Rattle.journal.specs.Files.{IsRead, tail_with}
 use Rattle.journal.proofs.Gathering.{goes, ends}
 use Rattle.journal.proofs.reading.read_file.Goals as goal
 
@@ -33,8 +33,8 @@ returns g c =
     let gen = c.generation_of-generation.result in
     let none : frame_at c.args.key gen fr.number fr.rest.now ≡ None =
     ap (λ (k : ℕ). frame_at k gen fr.number fr.rest.now) (sym i.key) ∙ ap (λ (n : ℕ). frame_at fr.key n fr.number fr.rest.now) (sym i.generation) ∙ e.takes.0 in
-    let done : IsRead c.args.key c.args.file.now gen fr.number fr.rest.now b.is_whole (map (λ b. b.now) b.parts.items) (map (λ b. b.now) b.records.items) =
+    let done : IsRead c.args.key c.args.file.now gen (tail_with fr.number fr.rest.now) b.is_whole (map (λ b. b.now) b.parts.items) (map (λ b. b.now) b.records.items) =
     ends c.args.key gen c.args.file.now fr.number fr.rest.now b.is_whole (map (λ b. b.now) b.parts.items) (map (λ b. b.now) b.records.items)
     c.generation_of-generation.ensures none i.goes in
-    subst (λ (n : ℕ). IsRead c.args.key c.args.file.now gen n c.next.new.self.rest.now b.is_whole (map (λ b. b.now) b.parts.items) (map (λ b. b.now) b.records.items)) (sym e.stays)
-    (subst (λ (r : Bytes). IsRead c.args.key c.args.file.now gen fr.number r b.is_whole (map (λ b. b.now) b.parts.items) (map (λ b. b.now) b.records.items)) (sym e.takes.1) done)
+    subst (λ (n : ℕ). IsRead c.args.key c.args.file.now gen (tail_with n c.next.new.self.rest.now) b.is_whole (map (λ b. b.now) b.parts.items) (map (λ b. b.now) b.records.items)) (sym e.stays)
+    (subst (λ (r : Bytes). IsRead c.args.key c.args.file.now gen (tail_with fr.number r) b.is_whole (map (λ b. b.now) b.parts.items) (map (λ b. b.now) b.records.items)) (sym e.takes.1) done)

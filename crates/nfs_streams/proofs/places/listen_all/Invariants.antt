@@ -6,5 +6,5 @@ abbrev pub invariant-loop-index : goal.invariant-loop-index
 invariant-loop-index g l = record {
   len : length l.places ≡ length l.fn.places;
   most : l.door.limits ≡ l.fn.door.limits;
-  moves : (n : ℕ) → Moves (Listening n) (Listening n) l.fn.door.limits l.fn.hub l.fn.places (left_of l.fn.door) l.hub l.places (left_of l.door) (g.S.Streams.acts l.fn.streams) (g.S.Streams.acts l.streams);
+  moves : (n : ℕ) → Moves (Listening n) (Listening n) l.fn.door.limits (record { hub = l.fn.hub; places = l.fn.places; left = left_of l.fn.door; acts = g.S.Streams.acts l.fn.streams }) (record { hub = l.hub; places = l.places; left = left_of l.door; acts = g.S.Streams.acts l.streams });
 }

@@ -1,4 +1,4 @@
-use Rattle.std.proofs.Common.{Bor, List, ℕ, [], map, take, drop, length, ◌-◌, slice_index_or}
+use Rattle.std.proofs.Common.{Bor, List, ℕ, []}
 use Rattle.tree_store.proofs.Gathering.{begun_fault, clients_fault, three_parts, too_few_parts, begun_so}
 use Rattle.tree_store.proofs.reading.begun.Goals as goal
 

@@ -1,4 +1,4 @@
-use Rattle.tree_store.proofs.Gathering.{first_fault, second_fault, third_fault, all_led}
+use Rattle.tree_store.proofs.Gathering.{first_fault, second_fault, third_fault}
 use Rattle.tree_store.proofs.reading.known_of.Goals as goal
 
 pub returns-in-Err : goal.returns-in-Err

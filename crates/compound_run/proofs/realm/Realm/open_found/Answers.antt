@@ -10,7 +10,7 @@ use Rattle.compound_run.specs.Open.{file_in, has_space_for, joined, opening}
 use Rattle.compound_run.specs.Opening.{placed_stateid}
 use Rattle.compound_run.specs.Runs.{waits}
 use Rattle.compound_run.specs.declared.filehandles.FileHandles.{FileHandles}
-use Rattle.compound_run.specs.Views.{GivesSo, context_at, realm_of, settings_in}
+use Rattle.compound_run.specs.Views.{GivesSo, context_at, realm_of, settings_in, stage, sense}
 use Rattle.compound_run.proofs.Opening.{refused, given, fails_by, wanting, there_is, change_kept, realm_placed, placed_stateid_so}
 use Rattle.compound_run.proofs.Writing.{written_as}
 use Rattle.compound_run.proofs.realm.Realm.open_found.Goals as goal
@@ -25,7 +25,7 @@ returns-in_err-place g c =
     let is : c.place_found.result ≡ Err status = search rules in
     let space = has_space_for context v 0 (Some c.args.file) s in
     let answer : c.from_residual.result ≡ Err status = search rules in
-    subst (λ (r : Result FileHandles Status). GivesSo true c.args.step.context.room (opening v context h) waits c.args.self.now h c.args.out.now r c.place_found.new.self c.args.out.now) (sym answer)
+    subst (λ (r : Result FileHandles Status). GivesSo (sense true (opening v context h) waits) c.args.step.context.room h (stage c.args.self.now c.args.out.now) r (stage c.place_found.new.self c.args.out.now)) (sym answer)
     (refused c.args.step.context.room v context h c.args.self.now c.place_found.new.self c.args.out.now status c.in_err-place.ensures.err c.place_found.ensures.log c.place_found.ensures.settings
     (λ other. fails_by v context h s (Some c.args.file) c.requires.found true true space refl refl refl ∙ wanting space status c.place_found.result is c.place_found.ensures.full c.place_found.ensures.space other))
 

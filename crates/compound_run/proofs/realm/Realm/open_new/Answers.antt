@@ -24,7 +24,7 @@ use Rattle.compound_run.specs.Runs.{waits}
 use Rattle.compound_run.specs.Setattr.{size_fits}
 use Rattle.compound_run.specs.Sight.{whole}
 use Rattle.compound_run.specs.declared.filehandles.FileHandles.{FileHandles}
-use Rattle.compound_run.specs.Views.{GivesSo, context_at, opens_view, realm_of, settings_in, settings_of, wanted_view}
+use Rattle.compound_run.specs.Views.{GivesSo, context_at, opens_view, realm_of, settings_in, settings_of, wanted_view, stage, sense}
 use Rattle.compound_run.proofs.Opening.{refused, given, fails_by, wanting, there_is, left_is, some_is, change_made, space_new, no_space_new, no_open_more, unfit, file_made, realm_placed, placed_stateid_so}
 use Rattle.compound_run.proofs.Writing.{written_as}
 use Rattle.compound_run.proofs.realm.Realm.open_new.Goals as goal
@@ -46,7 +46,7 @@ returns-in_err-place g c =
     let fits : size_fits c.args.wanted.size ≡ true = search rules in
     let file = has_file_space context v d None s in
     let more = has_open_space (joined context v None s.opens) s in
-    subst (λ (r : Result FileHandles Status). GivesSo true c.args.step.context.room (opening v context h) waits c.args.self.now h c.args.out.now r c.place.new.self c.args.out.now) (sym answer)
+    subst (λ (r : Result FileHandles Status). GivesSo (sense true (opening v context h) waits) c.args.step.context.room h (stage c.args.self.now c.args.out.now) r (stage c.place.new.self c.args.out.now)) (sym answer)
     (refused c.args.step.context.room v context h c.args.self.now c.place.new.self c.args.out.now status realm
     (ap (λ e. e.tree.log) c.place.ensures.others) (ap settings_of c.place.ensures.others)
     (λ other. fails_by v context h s None found true true (file && more) (ap (is_own context.caller) c.requires.wanted ∙ own) (ap (λ w. size_fits w.size) c.requires.wanted ∙ fits)
@@ -75,7 +75,7 @@ returns-in_err-new g c =
     let bounds = new_fits (specs.wanted context v) File (list_at w d) in
     let same : new_fits (wanted_view c.args.wanted) File (list_at c.place.new.self.tree.world d) ≡ bounds = λ i. new_fits (sym c.requires.wanted i) File (list_at (worlds i) d) in
     let none = unfit (new_fits (wanted_view c.args.wanted) File (list_at c.place.new.self.tree.world d)) status c.new_file.result is c.new_file.ensures.fits in
-    subst (λ (r : Result FileHandles Status). GivesSo true c.args.step.context.room (opening v context h) waits c.args.self.now h c.args.out.now r c.place.new.self c.args.out.now) (sym answer)
+    subst (λ (r : Result FileHandles Status). GivesSo (sense true (opening v context h) waits) c.args.step.context.room h (stage c.args.self.now c.args.out.now) r (stage c.place.new.self c.args.out.now)) (sym answer)
     (refused c.args.step.context.room v context h c.args.self.now c.place.new.self c.args.out.now status realm
     (ap (λ e. e.tree.log) c.place.ensures.others) (ap settings_of c.place.ensures.others)
     (λ other. fails_by v context h s None found true true false (ap (is_own context.caller) c.requires.wanted ∙ own) (ap (λ w. size_fits w.size) c.requires.wanted ∙ fits)
@@ -106,7 +106,7 @@ returns-in_err-file g c =
     let bounded : new_fits (specs.wanted context v) File (list_at c.args.self.now.tree.world d) ≡ true = (λ i. new_fits (c.requires.wanted i) File (list_at (sym worlds i) d)) ∙ c.in_ok-new.ensures.fits in
     let can = can_add s d in
     let cans = ap (λ r. can_add (whole r) d) same in
-    subst (λ (r : Result FileHandles Status). GivesSo true c.args.step.context.room (opening v context h) waits c.args.self.now h c.args.out.now r c.add.new.self c.args.out.now) (sym answer)
+    subst (λ (r : Result FileHandles Status). GivesSo (sense true (opening v context h) waits) c.args.step.context.room h (stage c.args.self.now c.args.out.now) r (stage c.add.new.self c.args.out.now)) (sym answer)
     (refused c.args.step.context.room v context h c.args.self.now c.add.new.self c.args.out.now status realm
     (ap (λ e. e.tree.log) c.in_err-file.ensures.err ∙ ap (λ e. e.tree.log) c.place.ensures.others) (ap settings_of c.in_err-file.ensures.err ∙ ap settings_of c.place.ensures.others)
     (λ other. fails_by v context h s None found true true can (ap (is_own context.caller) c.requires.wanted ∙ own) (ap (λ w. size_fits w.size) c.requires.wanted ∙ fits)
@@ -154,7 +154,7 @@ returns g c =
     let change : (let told : Value change_info = (inl tt, (c.args.directory.change, c.in_ok-at.at.tick)) in told) ≡ change_of (claim_of v) (here h) None s =
     change_made (claim_of v) c.args.name.now (here h) s c.args.directory.change c.in_ok-at.at.tick c.requires.claim (sym c.requires.change ∙ ap (λ n. s.changes n) (sym here_is)) (ap (λ a. a.tick) when) in
     let told = ap change_info_value c.changed-change.ensures ∙ change in
-    subst (λ (n : ℕ). GivesSo true c.args.step.context.room (opening v context h) waits c.args.self.now h c.args.out.now (Ok (record h { current = Some n })) c.put_open-stateid.new.self c.put_result.new.out) (sym number)
+    subst (λ (n : ℕ). GivesSo (sense true (opening v context h) waits) c.args.step.context.room h (stage c.args.self.now c.args.out.now) (Ok (record h { current = Some n })) (stage c.put_open-stateid.new.self c.put_result.new.out)) (sym number)
     (given c.args.step.context.room v context h c.args.self.now c.put_open-stateid.new.self c.args.out.now None c.put_result.new.out found (ap (is_own context.caller) c.requires.wanted ∙ own) (ap (λ w. size_fits w.size) c.requires.wanted ∙ fits)
     (ap (λ x. has_space_for context v x None s) here_is ∙ space_new (has_left s.next_tick) (new_fits (specs.wanted context v) File (list_at w d)) (can_add s d) (has_open_space (joined context v None s.opens) s) left bounded more ∙ can)
     opened (ap (λ x. x.log) c.put_open-stateid.ensures.tree ∙ ap (λ e. e.tree.log) c.in_ok-file.ensures.ok ∙ ap (λ e. e.tree.log) c.place.ensures.others)

@@ -3,18 +3,19 @@ use Rattle.nfs_types.specs.ShownViews.{shown_value}
 use Rattle.nfs_ops.specs.OpViews.{op_view}
 use Rattle.nfs_client.specs.ChMod.{ChModAsks, WrongMode}
 use Rattle.nfs_client.specs.Setting.{set_by, set_attributes}
-use Rattle.nfs_client.specs.Taking.{takes_nothing, nothing}
+use Rattle.nfs_client.specs.Streams.{directions_of}
+use Rattle.nfs_client.specs.Taking.{no_value}
 use Rattle.nfs_client.proofs.Walks.{command_runs, command_stops}
 use Rattle.nfs_client.proofs.client.Client.chmod.Goals as goal
 
 pub returns-in-Ok-ready-clause-gives : goal.returns-in-Ok-ready-clause-gives
 returns-in-Ok-ready-clause-gives g c =
     let is = c.in_ok-op.ensures.asks ∙ ap (set_by (shown_value c.of_mode-shown.result)) (c.bytes.ensures ∙ c.in_ok-values.ensures.values) ∙ ap set_attributes c.of_mode-shown.ensures in
-    command_runs g.S.Write.contents g.S.Read.remaining takes_nothing nothing (ChModAsks c.args.word.now c.args.path.now) (WrongMode c.args.word.now c.args.path.now) c.args.self.now c.run.new.self c.ready.new.self c.in-Ok-ready.request c.in-Ok.path (op_view c.in_ok-op.op) c.run.result
+    command_runs (directions_of g.S.Write.contents g.S.Read.remaining) no_value (ChModAsks c.args.word.now c.args.path.now) (WrongMode c.args.word.now c.args.path.now) c.args.self.now c.run.new.self c.ready.new.self c.in-Ok-ready.request c.in-Ok.path (op_view c.in_ok-op.op) c.run.result
     (c.in-Some.mode, sym c.in-Some.ensures.value, c.in-Ok.ensures, is) (rw c.names.ensures at c.in-Ok-ready.ensures) c.run.ensures
 
 pub returns-clause-gives : goal.returns-clause-gives
 returns-clause-gives g c =
     let is = c.in_ok-op.ensures.asks ∙ ap (set_by (shown_value c.of_mode-shown.result)) (c.bytes.ensures ∙ c.in_ok-values.ensures.values) ∙ ap set_attributes c.of_mode-shown.ensures in
-    command_stops {X = Unit {0}} g.S.Write.contents g.S.Read.remaining takes_nothing nothing (ChModAsks c.args.word.now c.args.path.now) (WrongMode c.args.word.now c.args.path.now) c.args.self.now c.ready.new.self c.in-Ok.path (op_view c.in_ok-op.op) c.in-Err-ready.fault
+    command_stops {X = Unit {0}} (directions_of g.S.Write.contents g.S.Read.remaining) no_value (ChModAsks c.args.word.now c.args.path.now) (WrongMode c.args.word.now c.args.path.now) c.args.self.now c.ready.new.self c.in-Ok.path (op_view c.in_ok-op.op) c.in-Err-ready.fault
     (c.in-Some.mode, sym c.in-Some.ensures.value, c.in-Ok.ensures, is) (rw c.names.ensures at c.in-Err-ready.ensures)

@@ -4,7 +4,7 @@ use Rattle.std.proofs.Math.Seq.{take-length}
 use Rattle.xdr_wire.specs.Buffer.{Buffer}
 use Rattle.nfs_hub.specs.Answer.{Served, Replied, RecordEnds}
 use Rattle.nfs_hub.specs.Machine.{fragment}
-use Rattle.nfs_hub.proofs.Pieces.{came_at, came_record, came_to_end, came_to_break, came_to_fault, record_faults, stopped, stands_part, stands_end, record_at}
+use Rattle.nfs_hub.proofs.Pieces.{came, came_at, came_record, came_to_end, came_to_break, came_to_fault, record_faults, stopped, stands_part, stands_end, record_at}
 use Rattle.nfs_hub.proofs.connection.Connection.serve_record.Goals as goal
 
 pub loop-from-init : goal.loop-from-init
@@ -49,8 +49,8 @@ returns-in-Record-clause-gives g c =
     let out = answered.2 ∙ ap (λ (w : Buffer). w.bytes ++ fragment answered.0) c.loop-from.invariant.pending in
     λ rest s.
     let st = c.loop-from.invariant.stands rest s in (
-      rw c.clear.ensures.items
-          (came_record rest c.args.piece.now c.loop-from.at (came_at rest c.args.piece.now c.loop-from.at c.loop-from.self.framer c.loop-from.self.content.items st) c.in-Record.from c.in-Record.to c.feed.new.self answered.0 c.answer.new.self _ (omega (arith, c.in-Record.ensures.within)) c.in-Record.ensures.gives ends out),
+      came _ (rw c.clear.ensures.items
+          (came_record rest c.args.piece.now c.loop-from.at (came_at rest c.args.piece.now c.loop-from.at c.loop-from.self.framer c.loop-from.self.content.items st) c.in-Record.from c.in-Record.to c.feed.new.self answered.0 c.answer.new.self _ (omega (arith, c.in-Record.ensures.within)) c.in-Record.ensures.gives ends out)),
       inl (content, record_at rest c.args.piece.now c.loop-from.at c.in-Record.from c.in-Record.to c.loop-from.self.framer c.feed.new.self c.loop-from.self.content.items (omega (arith, c.in-Record.ensures.within)) c.in-Record.ensures.gives st),
     )
 
@@ -60,7 +60,7 @@ returns-in-NeedMore-clause-gives g c =
     rw (c.loop-from.invariant.served, c.loop-from.invariant.pending, take-length piece)
     (λ rest s.
     let st = c.loop-from.invariant.stands rest s in (
-      came_to_end rest piece c.loop-from.at (came_at rest piece c.loop-from.at c.loop-from.self.framer c.loop-from.self.content.items st) c.feed.new.self c.in-NeedMore.ensures.gives,
+      came _ (came_to_end rest piece c.loop-from.at (came_at rest piece c.loop-from.at c.loop-from.self.framer c.loop-from.self.content.items st) c.feed.new.self c.in-NeedMore.ensures.gives),
       inr (refl, c.a_framer_stands_for_a_rest.ensures c.feed.new.self c.loop-from.self.content.items _ (stands_end rest piece c.loop-from.at c.loop-from.self.framer c.feed.new.self c.loop-from.self.content.items c.in-NeedMore.ensures.gives st), refl, refl),
     ))
 

@@ -1,4 +1,4 @@
-use Rattle.std.proofs.Common.{◌≡◌, ◌∙◌, ℕ, true, List, refl, sym, subst}
+use Rattle.std.proofs.Common.{◌≡◌, true, refl, subst}
 use Rattle.std.specs.Prelude.{Result, Ok, Err, IfOk, IsOkUnless}
 use Rattle.node_tree.specs.World.{World}
 use Rattle.session_slots.specs.declared.restoring.RestoreFault.{RestoreFault}

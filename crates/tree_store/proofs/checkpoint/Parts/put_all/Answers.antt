@@ -3,6 +3,7 @@ use Rattle.std.specs.List.{AllByRecursion}
 use Rattle.xdr_wire.specs.Xdr.{spelling}
 use Rattle.tree_changes.specs.Parts.{part, counters_value}
 use Rattle.journal.specs.Frames.{Bytes}
+use Rattle.journal.specs.Keeping.{passage}
 use Rattle.tree_store.specs.Writing.{Appends, fronts_list, fronts_of, all_parts, object_bytes, name_bytes, HasNameSpelling, HaveSpelling}
 use Rattle.tree_store.proofs.Putting.{appends_then, appends_fault, all_parts_are, all_have, on_ok}
 use Rattle.tree_store.proofs.checkpoint.Parts.put_all.Goals as goal
@@ -52,7 +53,7 @@ returns-clause-appends g c =
     let second : List Bytes = spelling part (counters_value w) ∷ [] in
     let third : List Bytes = map object_bytes w.objects in
     let last : List Bytes = map name_bytes w.names in
-    subst (λ (l : List Bytes). Appends g.D.Disk.adds c0 l c.put_names.result c4 c.args.disk.now c.put_names.new.disk) (all_parts_are w (fronts_of c.args.fronts.now))
+    subst (λ (l : List Bytes). Appends (passage g.D.Disk.adds c.args.disk.now c.put_names.new.disk) c0 l c.put_names.result c4) (all_parts_are w (fronts_of c.args.fronts.now))
     (appends_then g.D.Disk.adds c0 c1 c4 first (second ++ (third ++ last)) c.put_names.result c.args.disk.now c.put_fronts.new.disk c.put_names.new.disk c.in-Ok.ensures.appends
     (appends_then g.D.Disk.adds c1 c2 c4 second (third ++ last) c.put_names.result c.put_fronts.new.disk c.put_counters.new.disk c.put_names.new.disk c.in-Ok-put_counters.ensures.appends
     (appends_then g.D.Disk.adds c2 c3 c4 third last c.put_names.result c.put_counters.new.disk c.put_objects.new.disk c.put_names.new.disk c.in-Ok-put_objects.ensures.appends c.put_names.ensures.appends)))

@@ -1,5 +1,4 @@
-use Rattle.std.proofs.Common.{◌∷◌, ◌++◌, [], List, Err}
-use Rattle.journal.specs.Frames.{Bytes}
+use Rattle.std.proofs.Common.{◌∷◌, [], Err}
 use Rattle.tree_store.specs.Writing.{fronts_list, fronts_of}
 use Rattle.tree_store.proofs.Putting.{appends_then, appends_fault}
 use Rattle.tree_store.proofs.checkpoint.Parts.put_fronts.Goals as goal

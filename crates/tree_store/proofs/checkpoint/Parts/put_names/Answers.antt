@@ -1,6 +1,7 @@
 use Rattle.std.proofs.Common.{◌∷◌, ◌++◌, [], List, ℕ, map, sym, subst, arith, Ok, Err}
 use Rattle.std.specs.List.{AllByRecursion}
 use Rattle.node_tree.specs.World.{Name}
+use Rattle.journal.specs.Keeping.{passage}
 use Rattle.tree_store.specs.Writing.{Appends, name_bytes, HasNameSpelling}
 use Rattle.tree_store.proofs.Putting.{NamesPut, appends_then, appends_fault, appends_stop, written_alone, names_begun, name_put, name_in, names_done, cookie_closer}
 use Rattle.tree_store.proofs.checkpoint.Parts.put_names.Goals as goal
@@ -45,7 +46,7 @@ loop-name-preserved g c =
 pub returns-clause-appends : goal.returns-clause-appends
 returns-clause-appends g c =
     let p = c.loop-name.invariant.put in
-    subst (λ (l : List Name). Appends g.D.Disk.adds c.args.self.now.checkpoint (map name_bytes l) (Ok tt) c.loop-name.self.checkpoint c.args.disk.now c.loop-name.disk)
+    subst (λ (l : List Name). Appends (passage g.D.Disk.adds c.args.disk.now c.loop-name.disk) c.args.self.now.checkpoint (map name_bytes l) (Ok tt) c.loop-name.self.checkpoint)
     (names_done g.D.Disk.adds c.args.tree.now c.loop-name.at c.args.self.now.checkpoint c.loop-name.self.checkpoint c.args.disk.now c.loop-name.disk p (sym c.in_default.ensures)) p.appended
 
 pub returns-clause-has_spelling : goal.returns-clause-has_spelling

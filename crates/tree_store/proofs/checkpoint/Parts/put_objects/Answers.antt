@@ -4,6 +4,7 @@ use Rattle.xdr_wire.specs.Xdr.{HasSpelling, spelling}
 use Rattle.xdr_wire.specs.Buffer as buffers
 use Rattle.node_tree.specs.World.{Object, object}
 use Rattle.tree_changes.specs.Parts.{part, object_value}
+use Rattle.journal.specs.Keeping.{passage}
 use Rattle.tree_store.specs.Writing.{Appends, object_bytes, HasObjectSpelling}
 use Rattle.tree_store.proofs.Putting.{appends_then, appends_fault, appends_stop, written_alone, both_some, objects_begun, object_put, objects_done, there_is, number_closer}
 use Rattle.tree_store.proofs.checkpoint.Parts.put_objects.Goals as goal
@@ -47,7 +48,7 @@ loop-number-preserved g c =
 pub returns-clause-appends : goal.returns-clause-appends
 returns-clause-appends g c =
     let p = c.loop-number.invariant.put in
-    subst (λ (l : List (ℕ × Object)). Appends g.D.Disk.adds c.args.self.now.checkpoint (map object_bytes l) (Ok tt) c.loop-number.self.checkpoint c.args.disk.now c.loop-number.disk)
+    subst (λ (l : List (ℕ × Object)). Appends (passage g.D.Disk.adds c.args.disk.now c.loop-number.disk) c.args.self.now.checkpoint (map object_bytes l) (Ok tt) c.loop-number.self.checkpoint)
     (objects_done g.D.Disk.adds c.args.tree.now c.loop-number.at c.args.self.now.checkpoint c.loop-number.self.checkpoint c.args.disk.now c.loop-number.disk p (sym c.in_default.ensures)) p.appended
 
 pub returns-clause-has_spelling : goal.returns-clause-has_spelling

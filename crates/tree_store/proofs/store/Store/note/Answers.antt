@@ -4,6 +4,7 @@ use Rattle.tree_changes.specs.Replays.{Replays}
 use Rattle.compound_run.specs.Views.{lent_view}
 use Rattle.client_changes.proofs.Alike.{same_itself}
 use Rattle.journal.specs.Frames.{Bytes}
+use Rattle.journal.specs.Keeping.{passage}
 use Rattle.tree_store.specs.Running.{Store}
 use Rattle.tree_store.specs.Kept.{Kept}
 use Rattle.tree_store.specs.Folded.{whole_of}
@@ -24,7 +25,7 @@ returns-in-Err-clause-goes_on g c =
     let failed : Store = record { journal = record c.self.inside.journal { has_failed = true }; known = known } in (
       known,
       c.in-Ok.ensures.same,
-      subst (λ (t : Store). (kept : Kept) (w : World) → Replays kept.0 c.args.turn.now.notes.now w → GoesOn g.D.Disk.adds t kept (w, known) (Err c.in-Err.fault) failed c.args.disk.now c.keep_record.new.disk) c.self.view_is
+      subst (λ (t : Store). (kept : Kept) (w : World) → Replays kept.0 c.args.turn.now.notes.now w → GoesOn (passage g.D.Disk.adds c.args.disk.now c.keep_record.new.disk) t kept (w, known) (Err c.in-Err.fault) failed) c.self.view_is
           (λ kept w replays history s.
           let leads : LeadsOn kept c.as_slice-2.result.now (w, known) =
           record_leads kept w store.known known c.args.turn.now.changes.items c.args.turn.now.notes.now c.as_slice-2.result.now (ap whole_of c.as_slice-2.ensures.value ∙ c.args.turn.now.whole) s.known_is
@@ -42,7 +43,7 @@ returns-clause-goes_on g c =
     let then : Store = record { journal = c.keep_record.new.journal; known = known } in (
       known,
       c.in-Ok.ensures.same,
-      subst (λ (t : Store). (kept : Kept) (w : World) → Replays kept.0 c.args.turn.now.notes.now w → GoesOn g.D.Disk.adds t kept (w, known) (Ok tt) then c.args.disk.now c.keep_record.new.disk) c.self.view_is
+      subst (λ (t : Store). (kept : Kept) (w : World) → Replays kept.0 c.args.turn.now.notes.now w → GoesOn (passage g.D.Disk.adds c.args.disk.now c.keep_record.new.disk) t kept (w, known) (Ok tt) then) c.self.view_is
           (λ kept w replays history s.
           let leads : LeadsOn kept c.as_slice-2.result.now (w, known) =
           record_leads kept w store.known known c.args.turn.now.changes.items c.args.turn.now.notes.now c.as_slice-2.result.now (ap whole_of c.as_slice-2.ensures.value ∙ c.args.turn.now.whole) s.known_is

@@ -1,7 +1,5 @@
 use Rattle.std.proofs.Common.{true, Ok, Err, subst}
-use Rattle.compound_run.specs.Known.{Known}
-use Rattle.client_changes.specs.Comparing.{AreSame}
-use Rattle.compound_run.specs.Views.{lent_view}
+use Rattle.journal.specs.Keeping.{passage}
 use Rattle.tree_store.specs.Running.{Store}
 use Rattle.tree_store.specs.Kept.{Kept, kept_with}
 use Rattle.tree_store.specs.Standing.{Stands}
@@ -18,7 +16,7 @@ returns-in-Err-clause-goes_on g c =
     let aim = kept_with c.args.tree.now e.0 in (
       e.0,
       e.1,
-      subst (λ (s : Store). (kept : Kept) → GoesOn g.D.Disk.adds s kept aim (Err c.in-Err.fault) failed c.args.disk.now c.write_checkpoint.new.disk) c.self.view_is
+      subst (λ (s : Store). (kept : Kept) → GoesOn (passage g.D.Disk.adds c.args.disk.now c.write_checkpoint.new.disk) s kept aim (Err c.in-Err.fault) failed) c.self.view_is
           (λ kept. renews {A = g.row.A.Denot} g.D.Disk.adds store failed kept aim (Err c.in-Err.fault) (Err c.in-Err.fault) c.args.disk.now c.write_checkpoint.new.disk e.2
           (λ acts it. same_fault {X = Written g.row.A.Denot} {Y = Unit {0}} (λ w. Stands store.journal.key acts (written_store w) aim) (λ done. Stands store.journal.key acts failed aim) acts c.in-Err.fault it)),
     )
