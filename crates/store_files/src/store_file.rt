@@ -170,9 +170,9 @@ impl StoreFile {
         Ok(())
     }
 
-    /// Makes it empty. Zero bytes are written over what it has, up to a most, and are its room; what it
-    /// has behind them is cut off. So what is appended then takes the blocks that it had, and a sync of
-    /// it is quicker. At an error it may have any bytes.
+    /// Makes it empty. Zero bytes are written over what it has, up to 64 MiB and within the limit, and
+    /// are its room; what comes after them is cut off. So what is appended then takes the blocks that it
+    /// had, and a sync of it is quicker. At an error it may have any bytes.
     pub(crate) fn empty(&mut self) -> io::Result<()>
         ensures { MatchResult result (λ done. IsEmptied self.old self.new) (λ e. self.new ≡ self.old) }
     {
