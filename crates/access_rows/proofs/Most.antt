@@ -5,7 +5,7 @@ use Rattle.acl_list.specs.declared.mask.TheConstants.{EXECUTE}
 use Rattle.nfs_ops.specs.Operations.{Operation, Known}
 use Rattle.nfs_ops.specs.Parts as parts
 use Rattle.nfs_ops.specs.Parts.{How, Claim, claim_of, how_of, open_access}
-use Rattle.nfs_ops.specs.declared.op_kind.OpKind.TheVariants as kinds
+use Rattle.nfs_ops.specs.declared.OpKind.TheVariants as kinds
 use Rattle.access_rows.specs.declared.demand.Demand.{Demand}
 use Rattle.access_rows.specs.declared.demand.Demand.TheVariants.{Bits}
 use Rattle.access_rows.specs.declared.facts.Object.{Object}

@@ -16,7 +16,7 @@ use Rattle.nfs_ops.specs.Operations.{Operation, Known}
 use Rattle.nfs_ops.specs.Parts as parts
 use Rattle.nfs_ops.specs.Parts.{Created, How, Claim, created_type, open_access, how_of, claim_of, set_of}
 use Rattle.nfs_ops.specs.Parts.{set_attributes, write_offset, written_bytes}
-use Rattle.nfs_ops.specs.declared.op_kind.OpKind.TheVariants as kinds
+use Rattle.nfs_ops.specs.declared.OpKind.TheVariants as kinds
 use Rattle.access_rows.specs.declared.demand.Demand.{Demand}
 use Rattle.access_rows.specs.declared.demand.Demand.TheVariants.{Bits, Removal}
 use Rattle.access_rows.specs.declared.facts.Object.{Object}

@@ -8,7 +8,7 @@ use Rattle.nfs_ops.specs.Forms.{sequence_args, exchange_id_args, create_session_
 use Rattle.nfs_ops.specs.Operations.{Operation, Known}
 use Rattle.nfs_ops.specs.Parts.{sequence_session, sequence_slot}
 use Rattle.nfs_ops.specs.Results.{Outcome, Done}
-use Rattle.nfs_ops.specs.declared.op_kind.OpKind.TheVariants as kinds
+use Rattle.nfs_ops.specs.declared.OpKind.TheVariants as kinds
 use Rattle.session_slots.specs.Registry.{Registry, results_at}
 use Rattle.session_slots.specs.Creating.{Creates}
 use Rattle.session_slots.specs.Destroying.{destroy_session_refusal, without_session, without_client}

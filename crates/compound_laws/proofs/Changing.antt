@@ -4,7 +4,7 @@ use Rattle.xdr_wire.specs.Xdr.{Value}
 use Rattle.nfs_ops.specs.Forms.{close_args, create_args, link_args, open_args, remove_args, rename_args, setattr_args}
 use Rattle.nfs_ops.specs.Forms.{write_args, reclaim_complete_args}
 use Rattle.nfs_ops.specs.Operations.{Operation, Known}
-use Rattle.nfs_ops.specs.declared.op_kind.OpKind.TheVariants as kinds
+use Rattle.nfs_ops.specs.declared.OpKind.TheVariants as kinds
 use Rattle.compound_run.specs.Realm.{Realm}
 use Rattle.compound_run.specs.Context.{Context, Handles}
 use Rattle.compound_run.specs.Operations.{meaning}

@@ -19,13 +19,13 @@ use Rattle.compound_run.specs.Realm.{Realm}
 use Rattle.compound_run.specs.Context.{Context, Handles}
 use Rattle.compound_run.specs.Sight.{whole}
 use Rattle.compound_run.specs.Lists.{new_list, set_list}
-use Rattle.compound_run.specs.Create.{Draft, draft, list_at}
-use Rattle.compound_run.specs.Create as creating
+use Rattle.compound_run.specs.Operations.Create.{Draft, draft, list_at}
+use Rattle.compound_run.specs.Operations.Create as creating
 use Rattle.compound_run.specs.Meaning.{at, here, there}
-use Rattle.compound_run.specs.Open.{found, file_of, file_in, name_in, truncates, wanted}
+use Rattle.compound_run.specs.Operations.Open.{found, file_of, file_in, name_in, truncates, wanted}
 use Rattle.compound_run.specs.Operations.{meaning}
-use Rattle.compound_run.specs.ReclaimComplete.{reclaimed}
-use Rattle.compound_run.specs.Setattr.{sets_list, sets_owner, sized, listed, owned, set_on, setting}
+use Rattle.compound_run.specs.Operations.ReclaimComplete.{reclaimed}
+use Rattle.compound_run.specs.Operations.Setattr.{sets_list, sets_owner, sized, listed, owned, set_on, setting}
 use Rattle.compound_laws.specs.Stepping.{ComesBySteps, after_steps}
 use Rattle.compound_laws.proofs.Changing.{Changing, OfClose, OfCreate, OfLink, OfOpen, OfRemove, OfRename, OfSetAttr}
 use Rattle.compound_laws.proofs.Changing.{OfWrite, OfReclaimComplete, operation_of}

@@ -21,7 +21,7 @@ use Rattle.nfs_ops.specs.Parts.{listed_behind, listed_at_most, listed_attributes
 use Rattle.nfs_ops.specs.Results.{Outcome}
 use Rattle.nfs_ops.specs.declared.listing.ListFault.{ListFault}
 use Rattle.nfs_ops.specs.declared.listing.ListFault.TheVariants.{Refused, TooSmall}
-use Rattle.nfs_ops.specs.declared.op_kind.OpKind.TheVariants as kinds
+use Rattle.nfs_ops.specs.declared.OpKind.TheVariants as kinds
 use Rattle.nfs_ops.proofs.Listings.{refused_listing, listing_is}
 use Rattle.node_tree.specs.World.{World, Name, kind_of, names_in}
 use Rattle.node_tree.specs.Sound.{IsIn, IsSound}
@@ -38,7 +38,7 @@ use Rattle.compound_run.specs.Questions.{Holds, Valid, Row, failure, all_granted
 use Rattle.compound_run.specs.Rows.{object_of, first_facts, first_row}
 use Rattle.compound_run.specs.Meaning.{here}
 use Rattle.compound_run.specs.Operations.{meaning}
-use Rattle.compound_run.specs.Readdir.{allows, first_refused, permitted, judgment, entry_of, entry_by, judged_entry, judged_above, names_above, listed, refused_in, given_in, refuses_none, fits_some}
+use Rattle.compound_run.specs.Operations.Readdir.{allows, first_refused, permitted, judgment, entry_of, entry_by, judged_entry, judged_above, names_above, listed, refused_in, given_in, refuses_none, fits_some}
 use Rattle.compound_run.specs.Runs.{outcome}
 use Rattle.compound_run.specs.Exact.{ArePassed, FailsFirst}
 use Rattle.compound_laws.specs.EntriesExact.{ungoverned, IsExact, AreExact, GivesExactly, before_row, IsUnlisted, MeetsRefused}

@@ -1,7 +1,7 @@
 -- Operations on filehandles and on one object tell a caller no more than the caller may see.
 use Rattle.std.proofs.Common.{ℕ, List, refl, ap}
 use Rattle.nfs_ops.specs.Operations.{Known}
-use Rattle.nfs_ops.specs.declared.op_kind.OpKind.TheVariants as kinds
+use Rattle.nfs_ops.specs.declared.OpKind.TheVariants as kinds
 use Rattle.nfs_ops.specs.Results.{Done}
 use Rattle.compound_run.specs.Context.{Context, Handles}
 use Rattle.compound_run.specs.Meaning.{here}

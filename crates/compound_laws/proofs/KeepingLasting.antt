@@ -8,9 +8,9 @@ use Rattle.compound_run.specs.Realm.{Realm, Opened}
 use Rattle.compound_run.specs.Context.{Context, Handles}
 use Rattle.compound_run.specs.Sight.{whole}
 use Rattle.compound_run.specs.Meaning.{here}
-use Rattle.compound_run.specs.Open.{found, joined, opened_on, with_open}
+use Rattle.compound_run.specs.Operations.Open.{found, joined, opened_on, with_open}
 use Rattle.compound_run.specs.Operations.{meaning}
-use Rattle.compound_run.specs.ReclaimComplete.{reclaimed}
+use Rattle.compound_run.specs.Operations.ReclaimComplete.{reclaimed}
 use Rattle.compound_laws.proofs.Changing.{Changing, OfClose, OfCreate, OfLink, OfOpen, OfRemove, OfRename, OfSetAttr}
 use Rattle.compound_laws.proofs.Changing.{OfWrite, OfReclaimComplete, operation_of}
 use Rattle.compound_laws.proofs.Operations.{laws_of}

@@ -15,7 +15,7 @@ use Rattle.nfs_ops.specs.Forms.{open_args}
 use Rattle.nfs_ops.specs.Operations.{Operation, Known}
 use Rattle.nfs_ops.specs.Parts.{How, NoCreate, Unchecked, Guarded, Claim, ByName, ByHandle, how_of, claim_of, created_name, old_name, new_name}
 use Rattle.nfs_ops.specs.Results.{Outcome}
-use Rattle.nfs_ops.specs.declared.op_kind.OpKind.TheVariants as kinds
+use Rattle.nfs_ops.specs.declared.OpKind.TheVariants as kinds
 use Rattle.session_slots.proofs.Members.{length_filter}
 use Rattle.node_tree.specs.declared.at.At.{At}
 use Rattle.node_tree.specs.Notes.{Notes}
@@ -27,15 +27,15 @@ use Rattle.compound_run.specs.Context.{Context, Handles}
 use Rattle.compound_run.specs.Sight.{whole, kind_at}
 use Rattle.compound_run.specs.Questions.{failure, told}
 use Rattle.compound_run.specs.Meaning.{at, here, there, number_in}
-use Rattle.compound_run.specs.Close.{ended}
-use Rattle.compound_run.specs.Create.{created, list_at}
+use Rattle.compound_run.specs.Operations.Close.{ended}
+use Rattle.compound_run.specs.Operations.Create.{created, list_at}
 use Rattle.compound_run.specs.Lists.{set_list}
-use Rattle.compound_run.specs.Setattr.{sets_list, sets_owner, sized, listed, owned, set_on, setting}
-use Rattle.compound_run.specs.Open.{access_of, found_by, found, found_fault, wanted, truncates, joined, reopened, with_reopened, with_open, new_open, file_of, file_in, opened_on, name_in, has_open_space, has_file_space, has_space_for}
+use Rattle.compound_run.specs.Operations.Setattr.{sets_list, sets_owner, sized, listed, owned, set_on, setting}
+use Rattle.compound_run.specs.Operations.Open.{access_of, found_by, found, found_fault, wanted, truncates, joined, reopened, with_reopened, with_open, new_open, file_of, file_in, opened_on, name_in, has_open_space, has_file_space, has_space_for}
 use Rattle.compound_run.specs.Operations.{meaning}
 use Rattle.compound_run.specs.Runs.{outcome}
 use Rattle.compound_run.specs.Exact.{ArePassedOrSuffice}
-use Rattle.compound_run.specs.ReclaimComplete.{reclaimed}
+use Rattle.compound_run.specs.Operations.ReclaimComplete.{reclaimed}
 use Rattle.compound_run.specs.Sessions.{opens_without}
 use Rattle.compound_run.specs.State.{State, with_notes}
 use Rattle.compound_run.specs.Stateids.{client_of}

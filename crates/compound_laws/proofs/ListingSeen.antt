@@ -19,7 +19,7 @@ use Rattle.nfs_ops.specs.Given.{readdir_outcome}
 use Rattle.nfs_ops.specs.Listing.{Judged, listing, readdir_limit}
 use Rattle.nfs_ops.specs.Operations.{Known}
 use Rattle.nfs_ops.specs.Parts.{listed_behind, listed_at_most, listed_attributes}
-use Rattle.nfs_ops.specs.declared.op_kind.OpKind.TheVariants as kinds
+use Rattle.nfs_ops.specs.declared.OpKind.TheVariants as kinds
 use Rattle.node_tree.specs.World.{Name, Object, object, kind_of, names_in}
 use Rattle.node_tree.specs.Judged.{judged_of}
 use Rattle.access_rows.specs.Rows.{bits, has_any, governed, list_giving, entry_demands, granted_words}
@@ -32,7 +32,7 @@ use Rattle.compound_run.specs.Values.{values_at}
 use Rattle.compound_run.specs.Rows.{object_of}
 use Rattle.compound_run.specs.Meaning.{here}
 use Rattle.compound_run.specs.Operations.{meaning}
-use Rattle.compound_run.specs.Readdir.{first_refused, permitted, judgment, entry_by, judged_entry, listed, refused_in, fits_in, given_in}
+use Rattle.compound_run.specs.Operations.Readdir.{first_refused, permitted, judgment, entry_by, judged_entry, listed, refused_in, fits_in, given_in}
 use Rattle.compound_laws.specs.Disclosure.{DisclosesNothing}
 use Rattle.compound_laws.proofs.Seen.{IsSeen, discloses_nothing}
 use Rattle.compound_laws.proofs.Showing.{Grants, MaySee, gives_mask, values_seen}

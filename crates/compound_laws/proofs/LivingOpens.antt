@@ -15,7 +15,7 @@ use Rattle.session_slots.specs.Registry.{Registry}
 use Rattle.session_slots.proofs.Members.{length_filter}
 use Rattle.node_tree.specs.declared.at.At.{At}
 use Rattle.node_tree.specs.World.{World, Object, Name, object, kind_of, has_name, is_named, child_named, names_in, is_one}
-use Rattle.node_tree.specs.Changes.{changed, touched, retold, without_name, unlinked, other_names, with_new, with_link, with_move}
+use Rattle.node_tree.specs.Changes.{changed, touched, retold, without_name, unlinked, other_names, given_name, with_new, with_link, with_move}
 use Rattle.node_tree.specs.Sound.{IsIn, IsSound}
 use Rattle.node_tree.specs.Steps.{is_file, is_file_at}
 use Rattle.node_tree.proofs.Objects.{is_at-same, is_at-apart, by_number, lookup-inserted, option_map-changed}
@@ -275,7 +275,7 @@ module _ (r : Realm) (from : ℕ) (old : List ℕ) (to : ℕ) (new : List ℕ) (
       each_left (LedIn r.world) (LedIn r.world) (λ (n : Name). not (is_named to new n)) (other_names from old r.world.names) (λ n other is. is)
       (each_left (LedIn r.world) (LedIn r.world) (λ (n : Name). not (is_named from old n)) r.world.names (λ n other is. is) hold.kept.led)
 
-  moving : (target : ℕ) → Loses r.world (with_move r.world from old to new child (Some target) at) target names
+  moving : (target : ℕ) → Loses r.world (with_move r.world from old (given_name r.world to new child) (Some target) at) target names
   moving target = record {
     kinds = λ k.
         option_map-changed (λ o. o.kind) to (touched at) _ (λ o. refl) k ∙ option_map-changed (λ o. o.kind) from (touched at) _ (λ o. refl) k
@@ -283,9 +283,9 @@ module _ (r : Realm) (from : ℕ) (old : List ℕ) (to : ℕ) (new : List ℕ) (
     next = refl;
   }
 
-  hold_replaced : (target : ℕ) → target ≢ child → OpensHold (with_loss (with_move r.world from old to new child (Some target) at) (Some target) r)
+  hold_replaced : (target : ℕ) → target ≢ child → OpensHold (with_loss (with_move r.world from old (given_name r.world to new child) (Some target) at) (Some target) r)
   hold_replaced target apart =
-      let w = with_move r.world from old to new child (Some target) at in
+      let w = with_move r.world from old (given_name r.world to new child) (Some target) at in
       let loses = moving target in
       record {
         live = live_left r.world w target names loses r.opens hold.live;
@@ -296,9 +296,9 @@ module _ (r : Realm) (from : ℕ) (old : List ℕ) (to : ℕ) (new : List ℕ) (
         };
       }
 
-  hold_moved : OpensHold (with_loss (with_move r.world from old to new child None at) None r)
+  hold_moved : OpensHold (with_loss (with_move r.world from old (given_name r.world to new child) None at) None r)
   hold_moved =
-      let w = with_move r.world from old to new child None at in
+      let w = with_move r.world from old (given_name r.world to new child) None at in
       let kinds : (k : ℕ) → kind_of w k ≡ kind_of r.world k =
       λ k. option_map-changed (λ o. o.kind) to (touched at) _ (λ o. refl) k ∙ option_map-changed (λ o. o.kind) from (touched at) _ (λ o. refl) k
       ∙ option_map-changed (λ o. o.kind) child (retold at) _ (λ o. refl) k in
@@ -312,12 +312,12 @@ module _ (r : Realm) (from : ℕ) (old : List ℕ) (to : ℕ) (new : List ℕ) (
       }
 
 pub hold_renamed : (r : Realm) (from : ℕ) (old : List ℕ) (to : ℕ) (name : List ℕ) (at : At) (child target : Option ℕ) → child_named r.world from old ≡ child → child_named r.world to name ≡ target → OpensHold r
-    → OpensHold (with_loss (if is_one child target then r.world else option_map_or (λ child. with_move r.world from old to name child target at) child r.world) target r)
+    → OpensHold (with_loss (if is_one child target then r.world else option_map_or (λ child. with_move r.world from old (given_name r.world to name child) target at) child r.world) target r)
 hold_renamed r from old to name at None target is taken hold = hold_lost_none r target hold
 hold_renamed r from old to name at (Some child) None is taken hold = hold_moved r from old to name child at hold (of_child r.world from old child hold.kept is)
 hold_renamed r from old to name at (Some child) (Some target) is taken hold = of (child == target) refl
   where
-    of : (b : Bool) → (child == target) ≡ b → OpensHold (with_loss (if b then r.world else with_move r.world from old to name child (Some target) at) (Some target) r)
+    of : (b : Bool) → (child == target) ≡ b → OpensHold (with_loss (if b then r.world else with_move r.world from old (given_name r.world to name child) (Some target) at) (Some target) r)
     of true same = hold_lost_none r (Some target) hold
     of false apart = hold_replaced r from old to name child at hold (of_child r.world from old child hold.kept is) target (elsewhere child target (ap not apart))
 

@@ -11,7 +11,7 @@ use Rattle.nfs_ops.specs.Forms.{create_args, rename_args}
 use Rattle.nfs_ops.specs.Operations.{Known}
 use Rattle.nfs_ops.specs.Parts as parts
 use Rattle.nfs_ops.specs.Parts.{Created, created_type, created_name, old_name, new_name}
-use Rattle.nfs_ops.specs.declared.op_kind.OpKind.TheVariants as kinds
+use Rattle.nfs_ops.specs.declared.OpKind.TheVariants as kinds
 use Rattle.nfs_ops.specs.Results.{Done}
 use Rattle.node_tree.specs.World.{kind_of, child_in, is_one}
 use Rattle.node_tree.specs.Judged.{judged_of}
@@ -25,10 +25,10 @@ use Rattle.compound_run.specs.Context.{Context, Handles}
 use Rattle.compound_run.specs.Sight.{whole, view, gives}
 use Rattle.compound_run.specs.Questions.{all_granted}
 use Rattle.compound_run.specs.Rows.{first_facts, second_facts}
-use Rattle.compound_run.specs.Create.{draft_of, draft, wanted, type_fault}
+use Rattle.compound_run.specs.Operations.Create.{draft_of, draft, wanted, type_fault}
 use Rattle.compound_run.specs.Lists.{new_fits}
 use Rattle.compound_run.specs.Values.{list_at}
-use Rattle.compound_run.specs.Rename.{goes_below, can_replace}
+use Rattle.compound_run.specs.Operations.Rename.{goes_below, can_replace}
 use Rattle.compound_run.specs.Meaning.{here, there, number_in, changed, unchanged}
 use Rattle.compound_run.specs.Operations.{meaning}
 use Rattle.compound_laws.specs.Disclosure.{DisclosesNothing}

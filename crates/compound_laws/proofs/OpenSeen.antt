@@ -9,7 +9,7 @@ use Rattle.acl_list.specs.declared.mask.TheConstants.{EXECUTE}
 use Rattle.nfs_ops.specs.Forms.{open_args, open_result}
 use Rattle.nfs_ops.specs.Operations.{Known}
 use Rattle.nfs_ops.specs.Parts.{Claim, ByName, ByHandle, how_of, claim_of}
-use Rattle.nfs_ops.specs.declared.op_kind.OpKind.TheVariants as kinds
+use Rattle.nfs_ops.specs.declared.OpKind.TheVariants as kinds
 use Rattle.nfs_ops.specs.Results.{Done}
 use Rattle.node_tree.specs.World.{kind_of, child_in}
 use Rattle.node_tree.specs.Judged.{judged_of}
@@ -22,7 +22,7 @@ use Rattle.compound_run.specs.Questions.{all_granted}
 use Rattle.compound_run.specs.Rows.{object_of, opening_facts}
 use Rattle.compound_run.specs.Lists.{new_fits}
 use Rattle.compound_run.specs.Values.{list_at}
-use Rattle.compound_run.specs.Open.{found_by, found, found_fault, wanted, joined, is_permitted, is_within, has_file_space, has_open_space, has_space_for, change_of, stateid_of, set_by, result_on}
+use Rattle.compound_run.specs.Operations.Open.{found_by, found, found_fault, wanted, joined, is_permitted, is_within, has_file_space, has_open_space, has_space_for, change_of, stateid_of, set_by, result_on}
 use Rattle.compound_run.specs.Meaning.{here}
 use Rattle.compound_run.specs.Operations.{meaning}
 use Rattle.compound_laws.specs.Disclosure.{DisclosesNothing}

@@ -17,7 +17,7 @@ use Rattle.nfs_types.specs.Attributes.{all}
 use Rattle.nfs_types.specs.Given.{part, given_values}
 use Rattle.nfs_types.specs.Sets.{has_number}
 use Rattle.nfs_types.specs.declared.attribute.Attribute.{Attribute}
-use Rattle.nfs_types.specs.declared.attribute.Attribute.TheVariants.{SupportedAttrs, ObjectType, FhExpireType, Change, Size, LinkSupport, SymlinkSupport, NamedAttr, Fsid, UniqueHandles, LeaseTime, RdattrError, Acl, AclSupport, FileHandle, FileId, MaxFileSize, MaxName, MaxRead, MaxWrite, Mode, NumLinks, Owner, OwnerGroup, TimeMetadata, TimeModify, MountedOnFileId, Dacl, Sacl, SuppattrExclcreat}
+use Rattle.nfs_types.specs.declared.attribute.Attribute.TheVariants.{Change, Mode, TimeMetadata, TimeModify}
 use Rattle.nfs_types.specs.declared.status.Status.{Status}
 use Rattle.node_tree.specs.Judged.{Judged, judged_of}
 use Rattle.node_tree.specs.World.{kind_of}
@@ -133,32 +133,7 @@ ungoverned asked none Change = (none_of (has_number asked 3) (has_number asked 4
 ungoverned asked none Mode = (none_of (has_number asked 3) (has_number asked 4) (has_number asked 33) (has_number asked 35) (has_number asked 36) (has_number asked 37) (has_number asked 52) (has_number asked 53) none).1.0
 ungoverned asked none TimeMetadata = (none_of (has_number asked 3) (has_number asked 4) (has_number asked 33) (has_number asked 35) (has_number asked 36) (has_number asked 37) (has_number asked 52) (has_number asked 53) none).1.1.0
 ungoverned asked none TimeModify = (none_of (has_number asked 3) (has_number asked 4) (has_number asked 33) (has_number asked 35) (has_number asked 36) (has_number asked 37) (has_number asked 52) (has_number asked 53) none).1.1.1
-ungoverned asked none SupportedAttrs = refl
-ungoverned asked none ObjectType = refl
-ungoverned asked none FhExpireType = refl
-ungoverned asked none Size = refl
-ungoverned asked none LinkSupport = refl
-ungoverned asked none SymlinkSupport = refl
-ungoverned asked none NamedAttr = refl
-ungoverned asked none Fsid = refl
-ungoverned asked none UniqueHandles = refl
-ungoverned asked none LeaseTime = refl
-ungoverned asked none RdattrError = refl
-ungoverned asked none Acl = refl
-ungoverned asked none AclSupport = refl
-ungoverned asked none FileHandle = refl
-ungoverned asked none FileId = refl
-ungoverned asked none MaxFileSize = refl
-ungoverned asked none MaxName = refl
-ungoverned asked none MaxRead = refl
-ungoverned asked none MaxWrite = refl
-ungoverned asked none NumLinks = refl
-ungoverned asked none Owner = refl
-ungoverned asked none OwnerGroup = refl
-ungoverned asked none MountedOnFileId = refl
-ungoverned asked none Dacl = refl
-ungoverned asked none Sacl = refl
-ungoverned asked none SuppattrExclcreat = refl
+ungoverned asked none _ = refl
 
 module _ (book : Content) (w : Realm) (caller : Identity) (number : ℕ) (error : Status) (asked : List ℕ) where
   abbrev In : (a : Attribute) → Type 0
@@ -169,32 +144,7 @@ module _ (book : Content) (w : Realm) (caller : Identity) (number : ℕ) (error 
   part_seen Mode none = rw none refl
   part_seen TimeMetadata none = rw none refl
   part_seen TimeModify none = rw none refl
-  part_seen SupportedAttrs none = refl
-  part_seen ObjectType none = refl
-  part_seen FhExpireType none = refl
-  part_seen Size none = refl
-  part_seen LinkSupport none = refl
-  part_seen SymlinkSupport none = refl
-  part_seen NamedAttr none = refl
-  part_seen Fsid none = refl
-  part_seen UniqueHandles none = refl
-  part_seen LeaseTime none = refl
-  part_seen RdattrError none = refl
-  part_seen Acl none = refl
-  part_seen AclSupport none = refl
-  part_seen FileHandle none = refl
-  part_seen FileId none = refl
-  part_seen MaxFileSize none = refl
-  part_seen MaxName none = refl
-  part_seen MaxRead none = refl
-  part_seen MaxWrite none = refl
-  part_seen NumLinks none = refl
-  part_seen Owner none = refl
-  part_seen OwnerGroup none = refl
-  part_seen MountedOnFileId none = refl
-  part_seen Dacl none = refl
-  part_seen Sacl none = refl
-  part_seen SuppattrExclcreat none = refl
+  part_seen _ none = refl
 
   parts_seen : ((a : Attribute) → is_governed asked a ≡ false) → (some : List Attribute)
       → flat_map (part book (facts_at (whole w) number error) asked) some ≡ flat_map (part book (facts_at (view w caller) number error) asked) some

@@ -11,17 +11,17 @@ use Rattle.nfs_types.specs.declared.status.Status.TheVariants as statuses
 use Rattle.nfs_ops.specs.Forms.{close_args, verify_args, nverify_args, read_args, setattr_args, write_args, reclaim_complete_args, getattr_size}
 use Rattle.nfs_ops.specs.Operations.{Known}
 use Rattle.nfs_ops.specs.Parts.{set_of, values_of, set_stateid, read_offset, read_count, read_gives}
-use Rattle.nfs_ops.specs.declared.op_kind.OpKind.TheVariants as kinds
+use Rattle.nfs_ops.specs.declared.OpKind.TheVariants as kinds
 use Rattle.nfs_ops.specs.Results.{Done}
 use Rattle.compound_run.specs.Realm.{Realm}
 use Rattle.compound_run.specs.Context.{Context, Handles}
 use Rattle.compound_run.specs.Sight.{whole, view}
 use Rattle.compound_run.specs.Meaning.{here}
-use Rattle.compound_run.specs.Getattr.{told}
-use Rattle.compound_run.specs.Read.{most_of}
+use Rattle.compound_run.specs.Operations.Getattr.{told}
+use Rattle.compound_run.specs.Operations.Read.{most_of}
 use Rattle.compound_run.specs.Operations.{meaning}
-use Rattle.compound_run.specs.Setattr.{has_counts, has_space_to_set, size_fault, wanted_on}
-use Rattle.compound_run.specs.Verify.{is_same}
+use Rattle.compound_run.specs.Operations.Setattr.{can_count, has_space_to_set, size_fault, wanted_on}
+use Rattle.compound_run.specs.Operations.Verify.{is_same}
 use Rattle.compound_laws.specs.Disclosure.{DisclosesNothing}
 use Rattle.compound_laws.proofs.Seen.{IsSeen, discloses_nothing}
 use Rattle.compound_laws.proofs.Showing.{reads, bytes_seen, may_see, values_seen}
@@ -144,7 +144,7 @@ size_seen w c number id (Some size) = refl
 
 -- the counters, and the list that stands beside a part or a mode, are seen by all
 space_seen : (w : Realm) (caller : Identity) (wanted : Wanted) (number : ℕ) → has_space_to_set wanted number (whole w) ≡ has_space_to_set wanted number (view w caller)
-unfolding has_counts
+unfolding can_count
 space_seen w caller wanted number = refl
 
 setattr_seen : (c : Context) (h : Handles) (v : Value setattr_args) → IsSeen (meaning c h (Known kinds.SetAttr v))

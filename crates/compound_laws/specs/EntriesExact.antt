@@ -13,7 +13,7 @@ use Rattle.nfs_ops.specs.Operations.{Known}
 use Rattle.nfs_ops.specs.Parts.{entry_cookie, entry_name, entry_attributes, set_of, listed_behind, listed_at_most}
 use Rattle.nfs_ops.specs.Parts.{listed_attributes}
 use Rattle.nfs_ops.specs.Results.{Outcome}
-use Rattle.nfs_ops.specs.declared.op_kind.OpKind.TheVariants as kinds
+use Rattle.nfs_ops.specs.declared.OpKind.TheVariants as kinds
 use Rattle.node_tree.specs.World.{Name}
 use Rattle.access_rows.specs.Rows.{governed, list_giving, first_demands, entry_demands}
 use Rattle.access_guard.specs.Lists.{Lists}
@@ -22,7 +22,7 @@ use Rattle.compound_run.specs.Sight.{Sight}
 use Rattle.compound_run.specs.Questions.{Question, is_valid, all_granted}
 use Rattle.compound_run.specs.Rows.{object_of, first_facts}
 use Rattle.compound_run.specs.Meaning.{with_handle, here, is_directory}
-use Rattle.compound_run.specs.Readdir.{allows, first_refused, judged_entry, names_above, is_cookie}
+use Rattle.compound_run.specs.Operations.Readdir.{allows, first_refused, judged_entry, names_above, is_cookie}
 use Rattle.compound_run.specs.Operations.{entry_fault, entry_may}
 use Rattle.compound_run.specs.Exact.{ArePassed}
 

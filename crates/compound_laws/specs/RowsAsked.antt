@@ -2,7 +2,7 @@
 -- 18). They are those of the table of demands, at the facts of the operation's place.
 use Rattle.std.specs.Prelude.{◌≡◌, ◌⊎◌, List, [], ◌∷◌, Some, None, true}
 use Rattle.nfs_ops.specs.Operations.{Operation, Known}
-use Rattle.nfs_ops.specs.declared.op_kind.OpKind.TheVariants as kinds
+use Rattle.nfs_ops.specs.declared.OpKind.TheVariants as kinds
 use Rattle.access_rows.specs.Rows.{Demands, first_demands, second_demands}
 use Rattle.access_rows.specs.declared.facts.First.{First}
 use Rattle.access_rows.specs.declared.facts.Second.{Second}
@@ -11,9 +11,9 @@ use Rattle.compound_run.specs.Sight.{Sight, child}
 use Rattle.compound_run.specs.Questions.{Question, Holds, Valid, Row, Suffices}
 use Rattle.compound_run.specs.Rows.{first_facts, sized_facts, second_facts, opening_facts}
 use Rattle.compound_run.specs.Meaning.{here}
-use Rattle.compound_run.specs.Open as opens
-use Rattle.compound_run.specs.Rename as renames
-use Rattle.compound_run.specs.Setattr.{wanted_on}
+use Rattle.compound_run.specs.Operations.Open as opens
+use Rattle.compound_run.specs.Operations.Rename as renames
+use Rattle.compound_run.specs.Operations.Setattr.{wanted_on}
 
 -- ---- the rows
 

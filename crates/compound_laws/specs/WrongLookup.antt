@@ -4,12 +4,12 @@ use Rattle.std.specs.Prelude.{ℕ, List, [], ◌∷◌}
 use Rattle.acl_list.specs.declared.entry.Kind.{Kind}
 use Rattle.acl_list.specs.declared.entry.Kind.TheVariants.{File, Directory}
 use Rattle.nfs_ops.specs.Operations.{Known}
-use Rattle.nfs_ops.specs.declared.op_kind.OpKind.TheVariants as kinds
+use Rattle.nfs_ops.specs.declared.OpKind.TheVariants as kinds
 use Rattle.node_tree.specs.World.{World, Object}
 use Rattle.node_tree.specs.Changes.{new_object, from_start}
 use Rattle.node_tree.specs.Notes.{no_notes}
 use Rattle.compound_run.specs.Context.{Context, Handles}
-use Rattle.compound_run.specs.Lookup.{lookup}
+use Rattle.compound_run.specs.Operations.Lookup.{lookup}
 use Rattle.compound_run.specs.Meaning.{Meaning, with_handle, here, is_no_link, is_directory, is_name, has_child}
 use Rattle.compound_run.specs.Rows.{first_row}
 
@@ -27,7 +27,7 @@ telling_lookup name c h = record (lookup name c h) {
 
 -- an object with an empty list, which grants nothing
 abbrev pub closed : ℕ → Kind → Object
-closed number kind = new_object kind [] 0 0 [] 0 number (from_start number)
+closed number kind = new_object kind [] 0 0 [] 0 (record { stamp = number; at = from_start number })
 
 -- a root, and in it a file of this name
 abbrev pub with_name : List ℕ → World

@@ -7,7 +7,7 @@ ghost use Rattle.nfs_types.specs.declared.status.Status.TheVariants as statuses;
 ghost use Rattle.xdr_wire.specs.Xdr.{Value};
 ghost use Rattle.nfs_ops.specs.Forms.{readdir_args};
 ghost use Rattle.nfs_ops.specs.Operations.{Operation, Known};
-ghost use Rattle.nfs_ops.specs.declared.op_kind.OpKind.TheVariants as kinds;
+ghost use Rattle.nfs_ops.specs.declared.OpKind.TheVariants as kinds;
 ghost use Rattle.nfs_ops.specs.Results.{Outcome};
 ghost use Rattle.node_tree.specs.Judged.{judged_of};
 ghost use Rattle.node_tree.specs.Sound.{IsSound};

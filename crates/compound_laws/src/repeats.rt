@@ -1,6 +1,5 @@
 //! A call that is sent again (RFC 8881, section 2.10.6.1).
-ghost use Rattle.std.specs.Prelude.{List};
-ghost use Rattle.session_slots.specs.Repeating.{AnswersAll, WithoutRepeats};
+ghost use Rattle.session_slots.specs.Repeating.{AnswersAll, Answering, WithoutRepeats};
 ghost use Rattle.compound_run.specs.State.{Call, State};
 ghost use Rattle.compound_run.specs.InSession.{Reply, RunsCall, fate};
 ghost use Rattle.compound_laws.specs.Events.{Event, RunsEvent, event_fate};
@@ -12,9 +11,8 @@ ghost use Rattle.compound_laws.specs.Events.{Event, RunsEvent, event_fate};
 /// first answered.
 #[tactic(auto, using(session_slots::proofs::Repeating::repeats_go))]
 pub fn repeats_change_nothing()
-    ensures calls { (calls : List Call) (replies : List Reply) (old new : State) →
-        AnswersAll fate RunsCall calls replies old new → WithoutRepeats fate RunsCall calls replies old new }
-    ensures events { (events : List Event) (replies : List Reply) (old new : State) →
-        AnswersAll event_fate RunsEvent events replies old new →
-        WithoutRepeats event_fate RunsEvent events replies old new }
+    ensures calls { (a : Answering Call State Reply) →
+        AnswersAll fate RunsCall a.calls a.replies a.old a.new → WithoutRepeats fate RunsCall a }
+    ensures events { (a : Answering Event State Reply) →
+        AnswersAll event_fate RunsEvent a.calls a.replies a.old a.new → WithoutRepeats event_fate RunsEvent a }
 {}

@@ -22,8 +22,8 @@ use Rattle.compound_run.specs.Context.{Context}
 use Rattle.compound_run.specs.Meaning.{at, number_in}
 use Rattle.compound_run.specs.Questions.{failure, trace, told}
 use Rattle.compound_run.specs.Runs.{waits}
-use Rattle.compound_run.specs.Create as specs
-use Rattle.compound_run.specs.Create.{Draft, can_add, created, list_at, making, with_created}
+use Rattle.compound_run.specs.Operations.Create as specs
+use Rattle.compound_run.specs.Operations.Create.{Draft, can_add, created, list_at, making, with_created}
 use Rattle.compound_run.specs.Lists.{new_fits, new_list}
 use Rattle.compound_run.specs.Views.{GivesSo, realm_of, settings_of, stage, sense}
 use Rattle.compound_run.proofs.Opening.{wanting}
@@ -34,7 +34,7 @@ pub world_created : {A : Type 0} (c : Context) (h : FileHandles) (v : Value crea
     → new.list ≡ new_list want m.kind (list_at w d) → new.high ≡ created_high want.mode
     → with_new w d (created_name v) (made new w.next_stamp a) a ≡ with_created c h v w
 world_created c h v new m want w d a here is_draft is_wanted when kind bytes owner group list high =
-    (λ i. with_new w d (created_name v) (new_object (kind i) (bytes i) (owner i) (group i) (list i) (high i) w.next_stamp (when i)) (when i))
+    (λ i. with_new w d (created_name v) (new_object (kind i) (bytes i) (owner i) (group i) (list i) (high i) (record { stamp = w.next_stamp; at = when i })) (when i))
     ∙ (λ i. with_new w (number_in (sym here i)) (created_name v) (created c (sym is_draft i) (sym is_wanted i) (list_at w (number_in (sym here i))) w.next_stamp (at c w)) (at c w))
 
 -- A tick is left, and the list is within its bounds. So the object and its name are created, or

@@ -6,7 +6,7 @@ use Rattle.compound_run.specs.declared.opens.Place.{Place}
 use Rattle.compound_run.specs.declared.opens.Place.TheVariants as places
 use Rattle.compound_run.specs.Realm.{Realm, Opened}
 use Rattle.compound_run.specs.Context.{Context}
-use Rattle.compound_run.specs.Open.{risen, reopened, with_reopened}
+use Rattle.compound_run.specs.Operations.Open.{risen, reopened, with_reopened}
 use Rattle.compound_run.specs.Opening.{placed, reopened_by}
 use Rattle.compound_run.specs.Views.{open_view, opens_view}
 

@@ -8,7 +8,7 @@ use Rattle.nfs_types.specs.declared.status.Status.TheVariants as statuses
 use Rattle.nfs_ops.specs.Forms.{change_info, open_args}
 use Rattle.nfs_ops.specs.Results.{Done}
 use Rattle.nfs_ops.specs.Rows.{row}
-use Rattle.nfs_ops.specs.declared.op_kind.OpKind.TheVariants as kinds
+use Rattle.nfs_ops.specs.declared.OpKind.TheVariants as kinds
 use Rattle.access_guard.specs.declared.line.Line.{Line}
 use Rattle.compound_run.specs.declared.realm.Realm as realms
 use Rattle.compound_run.specs.declared.filehandles.FileHandles.{FileHandles}
@@ -28,10 +28,10 @@ use Rattle.compound_run.specs.declared.opens.Place.{Place}
 use Rattle.compound_run.specs.declared.opens.Place.TheVariants as places
 use Rattle.compound_run.specs.Realm.{Realm, Opened}
 use Rattle.compound_run.specs.Meaning.{at}
-use Rattle.compound_run.specs.Create.{created, list_at}
+use Rattle.compound_run.specs.Operations.Create.{created, list_at}
 use Rattle.compound_run.specs.Lists.{IsFit}
 use Rattle.compound_run.specs.Stateids.{client_of}
-use Rattle.compound_run.specs.Open.{access_of, file_in, file_of, name_in, wanted, risen, with_reopened, with_open, stateid_of, found, opening, is_permitted, is_within, has_space_for, last_questions, result_on, opened_on, change_of}
+use Rattle.compound_run.specs.Operations.Open.{access_of, file_in, file_of, name_in, wanted, risen, with_reopened, with_open, stateid_of, found, opening, is_permitted, is_within, has_space_for, last_questions, result_on, opened_on, change_of}
 use Rattle.compound_run.specs.Opening.{IsBefore, IsPlace, MakesFile, placed, placed_stateid}
 use Rattle.compound_run.specs.Runs.{spelled, waits}
 use Rattle.compound_run.specs.Views.{GivesSo, realm_of, settings_of, stage, sense}
@@ -147,7 +147,7 @@ there_is false x r is full = absurd (apart (sym is ∙ full refl))
 pub file_made : {A : Type 0} (c : Context) (v : Value open_args) (new : NewObject A) (want : Wanted) (w : World) (d : ℕ) (name : List ℕ) (a : At) → claim_of v ≡ ByName name → wanted c v ≡ want → a ≡ at c w
     → MakesFile c.caller (list_at w d) want new → with_new w d name (made new w.next_stamp a) a ≡ file_in c v d None w
 file_made c v new want w d name a claims is_wanted when m =
-    (λ i. with_new w d (name_in (sym claims i)) (new_object (m.kind i) (m.bytes i) (m.owner i) (m.group i) (m.list i) (m.high i) w.next_stamp (when i)) (when i))
+    (λ i. with_new w d (name_in (sym claims i)) (new_object (m.kind i) (m.bytes i) (m.owner i) (m.group i) (m.list i) (m.high i) (record { stamp = w.next_stamp; at = when i })) (when i))
     ∙ (λ i. with_new w d (name_in (claim_of v)) (created c (file_of (sym is_wanted i)) (sym is_wanted i) (list_at w d) w.next_stamp (at c w)) (at c w))
 
 -- ---- the result

@@ -4,14 +4,14 @@ use Rattle.std.specs.Prelude.{[], Some, None, Result, Err, IsOk, MatchOption}
 use Rattle.xdr_wire.specs.Buffer.{Buffer}
 use Rattle.nfs_types.specs.declared.status.Status.{Status}
 use Rattle.nfs_ops.specs.Results.{Done}
-use Rattle.nfs_ops.specs.declared.op_kind.OpKind.TheVariants as kinds
+use Rattle.nfs_ops.specs.declared.OpKind.TheVariants as kinds
 use Rattle.session_slots.specs.Registry.{Registry}
 use Rattle.session_slots.specs.Destroying.{reclaim_refusal}
 use Rattle.access_guard.specs.Log.{held}
 use Rattle.compound_run.specs.declared.realm.Realm as realms
 use Rattle.compound_run.specs.declared.filehandles.FileHandles.{FileHandles}
 use Rattle.compound_run.specs.Context.{Context}
-use Rattle.compound_run.specs.ReclaimComplete.{reclaim_complete}
+use Rattle.compound_run.specs.Operations.ReclaimComplete.{reclaim_complete}
 use Rattle.compound_run.specs.Faults.{first_fault}
 use Rattle.compound_run.specs.Questions.{told, lines_unless}
 use Rattle.compound_run.specs.Runs.{waits}

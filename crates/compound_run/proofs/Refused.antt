@@ -12,7 +12,7 @@ use Rattle.node_tree.specs.Refusals.{may_name, add_refusal, link_refusal}
 use Rattle.compound_run.specs.Realm.{unopened}
 use Rattle.compound_run.specs.Sight.{Sight, whole}
 use Rattle.compound_run.specs.Meaning.{names_at}
-use Rattle.compound_run.specs.Create.{can_add}
+use Rattle.compound_run.specs.Operations.Create.{can_add}
 
 -- a change is refused for this reason
 pub refused_by : {A : Type 0} (refusal : Option TreeFault) (fault : TreeFault) (result : Result A TreeFault) → refusal ≡ Some fault

@@ -9,7 +9,7 @@ use Rattle.nfs_types.specs.declared.status.Status.TheVariants as statuses
 use Rattle.nfs_ops.specs.Forms.{sequence_args, create_session_args}
 use Rattle.nfs_ops.specs.Operations.{Known}
 use Rattle.nfs_ops.specs.Rows.{row}
-use Rattle.nfs_ops.specs.declared.op_kind.OpKind.TheVariants as kinds
+use Rattle.nfs_ops.specs.declared.OpKind.TheVariants as kinds
 use Rattle.session_slots.specs.declared.client.Created.{Created}
 use Rattle.session_slots.specs.declared.creating.Create.{Create}
 use Rattle.session_slots.specs.declared.creating.Made.{Made}

@@ -15,7 +15,7 @@ use Rattle.nfs_ops.specs.Operations.{Known}
 use Rattle.nfs_ops.specs.Parts.{set_attributes, set_stateid, set_of}
 use Rattle.nfs_ops.specs.Results.{Done}
 use Rattle.nfs_ops.specs.Rows.{row}
-use Rattle.nfs_ops.specs.declared.op_kind.OpKind.TheVariants as kinds
+use Rattle.nfs_ops.specs.declared.OpKind.TheVariants as kinds
 use Rattle.access_guard.specs.Log.{held}
 use Rattle.access_rows.specs.Rows.{Demands, first_demands}
 use Rattle.node_tree.specs.Judged.{judged_of}
@@ -24,7 +24,7 @@ use Rattle.compound_run.specs.declared.realm.Realm as realms
 use Rattle.compound_run.specs.declared.filehandles.FileHandles.{FileHandles}
 use Rattle.compound_run.specs.Asking.{sight_of}
 use Rattle.compound_run.specs.Context.{Context}
-use Rattle.compound_run.specs.Create.{list_at, wanted_in}
+use Rattle.compound_run.specs.Operations.Create.{list_at, wanted_in}
 use Rattle.compound_run.specs.Lists.{set_fits, set_list}
 use Rattle.compound_run.specs.Permits.{Permits, permitted, entitled}
 use Rattle.node_tree.specs.declared.at.At.{At}
@@ -33,7 +33,7 @@ use Rattle.compound_run.specs.Meaning.{at, here}
 use Rattle.compound_run.specs.Questions.{failure, trace, told, all_granted, demand_lines}
 use Rattle.compound_run.specs.Rows.{sized_facts}
 use Rattle.compound_run.specs.Runs.{spelled, waits}
-use Rattle.compound_run.specs.Setattr.{setattr, sent, size_fault, size_fits, has_counts, sets_list, sized, listed, set_on, setting, with_attributes}
+use Rattle.compound_run.specs.Operations.Setattr.{setattr, sent, size_fault, size_fits, can_count, sets_list, sized, listed, set_on, setting, with_attributes}
 use Rattle.compound_run.specs.Sight.{kind_at}
 use Rattle.compound_run.specs.Views.{GivesSo, holding, realm_of, with_world, stage, sense}
 
@@ -95,7 +95,7 @@ module _ {A : Type 0} (c : Context) (h : FileHandles) (v : Value setattr_args) (
     (size : size_fault wanted.size c (here h) (set_stateid v) (sight_of e) ≡ None)
     (granted : all_granted (judged_of e.tree.world) c.caller (demanded v h e wanted) ≡ true)
     (fits : size_fits wanted.size ≡ true)
-    (counts : has_counts wanted (sight_of e) ≡ true)
+    (counts : can_count wanted (sight_of e) ≡ true)
     (bounded : Bool)
     (bounds : set_fits wanted (kind_at (sight_of e) (here h)) (list_at e.tree.world (here h)) ≡ bounded) where
   fails : failure c.caller (sight_of e) (setattr v c h).questions ≡ cond bounded None (Some statuses.NoSpc)
@@ -170,7 +170,7 @@ pub attributes_set : {A : Type 0} (room : ℕ) (c : Context) (h : FileHandles) (
     → all_granted (judged_of e.tree.world) c.caller (demanded v h e wanted) ≡ true
     → mid ≡ holding (demand_lines (judged_of e.tree.world) c.caller (row kinds.SetAttr).number (demanded v h e wanted)) e
     → size_fits wanted.size ≡ true
-    → has_counts wanted (sight_of mid) ≡ true
+    → can_count wanted (sight_of mid) ≡ true
     → set_fits wanted (kind_at (sight_of mid) number) (list_at mid.tree.world number) ≡ true
     → new ≡ with_world (setting number wanted (at c mid.tree.world) mid.tree.world) mid
     → Appends out out' (spelled (Done kinds.SetAttr (set_of (set_attributes v)))) → length out'.bytes ≤ length out.bytes + room
@@ -182,7 +182,7 @@ attributes_set room c h v e mid new out out' number wanted is_here there is_want
     (subst (λ n. sent c v (kind_at (sight_of e) n) ≡ Ok wanted) same is_wanted)
     (subst (λ n. size_fault wanted.size c n (set_stateid v) (sight_of e) ≡ None) same size)
     granted fits
-    (subst (λ x. has_counts wanted (sight_of x) ≡ true) holds counts)
+    (subst (λ x. can_count wanted (sight_of x) ≡ true) holds counts)
     true ((λ i. set_fits wanted (kind_at (sight_of (sym holds i)) (sym same i)) (list_at (sym holds i).tree.world (sym same i))) ∙ bounds)
     room mid new out out' refl holds
     (subst (λ n. new ≡ with_world (setting n wanted (at c mid.tree.world) mid.tree.world) mid) same is_set)
@@ -196,7 +196,7 @@ pub attributes_refused : {A : Type 0} (room : ℕ) (c : Context) (h : FileHandle
     → all_granted (judged_of e.tree.world) c.caller (demanded v h e wanted) ≡ true
     → mid ≡ holding (demand_lines (judged_of e.tree.world) c.caller (row kinds.SetAttr).number (demanded v h e wanted)) e
     → size_fits wanted.size ≡ true
-    → has_counts wanted (sight_of mid) ≡ true
+    → can_count wanted (sight_of mid) ≡ true
     → (status ≢ statuses.Delay → (status ≡ statuses.NoSpc) × (set_fits wanted (kind_at (sight_of mid) number) (list_at mid.tree.world number) ≡ false))
     → new ≡ mid
     → GivesSo (sense true (setattr v c h) waits) room h (stage e out) (Err status) (stage new out)
@@ -209,7 +209,7 @@ attributes_refused room c h v e mid new out number wanted status is_here there i
     (subst (λ n. sent c v (kind_at (sight_of e) n) ≡ Ok wanted) same is_wanted)
     (subst (λ n. size_fault wanted.size c n (set_stateid v) (sight_of e) ≡ None) same size)
     granted fits
-    (subst (λ x. has_counts wanted (sight_of x) ≡ true) holds counts)
+    (subst (λ x. can_count wanted (sight_of x) ≡ true) holds counts)
     (set_fits wanted (kind_at (sight_of mid) number) (list_at mid.tree.world number)) bounds
     room mid new out status unfit holds stays
 

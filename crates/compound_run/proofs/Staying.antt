@@ -6,14 +6,14 @@ use Rattle.nfs_types.specs.declared.status.Status.{Status}
 use Rattle.nfs_ops.specs.Forms.{open_args}
 use Rattle.nfs_ops.specs.Operations.{Operation, Known, Unsupported, Illegal, Bad, next_at}
 use Rattle.nfs_ops.specs.Results.{Outcome}
-use Rattle.nfs_ops.specs.declared.op_kind.OpKind.TheVariants as kinds
+use Rattle.nfs_ops.specs.declared.OpKind.TheVariants as kinds
 use Rattle.session_slots.specs.Destroying.{with_reclaimed}
 use Rattle.session_slots.specs.Registry.{Session}
 use Rattle.compound_run.specs.declared.filehandles.FileHandles.{FileHandles}
 use Rattle.compound_run.specs.Realm.{Realm, Opened}
 use Rattle.compound_run.specs.Context.{Context, behind}
 use Rattle.compound_run.specs.Sight.{whole}
-use Rattle.compound_run.specs.Open.{with_open, joined, found}
+use Rattle.compound_run.specs.Operations.Open.{with_open, joined, found}
 use Rattle.compound_run.specs.Stateids.{client_of}
 use Rattle.compound_run.specs.Sessions.{with_registry}
 use Rattle.compound_run.specs.Operations.{body}
@@ -32,39 +32,10 @@ reclaimed_stays true c r = refl
 reclaimed_stays false c r = refl
 
 effect_stays : (c : Context) (h : FileHandles) (op : Operation) (r : Realm) → sessions ((body c h op).effect r) ≡ sessions r
-effect_stays c h (Known kinds.Access v) r = refl
-effect_stays c h (Known kinds.Close v) r = refl
-effect_stays c h (Known kinds.Commit v) r = refl
-effect_stays c h (Known kinds.Create v) r = refl
-effect_stays c h (Known kinds.GetAttr v) r = refl
-effect_stays c h (Known kinds.GetFh v) r = refl
-effect_stays c h (Known kinds.Link v) r = refl
-effect_stays c h (Known kinds.Lookup v) r = refl
-effect_stays c h (Known kinds.LookupP v) r = refl
-effect_stays c h (Known kinds.NVerify v) r = refl
 effect_stays c h (Known kinds.Open v) r =
     opened c v (unwrap_or (found v h (whole r)) r.world.next_number) (joined c v (found v h (whole r)) r.opens) r
-effect_stays c h (Known kinds.PutFh v) r = refl
-effect_stays c h (Known kinds.PutRootFh v) r = refl
-effect_stays c h (Known kinds.Read v) r = refl
-effect_stays c h (Known kinds.ReadDir v) r = refl
-effect_stays c h (Known kinds.ReadLink v) r = refl
-effect_stays c h (Known kinds.Remove v) r = refl
-effect_stays c h (Known kinds.Rename v) r = refl
-effect_stays c h (Known kinds.RestoreFh v) r = refl
-effect_stays c h (Known kinds.SaveFh v) r = refl
-effect_stays c h (Known kinds.SetAttr v) r = refl
-effect_stays c h (Known kinds.Verify v) r = refl
-effect_stays c h (Known kinds.Write v) r = refl
-effect_stays c h (Known kinds.ExchangeId v) r = refl
-effect_stays c h (Known kinds.CreateSession v) r = refl
-effect_stays c h (Known kinds.DestroySession v) r = refl
-effect_stays c h (Known kinds.Sequence v) r = refl
-effect_stays c h (Known kinds.DestroyClientId v) r = refl
 effect_stays c h (Known kinds.ReclaimComplete v) r = reclaimed_stays v c r
-effect_stays c h (Unsupported n) r = refl
-effect_stays c h Illegal r = refl
-effect_stays c h (Bad n) r = refl
+effect_stays c h _ r = refl
 
 step_stays : (c : Context) (op : Operation) (old : Point) (result : Result Outcome Status) (new : Point) → Steps c op old result new → sessions new.realm ≡ sessions old.realm
 step_stays c op old (Ok outcome) new steps = ap sessions steps.realm ∙ effect_stays c old.handles op old.realm

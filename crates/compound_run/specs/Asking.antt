@@ -2,7 +2,7 @@
 use Rattle.std.specs.Prelude.{ℕ, Bool, Option}
 use Rattle.rpc_record.specs.Identity.{Identity}
 use Rattle.who_book.specs.Members.{member}
-use Rattle.nfs_ops.specs.declared.op.Op.{Op}
+use Rattle.nfs_ops.specs.declared.Op.{Op}
 use Rattle.nfs_ops.specs.OpViews.{op_view}
 use Rattle.nfs_ops.specs.Operations.{number_of}
 use Rattle.node_tree.specs.Judged.{judged_of}

@@ -6,7 +6,7 @@ use Rattle.nfs_types.specs.declared.status.Status.{Status}
 use Rattle.nfs_ops.specs.Forms.{create_session_args, channel}
 use Rattle.nfs_ops.specs.Parts.{session_client, session_sequence, session_flags, fore_channel, back_channel}
 use Rattle.nfs_ops.specs.Parts.{request_size, reply_size, cached_size, operations, slots}
-use Rattle.nfs_ops.specs.declared.op_kind.OpKind.TheVariants as kinds
+use Rattle.nfs_ops.specs.declared.OpKind.TheVariants as kinds
 use Rattle.nfs_ops.specs.Results.{Outcome, Done}
 use Rattle.session_slots.specs.declared.session.Channel.{Channel}
 use Rattle.session_slots.specs.declared.client.Created.{Created}

@@ -3,7 +3,7 @@ use Rattle.std.specs.Prelude.{◌≡◌, Result, OnOk, OnErr}
 use Rattle.xdr_wire.specs.Xdr.{Value}
 use Rattle.nfs_types.specs.declared.status.Status.{Status}
 use Rattle.nfs_ops.specs.Forms.{destroy_session_args}
-use Rattle.nfs_ops.specs.declared.op_kind.OpKind.TheVariants as kinds
+use Rattle.nfs_ops.specs.declared.OpKind.TheVariants as kinds
 use Rattle.nfs_ops.specs.Results.{Outcome, Done}
 use Rattle.session_slots.specs.Destroying.{destroy_session_refusal, without_session}
 use Rattle.compound_run.specs.Realm.{Realm}

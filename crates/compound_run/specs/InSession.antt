@@ -10,7 +10,7 @@ use Rattle.nfs_ops.specs.Operations.{Operation, Known, number_of}
 use Rattle.nfs_ops.specs.Parts.{sequence_session, sequence_slot}
 use Rattle.nfs_ops.specs.Results.{Outcome}
 use Rattle.nfs_ops.specs.Rows.{row}
-use Rattle.nfs_ops.specs.declared.op_kind.OpKind.TheVariants as kinds
+use Rattle.nfs_ops.specs.declared.OpKind.TheVariants as kinds
 use Rattle.session_slots.specs.declared.client.Created.{Created}
 use Rattle.session_slots.specs.declared.session.Begin.{Begin}
 use Rattle.session_slots.specs.declared.session.Begin.TheVariants as begins

@@ -18,7 +18,7 @@ use Rattle.access_rows.specs.declared.demand.Demand.{Demand}
 use Rattle.access_rows.specs.declared.facts.Object.{Object}
 use Rattle.compound_run.specs.Sight.{Sight}
 use Rattle.compound_run.specs.Rows.{object_of}
-use Rattle.compound_run.specs.Readdir.{names_above}
+use Rattle.compound_run.specs.Operations.Readdir.{names_above}
 
 -- the first of two demands that is refused, by whether READ_ATTRIBUTES and READ_ACL are granted
 abbrev pub refused_of : Bool → Bool → Demands → Option Demand

@@ -24,7 +24,7 @@ use Rattle.compound_run.specs.declared.opens.Place.TheVariants as places
 use Rattle.compound_run.specs.Realm.{Realm, Opened}
 use Rattle.compound_run.specs.Context.{Context}
 use Rattle.compound_run.specs.Stateids.{client_of}
-use Rattle.compound_run.specs.Open.{risen, with_reopened}
+use Rattle.compound_run.specs.Operations.Open.{risen, with_reopened}
 
 -- an open that is opened again, if it has this number
 abbrev pub reopened_by : {A : Type 0} → ℕ → ℕ → Open A → Open A

@@ -2,6 +2,30 @@
 -- supported, in the order of the standard. Others answer NOTSUPP once they are read, and so do the
 -- operations of sessions where there is none. Of these RECLAIM_COMPLETE alone runs after a
 -- SEQUENCE.
+pub mod Access
+pub mod Close
+pub mod Commit
+pub mod Create
+pub mod Getattr
+pub mod Getfh
+pub mod Link
+pub mod Lookup
+pub mod Lookupp
+pub mod Nverify
+pub mod Open
+pub mod Putfh
+pub mod Putrootfh
+pub mod Read
+pub mod Readdir
+pub mod Readlink
+pub mod Remove
+pub mod Rename
+pub mod Restorefh
+pub mod Savefh
+pub mod Setattr
+pub mod Verify
+pub mod Write
+pub mod ReclaimComplete
 use Rattle.std.specs.Prelude.{ℕ, Bool, true, false, ◌&&◌, nat_lt, is_none, if◌then◌else◌, ◌∷◌, Option, Some, None}
 use Rattle.nfs_types.specs.declared.status.Status.{Status}
 use Rattle.nfs_types.specs.declared.status.Status.TheVariants as statuses
@@ -9,7 +33,7 @@ use Rattle.nfs_ops.specs.Operations.{Operation, Known, Unsupported, Illegal, Bad
 use Rattle.nfs_ops.specs.declared.op_kind.Placement.{Placement}
 use Rattle.nfs_ops.specs.declared.op_kind.Placement.TheVariants.{Anywhere, InSession, First, Alone}
 use Rattle.nfs_ops.specs.Rows.{row}
-use Rattle.nfs_ops.specs.declared.op_kind.OpKind.TheVariants as kinds
+use Rattle.nfs_ops.specs.declared.OpKind.TheVariants as kinds
 use Rattle.compound_run.specs.declared.context.Calling.{Calling}
 use Rattle.compound_run.specs.declared.filehandles.FileHandles.{FileHandles}
 use Rattle.compound_run.specs.Limits.{MIN_ROOM}
@@ -17,30 +41,30 @@ use Rattle.compound_run.specs.Context.{Context}
 use Rattle.compound_run.specs.Faults.{MayFault, first_fault, first_may}
 use Rattle.compound_run.specs.Questions.{is_valid}
 use Rattle.compound_run.specs.Meaning.{Meaning, refusing, too_big_for, too_big_may}
-use Rattle.compound_run.specs.Access.{access}
-use Rattle.compound_run.specs.Close.{close}
-use Rattle.compound_run.specs.Commit.{commit}
-use Rattle.compound_run.specs.Create.{create}
-use Rattle.compound_run.specs.Getattr.{getattr}
-use Rattle.compound_run.specs.Getfh.{getfh}
-use Rattle.compound_run.specs.Link.{link}
-use Rattle.compound_run.specs.Lookup.{lookup}
-use Rattle.compound_run.specs.Lookupp.{lookupp}
-use Rattle.compound_run.specs.Nverify.{nverify}
-use Rattle.compound_run.specs.Open.{open_file}
-use Rattle.compound_run.specs.Putfh.{putfh}
-use Rattle.compound_run.specs.Putrootfh.{putrootfh}
-use Rattle.compound_run.specs.Read.{read}
-use Rattle.compound_run.specs.Readdir.{readdir}
-use Rattle.compound_run.specs.Readlink.{readlink}
-use Rattle.compound_run.specs.Remove.{remove}
-use Rattle.compound_run.specs.Rename.{rename}
-use Rattle.compound_run.specs.Restorefh.{restorefh}
-use Rattle.compound_run.specs.Savefh.{savefh}
-use Rattle.compound_run.specs.Setattr.{setattr}
-use Rattle.compound_run.specs.Verify.{verify}
-use Rattle.compound_run.specs.Write.{write}
-use Rattle.compound_run.specs.ReclaimComplete.{reclaim_complete}
+use Rattle.compound_run.specs.Operations.Access.{access}
+use Rattle.compound_run.specs.Operations.Close.{close}
+use Rattle.compound_run.specs.Operations.Commit.{commit}
+use Rattle.compound_run.specs.Operations.Create.{create}
+use Rattle.compound_run.specs.Operations.Getattr.{getattr}
+use Rattle.compound_run.specs.Operations.Getfh.{getfh}
+use Rattle.compound_run.specs.Operations.Link.{link}
+use Rattle.compound_run.specs.Operations.Lookup.{lookup}
+use Rattle.compound_run.specs.Operations.Lookupp.{lookupp}
+use Rattle.compound_run.specs.Operations.Nverify.{nverify}
+use Rattle.compound_run.specs.Operations.Open.{open_file}
+use Rattle.compound_run.specs.Operations.Putfh.{putfh}
+use Rattle.compound_run.specs.Operations.Putrootfh.{putrootfh}
+use Rattle.compound_run.specs.Operations.Read.{read}
+use Rattle.compound_run.specs.Operations.Readdir.{readdir}
+use Rattle.compound_run.specs.Operations.Readlink.{readlink}
+use Rattle.compound_run.specs.Operations.Remove.{remove}
+use Rattle.compound_run.specs.Operations.Rename.{rename}
+use Rattle.compound_run.specs.Operations.Restorefh.{restorefh}
+use Rattle.compound_run.specs.Operations.Savefh.{savefh}
+use Rattle.compound_run.specs.Operations.Setattr.{setattr}
+use Rattle.compound_run.specs.Operations.Verify.{verify}
+use Rattle.compound_run.specs.Operations.Write.{write}
+use Rattle.compound_run.specs.Operations.ReclaimComplete.{reclaim_complete}
 
 -- ---- place
 

@@ -7,8 +7,9 @@ use Rattle.nfs_types.specs.declared.given.GivenAttributes.{GivenAttributes}
 use Rattle.nfs_types.specs.declared.status.Status.{Status}
 use Rattle.nfs_types.specs.Given.{given_set, given_values}
 use Rattle.nfs_types.specs.Views.{bitmap_value}
-use Rattle.nfs_ops.specs.declared.op_kind.OpKind.TheVariants as kinds
-use Rattle.nfs_ops.specs.Results.{Outcome, Done, most}
+use Rattle.nfs_ops.specs.declared.OpKind.TheVariants as kinds
+use Rattle.nfs_ops.specs.Results.{Outcome, Done}
+use Rattle.nfs_ops.specs.Sizes.{most}
 use Rattle.compound_run.specs.Sight.{Sight}
 use Rattle.compound_run.specs.Values.{facts_at, values_at}
 use Rattle.compound_run.specs.Runs.{spelled}

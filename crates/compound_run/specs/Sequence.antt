@@ -6,7 +6,7 @@ use Rattle.rpc_record.specs.Identity.{Identity}
 use Rattle.nfs_ops.specs.Forms.{sequence_args, sequence_result}
 use Rattle.nfs_ops.specs.Parts.{sequence_session, sequence_number, sequence_slot, highest_slot, keeps_reply}
 use Rattle.nfs_ops.specs.Rows.{row}
-use Rattle.nfs_ops.specs.declared.op_kind.OpKind.TheVariants as kinds
+use Rattle.nfs_ops.specs.declared.OpKind.TheVariants as kinds
 use Rattle.nfs_ops.specs.Results.{Done}
 use Rattle.session_slots.specs.declared.session.NewCall.{NewCall}
 use Rattle.session_slots.specs.Slots.{finished}

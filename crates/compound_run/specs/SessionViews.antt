@@ -13,7 +13,7 @@ use Rattle.nfs_ops.specs.Rows.{row}
 use Rattle.nfs_ops.specs.declared.sequence.SequenceResult.{SequenceResult}
 use Rattle.nfs_ops.specs.Views.{exchange_id_args_value, create_session_args_value, destroy_session_args_value}
 use Rattle.nfs_ops.specs.Views.{destroy_clientid_args_value, sequence_args_value, sequence_result_value}
-use Rattle.nfs_ops.specs.declared.op_kind.OpKind.TheVariants as kinds
+use Rattle.nfs_ops.specs.declared.OpKind.TheVariants as kinds
 use Rattle.session_slots.specs.declared.session.NewCall.{NewCall}
 use Rattle.session_slots.specs.Repeating.{Fate, Runs, Repeats, Fails}
 use Rattle.compound_run.specs.declared.in_session.Coming.{Coming}

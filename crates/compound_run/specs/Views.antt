@@ -10,7 +10,7 @@ use Rattle.nfs_types.specs.declared.moment.Moment.{Moment}
 use Rattle.nfs_types.specs.declared.status.Status.{Status}
 use Rattle.nfs_types.specs.declared.status.Status.TheVariants as statuses
 use Rattle.nfs_types.specs.Sent.{Wanted, made}
-use Rattle.nfs_ops.specs.declared.op.Op.{Op}
+use Rattle.nfs_ops.specs.declared.Op.{Op}
 use Rattle.nfs_ops.specs.Operations.{Operation}
 use Rattle.nfs_ops.specs.OpViews.{op_view}
 use Rattle.nfs_ops.specs.Results.{Outcome}
@@ -35,7 +35,7 @@ use Rattle.compound_run.specs.Sight.{whole}
 use Rattle.compound_run.specs.Meaning.{Meaning}
 use Rattle.compound_run.specs.Operations.{body, may_delay, meaning, takes_memory_in}
 use Rattle.compound_run.specs.Runs.{Point, Answered, spelled, waits}
-use Rattle.compound_run.specs.Create.{Draft}
+use Rattle.compound_run.specs.Operations.Create.{Draft}
 use Rattle.compound_run.specs.Compound.{args_form}
 use Rattle.compound_run.specs.State.{State, Call}
 use Rattle.access_guard.specs.Guarded.{Guarded}

@@ -1,7 +1,7 @@
 //! ACCESS (RFC 8881, section 18.1).
 ghost use Rattle.std.specs.Prelude.{◌≡◌};
 ghost use Rattle.nfs_ops.specs.Views.{access_args_value};
-ghost use Rattle.compound_run.specs.Access.{access};
+ghost use Rattle.compound_run.specs.Operations.Access.{access};
 ghost use Rattle.compound_run.specs.Views.{Gives, HasRoom, stage};
 
 use crate::filehandles::FileHandles;

@@ -1,6 +1,6 @@
 //! CLOSE (RFC 8881, section 18.2).
 ghost use Rattle.nfs_ops.specs.Views.{close_args_value};
-ghost use Rattle.compound_run.specs.Close.{close};
+ghost use Rattle.compound_run.specs.Operations.Close.{close};
 ghost use Rattle.compound_run.specs.Stateids.{without_open};
 ghost use Rattle.compound_run.specs.Views.{Gives, HasRoom, opens_view, stage};
 ghost use Rattle.std.specs.Prelude.{◌≡◌, ◌==◌, not, filter};

@@ -1,5 +1,5 @@
 //! COMMIT (RFC 8881, section 18.3).
-ghost use Rattle.compound_run.specs.Commit.{commit};
+ghost use Rattle.compound_run.specs.Operations.Commit.{commit};
 ghost use Rattle.compound_run.specs.Views.{Gives, HasRoom, stage};
 
 use crate::filehandles::FileHandles;

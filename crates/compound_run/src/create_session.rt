@@ -3,7 +3,7 @@ ghost use Rattle.std.specs.Prelude.{◌≡◌, ◌+◌, ◌≤◌, length};
 ghost use Rattle.xdr_wire.specs.Buffer.{Appends};
 ghost use Rattle.nfs_ops.specs.Operations.{Known};
 ghost use Rattle.nfs_ops.specs.Views.{channel_value, create_session_args_value};
-ghost use Rattle.nfs_ops.specs.declared.op_kind.OpKind.TheVariants as kinds;
+ghost use Rattle.nfs_ops.specs.declared.OpKind.TheVariants as kinds;
 ghost use Rattle.session_slots.specs.Creating.{Creates};
 ghost use Rattle.compound_run.specs.CreateSession.{channel_of, channel_given, create_of, session_made};
 ghost use Rattle.compound_run.specs.Limits as limits;

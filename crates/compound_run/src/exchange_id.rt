@@ -3,7 +3,7 @@ ghost use Rattle.std.specs.Prelude.{◌≡◌, ◌+◌, ◌≤◌, length};
 ghost use Rattle.xdr_wire.specs.Buffer.{Appends};
 ghost use Rattle.nfs_ops.specs.Operations.{Known};
 ghost use Rattle.nfs_ops.specs.Views.{exchange_id_args_value};
-ghost use Rattle.nfs_ops.specs.declared.op_kind.OpKind.TheVariants as kinds;
+ghost use Rattle.nfs_ops.specs.declared.OpKind.TheVariants as kinds;
 ghost use Rattle.session_slots.specs.Exchanging.{Exchanges};
 ghost use Rattle.compound_run.specs.ExchangeId.{exchanging, exchanged};
 ghost use Rattle.compound_run.specs.Limits as limits;

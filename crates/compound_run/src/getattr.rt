@@ -3,10 +3,10 @@ ghost use Rattle.std.specs.Prelude.{◌≡◌, ◌≤◌, [], IsSome};
 ghost use Rattle.nfs_types.specs.Views.{bitmap_value};
 ghost use Rattle.nfs_ops.specs.Views.{getattr_args_value};
 ghost use Rattle.nfs_ops.specs.Results.{Done};
-ghost use Rattle.nfs_ops.specs.declared.op_kind.OpKind.TheVariants as kinds;
+ghost use Rattle.nfs_ops.specs.declared.OpKind.TheVariants as kinds;
 ghost use Rattle.node_tree.specs.World.{object};
 ghost use Rattle.compound_run.specs.Asking.{sight_of};
-ghost use Rattle.compound_run.specs.Getattr.{getattr, told};
+ghost use Rattle.compound_run.specs.Operations.Getattr.{getattr, told};
 ghost use Rattle.compound_run.specs.Says.{PutsWithin, given_outcome};
 ghost use Rattle.compound_run.specs.Views.{context_at, Gives, HasRoom, stage};
 

@@ -1,5 +1,5 @@
 //! GETFH (RFC 8881, section 18.8).
-ghost use Rattle.compound_run.specs.Getfh.{getfh};
+ghost use Rattle.compound_run.specs.Operations.Getfh.{getfh};
 ghost use Rattle.compound_run.specs.Views.{Gives, HasRoom, stage};
 
 use crate::filehandles::FileHandles;

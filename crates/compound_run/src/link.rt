@@ -3,7 +3,7 @@ ghost use Rattle.std.specs.Prelude.{◌≡◌, ◌≢◌, ◌<◌, ◌≤◌, []
 ghost use Rattle.nfs_ops.specs.Views.{link_args_value};
 ghost use Rattle.node_tree.specs.World.{object, kind_of, link_count};
 ghost use Rattle.compound_run.specs.Sight.{whole, child, directory_change};
-ghost use Rattle.compound_run.specs.Link.{link, naming};
+ghost use Rattle.compound_run.specs.Operations.Link.{link, naming};
 ghost use Rattle.compound_run.specs.Views.{GivesOrDelays, HasRoom, realm_of, stage};
 
 use crate::directory::Directory;

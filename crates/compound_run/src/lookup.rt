@@ -1,7 +1,7 @@
 //! LOOKUP (RFC 8881, section 18.13).
 ghost use Rattle.std.specs.Prelude.{◌≡◌, ◌+◌, ◌<◌, []};
 ghost use Rattle.nfs_ops.specs.Views.{lookup_args_value};
-ghost use Rattle.compound_run.specs.Lookup.{lookup};
+ghost use Rattle.compound_run.specs.Operations.Lookup.{lookup};
 ghost use Rattle.compound_run.specs.Views.{Gives, HasRoom, stage};
 
 use crate::filehandles::FileHandles;

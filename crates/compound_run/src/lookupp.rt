@@ -1,6 +1,6 @@
 //! LOOKUPP (RFC 8881, section 18.14).
 ghost use Rattle.std.specs.Prelude.{◌≡◌, ◌+◌, ◌<◌, []};
-ghost use Rattle.compound_run.specs.Lookupp.{lookupp};
+ghost use Rattle.compound_run.specs.Operations.Lookupp.{lookupp};
 ghost use Rattle.compound_run.specs.Views.{Gives, HasRoom, stage};
 
 use crate::filehandles::FileHandles;

@@ -1,7 +1,7 @@
 //! NVERIFY (RFC 8881, section 18.15).
 ghost use Rattle.std.specs.Prelude.{◌≡◌, []};
 ghost use Rattle.nfs_ops.specs.Views.{nverify_args_value};
-ghost use Rattle.compound_run.specs.Nverify.{nverify};
+ghost use Rattle.compound_run.specs.Operations.Nverify.{nverify};
 ghost use Rattle.compound_run.specs.Views.{GivesOrDelays, HasRoom, stage};
 
 use crate::filehandles::FileHandles;

@@ -6,7 +6,7 @@ ghost use Rattle.std.specs.Cmp.Lexicographic.{pointwise};
 ghost use Rattle.nfs_types.specs.Views.{stateid_value};
 ghost use Rattle.nfs_ops.specs.Views.{open_args_value};
 ghost use Rattle.compound_run.specs.Asking.{sight_of};
-ghost use Rattle.compound_run.specs.Open as specs;
+ghost use Rattle.compound_run.specs.Operations.Open as specs;
 ghost use Rattle.compound_run.specs.Realm.{opens_left};
 ghost use Rattle.compound_run.specs.Opening.{HasPlace, IsPlace, placed, placed_stateid, reopened_by};
 ghost use Rattle.compound_run.specs.Views.{context_at, open_view, opens_view, realm_of};

@@ -1,7 +1,8 @@
 //! Results that are written where the reply is taken from.
 ghost use Rattle.std.specs.Prelude.{◌≡◌, ◌+◌, ◌≤◌, length};
 ghost use Rattle.xdr_wire.specs.Buffer.{Appends};
-ghost use Rattle.nfs_ops.specs.Results.{most, refused, refusal};
+ghost use Rattle.nfs_ops.specs.Results.{refused, refusal};
+ghost use Rattle.nfs_ops.specs.Sizes.{most};
 ghost use Rattle.nfs_ops.specs.ResultViews.{result_view};
 ghost use Rattle.compound_run.specs.Limits as limits;
 ghost use Rattle.compound_run.specs.Runs.{spelled};

@@ -1,6 +1,6 @@
 //! PUTFH (RFC 8881, section 18.19).
 ghost use Rattle.nfs_ops.specs.Views.{putfh_args_value};
-ghost use Rattle.compound_run.specs.Putfh.{putfh};
+ghost use Rattle.compound_run.specs.Operations.Putfh.{putfh};
 ghost use Rattle.compound_run.specs.Views.{Gives, HasRoom, stage};
 
 use crate::filehandles::FileHandles;

@@ -1,5 +1,5 @@
 //! PUTROOTFH (RFC 8881, section 18.21).
-ghost use Rattle.compound_run.specs.Putrootfh.{putrootfh};
+ghost use Rattle.compound_run.specs.Operations.Putrootfh.{putrootfh};
 ghost use Rattle.compound_run.specs.Views.{Gives, HasRoom, stage};
 
 use crate::filehandles::FileHandles;

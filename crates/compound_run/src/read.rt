@@ -3,10 +3,10 @@ ghost use Rattle.std.specs.Prelude.{◌≡◌, ◌+◌, ◌≤◌, [], length};
 ghost use Rattle.xdr_wire.specs.Buffer.{Appends};
 ghost use Rattle.nfs_ops.specs.Results.{Done};
 ghost use Rattle.nfs_ops.specs.Views.{read_args_value};
-ghost use Rattle.nfs_ops.specs.declared.op_kind.OpKind.TheVariants as kinds;
+ghost use Rattle.nfs_ops.specs.declared.OpKind.TheVariants as kinds;
 ghost use Rattle.compound_run.specs.Asking.{sight_of};
-ghost use Rattle.compound_run.specs.Read as specs;
-ghost use Rattle.compound_run.specs.Read.{read, gives};
+ghost use Rattle.compound_run.specs.Operations.Read as specs;
+ghost use Rattle.compound_run.specs.Operations.Read.{read, gives};
 ghost use Rattle.compound_run.specs.Runs.{spelled};
 ghost use Rattle.compound_run.specs.Views.{context_at, Gives, HasRoom, stage};
 

@@ -8,8 +8,8 @@ ghost use Rattle.node_tree.specs.World.{Name, name_after};
 ghost use Rattle.node_tree.specs.Judged.{judged_of};
 ghost use Rattle.node_tree.specs.Sound.{IsSound};
 ghost use Rattle.compound_run.specs.Asking.{sight_of};
-ghost use Rattle.compound_run.specs.Readdir as specs;
-ghost use Rattle.compound_run.specs.Readdir.{readdir, listing_of};
+ghost use Rattle.compound_run.specs.Operations.Readdir as specs;
+ghost use Rattle.compound_run.specs.Operations.Readdir.{readdir, listing_of};
 ghost use Rattle.compound_run.specs.Rows.{MAX_FIRST_LINES, object_of};
 ghost use Rattle.access_guard.specs.Lists as access;
 ghost use Rattle.acl_list.specs.declared.mask.TheConstants.{READ_ATTRIBUTES, READ_ACL};
@@ -189,7 +189,7 @@ impl<A: Allocator + Copy> Entries for Children<'_, A> {
     ghost use Rattle.std.specs.Prelude.{ℕ};
     ghost use Rattle.compound_run.specs.declared.realm.Realm as shape;
     ghost use Rattle.compound_run.specs.Asking.{sight_of};
-    ghost use Rattle.compound_run.specs.Readdir.{judged_above};
+    ghost use Rattle.compound_run.specs.Operations.Readdir.{judged_above};
     ghost use Rattle.compound_run.specs.Views.{context_at};
     ghost use Rattle.nfs_types.specs.Views.{bitmap_value};
 

@@ -5,8 +5,8 @@ ghost use Rattle.xdr_wire.specs.Buffer.{Appends};
 ghost use Rattle.node_tree.specs.World.{kind_of, bytes_of};
 ghost use Rattle.nfs_ops.specs.Forms.{readlink_size};
 ghost use Rattle.nfs_ops.specs.Results.{Done};
-ghost use Rattle.nfs_ops.specs.declared.op_kind.OpKind.TheVariants as kinds;
-ghost use Rattle.compound_run.specs.Readlink.{readlink};
+ghost use Rattle.nfs_ops.specs.declared.OpKind.TheVariants as kinds;
+ghost use Rattle.compound_run.specs.Operations.Readlink.{readlink};
 ghost use Rattle.compound_run.specs.Runs.{spelled};
 ghost use Rattle.compound_run.specs.Views.{Gives, HasRoom, stage};
 

@@ -9,9 +9,9 @@ ghost use Rattle.node_tree.specs.Sound.{IsTick, most_bytes};
 ghost use Rattle.node_tree.specs.Refusals.{has_left, may_name};
 ghost use Rattle.compound_run.specs.Sight.{child, whole};
 ghost use Rattle.compound_run.specs.Meaning.{names_at};
-ghost use Rattle.compound_run.specs.Create.{can_add};
-ghost use Rattle.compound_run.specs.Rename.{goes_below, can_replace, can_move};
-ghost use Rattle.compound_run.specs.Write.{fits};
+ghost use Rattle.compound_run.specs.Operations.Create.{can_add};
+ghost use Rattle.compound_run.specs.Operations.Rename.{goes_below, can_replace, can_move};
+ghost use Rattle.compound_run.specs.Operations.Write.{fits};
 ghost use Rattle.compound_run.specs.Realm.{with_loss};
 ghost use Rattle.compound_run.specs.Views.{realm_of, with_world, settings_of};
 

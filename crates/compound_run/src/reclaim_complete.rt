@@ -1,6 +1,6 @@
 //! RECLAIM_COMPLETE (RFC 8881, section 18.51).
 ghost use Rattle.nfs_ops.specs.Views.{reclaim_complete_args_value};
-ghost use Rattle.compound_run.specs.ReclaimComplete.{reclaim_complete};
+ghost use Rattle.compound_run.specs.Operations.ReclaimComplete.{reclaim_complete};
 ghost use Rattle.compound_run.specs.Views.{Gives, HasRoom, stage};
 
 use crate::filehandles::FileHandles;

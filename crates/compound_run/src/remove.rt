@@ -1,7 +1,7 @@
 //! REMOVE (RFC 8881, section 18.25).
 ghost use Rattle.std.specs.Prelude.{◌≡◌, ◌+◌, ◌<◌, []};
 ghost use Rattle.nfs_ops.specs.Views.{remove_args_value};
-ghost use Rattle.compound_run.specs.Remove.{remove};
+ghost use Rattle.compound_run.specs.Operations.Remove.{remove};
 ghost use Rattle.compound_run.specs.Views.{Gives, HasRoom, stage};
 
 use crate::directory::Directory;

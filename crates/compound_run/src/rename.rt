@@ -3,7 +3,7 @@ ghost use Rattle.std.specs.Prelude.{◌≡◌, ◌+◌, ◌<◌, ◌≤◌, [], 
 ghost use Rattle.nfs_ops.specs.Views.{rename_args_value};
 ghost use Rattle.compound_run.specs.Sight.{whole, child, directory_change};
 ghost use Rattle.node_tree.specs.World.{kind_of, is_one};
-ghost use Rattle.compound_run.specs.Rename.{rename, goes_below, can_replace, moving};
+ghost use Rattle.compound_run.specs.Operations.Rename.{rename, goes_below, can_replace, moving};
 ghost use Rattle.compound_run.specs.Views.{GivesOrDelays, HasRoom, realm_of, stage};
 
 use crate::directory::Directory;

@@ -1,5 +1,5 @@
 //! RESTOREFH (RFC 8881, section 18.27).
-ghost use Rattle.compound_run.specs.Restorefh.{restorefh};
+ghost use Rattle.compound_run.specs.Operations.Restorefh.{restorefh};
 ghost use Rattle.compound_run.specs.Views.{Gives, HasRoom, stage};
 
 use crate::filehandles::FileHandles;

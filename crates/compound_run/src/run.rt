@@ -1,12 +1,10 @@
 //! One operation at its place (RFC 8881, section 16.2.3).
 ghost use Rattle.std.specs.Prelude.{◌≡◌, ◌+◌, ◌≤◌, [], true};
 ghost use Rattle.nfs_ops.specs.OpViews.{op_view};
-ghost use Rattle.compound_run.specs.Operations.{is_run};
 ghost use Rattle.compound_run.specs.Operations as specs;
 ghost use Rattle.compound_run.specs.Limits as limits;
 ghost use Rattle.compound_run.specs.Telling.{is_delay};
-ghost use Rattle.compound_run.specs.Views.{context_at, handles_after, point_at, GivesBy, HasRoom, IfRun};
-ghost use Rattle.compound_run.specs.Views.{stage, by_body, by_meaning, by_run};
+ghost use Rattle.compound_run.specs.Views.{context_at, handles_after, point_at, GivesBy, stage, by_meaning, by_run};
 ghost use Rattle.compound_run.specs.Written.{StepGives};
 
 use crate::context::Context;
@@ -67,53 +65,6 @@ fn is_delayed(answer: &Result<FileHandles, Status>) -> bool
 }
 
 impl<A: Allocator + Copy> Realm<A> {
-    /// Answers an operation that has its place, and room for its result.
-    fn body(
-        &mut self,
-        step: Step<'_>,
-        op: &Op<'_>,
-        out: &mut Writer<A>,
-    ) -> Result<FileHandles, Status>
-        requires settled { self.old.tree.log.held ≡ [] }
-        requires room { IfRun (is_run (op_view op.now)) (HasRoom step.context out.old) }
-        ensures { GivesBy by_body step.entry op.now (stage self.old out.old) result (stage self.new out.new) }
-    {
-        match op {
-            Op::Access(args) => self.access(step, args, out),
-            Op::Close(args) => self.close(step, args, out),
-            Op::Commit(_) => self.commit(step, out),
-            Op::Create(args) => self.create(step, args, out),
-            Op::GetAttr(args) => self.getattr(step, args, out),
-            Op::GetFh => self.getfh(step, out),
-            Op::Link(args) => self.link(step, args, out),
-            Op::Lookup(args) => self.lookup(step, args, out),
-            Op::LookupP => self.lookupp(step, out),
-            Op::NVerify(args) => self.nverify(step, args, out),
-            Op::Open(args) => self.open(step, args, out),
-            Op::PutFh(args) => self.putfh(step, args, out),
-            Op::PutRootFh => self.putrootfh(step, out),
-            Op::Read(args) => self.read(step, args, out),
-            Op::ReadDir(args) => self.readdir(step, args, out),
-            Op::ReadLink => self.readlink(step, out),
-            Op::Remove(args) => self.remove(step, args, out),
-            Op::Rename(args) => self.rename(step, args, out),
-            Op::RestoreFh => self.restorefh(step, out),
-            Op::SaveFh => self.savefh(step, out),
-            Op::SetAttr(args) => self.setattr(step, args, out),
-            Op::Verify(args) => self.verify(step, args, out),
-            Op::Write(args) => self.write(step, args, out),
-            Op::ReclaimComplete(args) => self.reclaim_complete(step, args, out),
-            Op::Illegal => Err(Status::OpIllegal),
-            Op::Bad(_) => Err(Status::BadXdr),
-            Op::ExchangeId(_)
-            | Op::CreateSession(_)
-            | Op::DestroySession(_)
-            | Op::Sequence(_)
-            | Op::DestroyClientId(_)
-            | Op::Unsupported(_) => Err(Status::NotSupp),
-        }
-    }
-
     /// Answers an operation, once it has its place, and room for its result.
     fn answer(
         &mut self,

@@ -1,5 +1,5 @@
 //! SAVEFH (RFC 8881, section 18.28).
-ghost use Rattle.compound_run.specs.Savefh.{savefh};
+ghost use Rattle.compound_run.specs.Operations.Savefh.{savefh};
 ghost use Rattle.compound_run.specs.Views.{Gives, HasRoom, stage};
 
 use crate::filehandles::FileHandles;

@@ -10,10 +10,10 @@ ghost use Rattle.node_tree.specs.Sound.{IsTick};
 ghost use Rattle.node_tree.specs.World.{kind_of, object};
 ghost use Rattle.compound_run.specs.Asking.{sight_of};
 ghost use Rattle.compound_run.specs.Sight.{kind_at};
-ghost use Rattle.compound_run.specs.Create.{list_at};
+ghost use Rattle.compound_run.specs.Operations.Create.{list_at};
 ghost use Rattle.compound_run.specs.Lists.{IsFit, set_fits};
-ghost use Rattle.compound_run.specs.Setattr.{setattr, sent_by, size_fault, size_fits, has_counts, sets_list};
-ghost use Rattle.compound_run.specs.Setattr.{sets_owner, sets_any, stamps, sized, setting};
+ghost use Rattle.compound_run.specs.Operations.Setattr.{setattr, sent_by, size_fault, size_fits, can_count, sets_list};
+ghost use Rattle.compound_run.specs.Operations.Setattr.{sets_owner, sets_any, stamps, sized, setting};
 ghost use Rattle.compound_run.specs.Permits.{Permits, permitted, entitled};
 ghost use Rattle.compound_run.specs.Views.{context_at, GivesOrDelays, HasRoom, wanted_view, with_world, IsWanted};
 ghost use Rattle.compound_run.specs.Views.{stage};
@@ -130,9 +130,9 @@ impl<A: Allocator + Copy> Realm<A> {
     }
 
     /// Whether a tick is left for the attributes, and the stamps that they take.
-    #[tactic(auto, unfolding(crate::specs::Setattr::has_counts))]
-    fn has_counts(&self, wanted: &Attrs<A>) -> bool
-        ensures { result ≡ has_counts (wanted_view wanted.now) (sight_of self.now) }
+    #[tactic(auto, unfolding(crate::specs::Operations::Setattr::can_count))]
+    fn can_count(&self, wanted: &Attrs<A>) -> bool
+        ensures { result ≡ can_count (wanted_view wanted.now) (sight_of self.now) }
     {
         if !sets_any(wanted) {
             return true;
@@ -242,7 +242,7 @@ impl<A: Allocator + Copy> Realm<A> {
 
     /// Sets attributes of an object, all or none. `NoSpc`: its list would not be within the bounds
     /// of a list. `Delay`: there is no memory for them.
-    #[tactic(auto, unfolding(crate::specs::Setattr::setting))]
+    #[tactic(auto, unfolding(crate::specs::Operations::Setattr::setting))]
     fn set_all(&mut self, number: u64, wanted: Attrs<A>, at: At) -> Result<(), Status>
         requires tick { IsTick self.old.tree.world at.tick }
         requires there { IsSome (object self.old.tree.world number) }
@@ -270,13 +270,13 @@ impl<A: Allocator + Copy> Realm<A> {
 
     /// Sets these attributes; without any no tick is taken. `NoSpc`: the list would not be within
     /// the bounds of a list. `Delay`: there is no memory for them.
-    #[tactic(auto, unfolding(crate::specs::Setattr::has_counts, crate::specs::Setattr::setting))]
+    #[tactic(auto, unfolding(crate::specs::Operations::Setattr::can_count, crate::specs::Operations::Setattr::setting))]
     fn set_any(&mut self, now: Moment, number: u64, wanted: Attrs<A>) -> Result<(), Status>
         requires there { IsSome (object self.old.tree.world number) }
         requires file { IfSome wanted.size (λ size. kind_of self.old.tree.world number ≡ Some Kind.File) }
         requires fits { size_fits wanted.size ≡ true }
         requires bounded { IfSome wanted.list IsBounded }
-        requires counts { has_counts (wanted_view wanted) (sight_of self.old) ≡ true }
+        requires counts { can_count (wanted_view wanted) (sight_of self.old) ≡ true }
         ensures fits { IsFit (set_fits (wanted_view wanted) (kind_at (sight_of self.old) number)
             (list_at self.old.tree.world number)) result }
         ensures ok { OnOk result (self.new ≡ with_world
@@ -318,7 +318,7 @@ impl<A: Allocator + Copy> Realm<A> {
         if !size_fits(wanted.size) {
             return Err(Status::FBig);
         }
-        if !self.has_counts(&wanted) {
+        if !self.can_count(&wanted) {
             return Err(Status::NoSpc);
         }
         self.set_any(step.context.now, number, wanted)?;

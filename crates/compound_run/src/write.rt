@@ -1,7 +1,7 @@
 //! WRITE (RFC 8881, section 18.32).
 ghost use Rattle.std.specs.Prelude.{◌≡◌, []};
 ghost use Rattle.nfs_ops.specs.Views.{write_args_value};
-ghost use Rattle.compound_run.specs.Write.{write, fits};
+ghost use Rattle.compound_run.specs.Operations.Write.{write, fits};
 ghost use Rattle.compound_run.specs.Views.{GivesOrDelays, HasRoom, stage};
 
 use crate::filehandles::FileHandles;

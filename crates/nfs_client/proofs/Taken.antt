@@ -4,7 +4,7 @@ use Rattle.std.specs.Option.{option_to_list, option_map}
 use Rattle.std.proofs.lemmas.List.{map-append}
 use Rattle.nfs_ops.specs.Results.{Outcome}
 use Rattle.nfs_ops.specs.ResultViews.{read_view}
-use Rattle.nfs_ops.specs.declared.op_result.OpResult.{OpResult}
+use Rattle.nfs_ops.specs.declared.OpResult.{OpResult}
 use Rattle.nfs_client.specs.CompoundViews.{outcomes}
 use Rattle.nfs_client.specs.Taking.{last_of, last_two}
 

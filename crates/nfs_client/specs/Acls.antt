@@ -10,7 +10,7 @@ use Rattle.nfs_types.specs.Seen.{Seen, seen_of}
 use Rattle.nfs_types.specs.Sets.{has_number}
 use Rattle.nfs_ops.specs.Operations.{Operation, Known}
 use Rattle.nfs_ops.specs.Results.{Outcome, Done}
-use Rattle.nfs_ops.specs.declared.op_kind.OpKind.TheVariants as kinds
+use Rattle.nfs_ops.specs.declared.OpKind.TheVariants as kinds
 use Rattle.nfs_client.specs.Paths.{names_in}
 use Rattle.nfs_client.specs.Entries.{EntryLine, entry_in, entry_text}
 use Rattle.nfs_client.specs.Lines.{lines_of}

@@ -4,7 +4,7 @@ use Rattle.std.specs.Prelude.{◌≡◌, ◌≤◌, ◌<◌, ℕ, false, List, [
 use Rattle.std.specs.Prelude.{option_and_then, Result, Ok, Err}
 use Rattle.nfs_ops.specs.Operations.{Operation, Known}
 use Rattle.nfs_ops.specs.Results.{Outcome, Done}
-use Rattle.nfs_ops.specs.declared.op_kind.OpKind.TheVariants as kinds
+use Rattle.nfs_ops.specs.declared.OpKind.TheVariants as kinds
 use Rattle.nfs_client.specs.Commands.{AskGives, within_session}
 use Rattle.nfs_client.specs.Paging.{itself}
 use Rattle.nfs_client.specs.Routes.{Route, near, along, route_behind}

@@ -4,7 +4,7 @@ use Rattle.std.specs.Prelude.{Result, Ok, Err}
 use Rattle.nfs_types.specs.StateIds.{anonymous}
 use Rattle.nfs_ops.specs.Operations.{Operation, Known}
 use Rattle.nfs_ops.specs.Results.{Outcome, Done}
-use Rattle.nfs_ops.specs.declared.op_kind.OpKind.TheVariants as kinds
+use Rattle.nfs_ops.specs.declared.OpKind.TheVariants as kinds
 use Rattle.nfs_ops.specs.declared.read.ReadResult.{ReadResult}
 use Rattle.nfs_client.specs.Access.{NoPath}
 use Rattle.nfs_client.specs.Compound.{Said}

@@ -4,7 +4,7 @@ use Rattle.std.specs.Prelude.{map, Option, Some, None, Result, Ok, Err}
 use Rattle.nfs_types.specs.Status as statuses
 use Rattle.nfs_ops.specs.Operations.{Operation, Known}
 use Rattle.nfs_ops.specs.Results.{Outcome}
-use Rattle.nfs_ops.specs.declared.op_kind.OpKind.TheVariants as kinds
+use Rattle.nfs_ops.specs.declared.OpKind.TheVariants as kinds
 use Rattle.nfs_client.specs.Paths.{names_in}
 use Rattle.nfs_client.specs.Compound.{Answer, AllDone, LastRefused, NoReply, said}
 use Rattle.nfs_client.specs.Requests.{asked_of}

@@ -5,7 +5,7 @@ use Rattle.nfs_ops.specs.ResultReading.{result_at}
 use Rattle.nfs_types.specs.Status as statuses
 use Rattle.nfs_ops.specs.Results.{Outcome}
 use Rattle.nfs_ops.specs.ResultViews.{read_view}
-use Rattle.nfs_ops.specs.declared.op_result.OpResult.{OpResult}
+use Rattle.nfs_ops.specs.declared.OpResult.{OpResult}
 use Rattle.nfs_client.specs.Compound.{Answer, AllDone, LastRefused, NoReply, Said, Compound}
 use Rattle.nfs_client.specs.declared.fault.ToolFault.{ToolFault}
 use Rattle.nfs_client.specs.declared.fault.ToolFault.TheVariants.{Refused, Reply, Memory}

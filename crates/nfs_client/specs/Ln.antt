@@ -1,7 +1,7 @@
 -- ln: the object gets the new name in the new name's directory.
 use Rattle.std.specs.Prelude.{◌≡◌, ◌⊎◌, ℕ, Some, None, List}
 use Rattle.nfs_ops.specs.Operations.{Operation, Known}
-use Rattle.nfs_ops.specs.declared.op_kind.OpKind.TheVariants as kinds
+use Rattle.nfs_ops.specs.declared.OpKind.TheVariants as kinds
 use Rattle.nfs_client.specs.Paths.{names_in}
 use Rattle.nfs_client.specs.Commands.{IsIn, HasNoName}
 use Rattle.nfs_client.specs.declared.fault.ToolFault.{ToolFault}

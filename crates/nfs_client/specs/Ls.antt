@@ -8,7 +8,7 @@ use Rattle.nfs_types.specs.Sets.{has_number}
 use Rattle.nfs_ops.specs.Forms.{set_of, values_of, entry, entry_cookie, entry_name, entry_attributes, readdir_result}
 use Rattle.nfs_ops.specs.Operations.{Operation, Known}
 use Rattle.nfs_ops.specs.Results.{Outcome, Done}
-use Rattle.nfs_ops.specs.declared.op_kind.OpKind.TheVariants as kinds
+use Rattle.nfs_ops.specs.declared.OpKind.TheVariants as kinds
 use Rattle.nfs_client.specs.Compound.{Said}
 use Rattle.nfs_client.specs.Paths.{names_in}
 use Rattle.nfs_client.specs.Lines.{Listed, line_with, line_end, lines_of}

@@ -10,7 +10,7 @@ use Rattle.nfs_types.specs.Seen.{Seen, shown_set, shown_values}
 use Rattle.nfs_types.specs.declared.status.Status.{Status}
 use Rattle.nfs_ops.specs.Operations.{Operation, Known}
 use Rattle.nfs_ops.specs.Results.{Outcome, Done}
-use Rattle.nfs_ops.specs.declared.op_kind.OpKind.TheVariants as kinds
+use Rattle.nfs_ops.specs.declared.OpKind.TheVariants as kinds
 use Rattle.nfs_client.specs.Setting.{with_size, set_size}
 use Rattle.nfs_client.specs.Streams.{Directions}
 use Rattle.nfs_client.specs.Taking.{last_two, before_last, taking, no_value}

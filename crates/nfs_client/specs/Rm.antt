@@ -1,7 +1,7 @@
 -- rm: the name is removed from its directory.
 use Rattle.std.specs.Prelude.{◌≡◌, ℕ, List}
 use Rattle.nfs_ops.specs.Operations.{Operation, Known}
-use Rattle.nfs_ops.specs.declared.op_kind.OpKind.TheVariants as kinds
+use Rattle.nfs_ops.specs.declared.OpKind.TheVariants as kinds
 use Rattle.nfs_client.specs.Commands.{IsIn, HasNoName}
 use Rattle.nfs_client.specs.declared.fault.ToolFault.{ToolFault}
 use Rattle.nfs_client.specs.declared.fault.ToolFault.TheVariants.{Path}

@@ -2,7 +2,7 @@
 -- COMPOUND, and SEQUENCE is one of them.
 use Rattle.std.specs.Prelude.{ℕ, ◌+◌, nat_le, if◌then◌else◌, List, [], ◌∷◌, ◌++◌, take, drop}
 use Rattle.nfs_ops.specs.Operations.{Operation, Known}
-use Rattle.nfs_ops.specs.declared.op_kind.OpKind.TheVariants as kinds
+use Rattle.nfs_ops.specs.declared.OpKind.TheVariants as kinds
 use Rattle.nfs_client.specs.Commands.{sequence, lookups}
 use Rattle.nfs_client.specs.declared.client.Client.{Client}
 

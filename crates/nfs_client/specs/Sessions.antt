@@ -5,7 +5,7 @@ use Rattle.xdr_wire.specs.Xdr.{Value}
 use Rattle.nfs_ops.specs.Forms.{channel}
 use Rattle.nfs_ops.specs.Operations.{Operation, Known}
 use Rattle.nfs_ops.specs.Results.{Outcome, Done}
-use Rattle.nfs_ops.specs.declared.op_kind.OpKind.TheVariants as kinds
+use Rattle.nfs_ops.specs.declared.OpKind.TheVariants as kinds
 use Rattle.nfs_client.specs.Streams.{Directions}
 use Rattle.nfs_client.specs.Taking.{last_of, taking, no_value}
 use Rattle.nfs_client.specs.Commands.{AskGives, outside_session, Spoils}

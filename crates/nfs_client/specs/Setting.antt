@@ -6,7 +6,7 @@ use Rattle.nfs_types.specs.Forms.{stateid}
 use Rattle.nfs_types.specs.Seen.{Seen, shown_set, shown_values}
 use Rattle.nfs_types.specs.StateIds.{anonymous}
 use Rattle.nfs_ops.specs.Operations.{Operation, Known}
-use Rattle.nfs_ops.specs.declared.op_kind.OpKind.TheVariants as kinds
+use Rattle.nfs_ops.specs.declared.OpKind.TheVariants as kinds
 use Rattle.nfs_client.specs.declared.list_part.ListPart.{ListPart}
 use Rattle.nfs_client.specs.declared.list_part.ListPart.TheVariants.{Acl, Dacl, Sacl}
 

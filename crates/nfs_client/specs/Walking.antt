@@ -1,7 +1,7 @@
 -- Commands along paths: approaches, and then the COMPOUND of the command, which walks the names left.
 use Rattle.std.specs.Prelude.{◌≡◌, ◌⊎◌, ℕ, List, [], ◌∷◌, ◌++◌, length, Result, Ok, Err}
 use Rattle.nfs_ops.specs.Operations.{Operation, Known}
-use Rattle.nfs_ops.specs.declared.op_kind.OpKind.TheVariants as kinds
+use Rattle.nfs_ops.specs.declared.OpKind.TheVariants as kinds
 use Rattle.nfs_client.specs.Approach.{WalkGives, WalkFails}
 use Rattle.nfs_client.specs.Commands.{sequence, AskGives, within_session, Commanded}
 use Rattle.nfs_client.specs.Paging.{itself}

@@ -1,35 +1,50 @@
--- The results of the arms that read an operation by its kind, or a result.
-use Rattle.std.proofs.Common.{◌≡◌, ◌∙◌, ℕ, List, [], cond, Result, Ok, Err, sym, ap}
-use Rattle.std.specs.Prelude.{IsErrAnd}
-use Rattle.std.proofs.lemmas.Result.{err_from_is_err_and}
+-- The arms that read an operation or a result by its kind.
+use Rattle.std.proofs.Common.{◌≡◌, ◌∙◌, ℕ, List, [], cond, Ok, Err, sym, ap, subst}
 use Rattle.xdr_wire.specs.Xdr.{Xdr, Value}
-use Rattle.xdr_wire.specs.Reading.{◌>>=◌, Read as ReadOf, Gives}
+use Rattle.xdr_wire.specs.Reading.{◌>>=◌, Read as ReadOf, read_at}
+use Rattle.xdr_wire.specs.Wire.{in_normal_form}
 use Rattle.xdr_wire.specs.declared.fault.XdrFault.{XdrFault}
+use Rattle.nfs_ops.specs.Items.{Item, Spelled}
 use Rattle.nfs_ops.specs.Rows.{row}
-use Rattle.nfs_ops.specs.Operations.{Operation, Unsupported, any_stands, supported}
-use Rattle.nfs_ops.specs.Views.{op_view, read_view}
+use Rattle.nfs_ops.specs.Operations.{Operation, Known, Unsupported, any_stands, supported, arguments_of}
 use Rattle.nfs_ops.specs.Results.{Outcome, Done}
-use Rattle.nfs_ops.specs.declared.op.Op.{Op}
-use Rattle.nfs_ops.specs.declared.op_kind.OpKind.{OpKind}
-use Rattle.nfs_ops.specs.declared.op_result.OpResult.{OpResult}
+use Rattle.nfs_ops.specs.ResultReading.{spelled_of}
+use Rattle.nfs_ops.specs.ReadsAs.{IsOperation, IsDone}
+use Rattle.nfs_ops.specs.declared.OpKind.{OpKind}
 
-gives_err : {X V : Type 0} (view : X → V) (old new : List ℕ) (read : ReadOf V) (fault : XdrFault) (r : Result X XdrFault) → read ≡ Err fault → new ≡ old → IsErrAnd r (λ e. e ≡ fault) → Gives view old new r read
-gives_err view old new read fault r is stays h = let p = err_from_is_err_and r h in rw p.1 (is ∙ ap (λ (f : XdrFault). Err f) (sym p.2), stays)
+-- an item is read, or what has its form can't be
+abbrev ReadsItem : Item → List ℕ → List ℕ → Type 0
+ReadsItem i old new = in_normal_form i.normal (read_at i.form old) ≡ Ok (i.value, new)
+
+abbrev Faults : List ℕ → XdrFault → Spelled → Type 0
+Faults old fault s = in_normal_form s.normal (read_at s.form old) ≡ Err fault
+
+pub read_is : (k : OpKind) (o : Operation) (i : Item) (old new : List ℕ) → IsOperation k i o → ReadsItem i old new → arguments_of k old ≡ Ok (o, new)
+unfolding arguments_of
+read_is k (Known j v) i old new is e =
+    let same : j ≡ k = let found = is.kind in cc in
+    let here = subst (λ (x : Item). ReadsItem x old new) (sym is.holds) e in
+    ap (λ (m : OpKind). arguments_of m old) (sym same) ∙ ap (supported j old) here
+read_is k _ i old new is e = let found = is.kind in absurd cc
 
 -- the arguments can't be read, and no argument of the operation is unsupported
-pub unread : (k : OpKind) (old new : List ℕ) (read : ReadOf (Value (row k).takes.form)) (fault : XdrFault) (r : Result Op XdrFault) → (row k).unsupported ≡ []
-    → (read ≡ Err fault) × (new ≡ old) → IsErrAnd r (λ e. e ≡ fault) → Gives op_view old new r (supported k old read)
-unread k old new read fault r all e h =
-    gives_err op_view old new (supported k old read) fault r
-    (ap (supported k old) e.0 ∙ ap (λ (ts : List Xdr). let x : ReadOf Operation = cond (any_stands ts old) (Ok (Unsupported (row k).number, old)) (Err fault) in x) all) e.1 h
+pub unread_is : (k : OpKind) (s : Spelled) (old : List ℕ) (fault : XdrFault) → (row k).takes ≡ s → (row k).unsupported ≡ [] → Faults old fault s → arguments_of k old ≡ Err fault
+unfolding arguments_of
+unread_is k s old fault takes all e =
+    ap (supported k old) (subst (Faults old fault) (sym takes) e) ∙ ap (λ (ts : List Xdr). let x : ReadOf Operation = cond (any_stands ts old) (Ok (Unsupported (row k).number, old)) (Err fault) in x) all
 
 -- the result of an operation, and the same where it can't be read
 abbrev gives : (k : OpKind) → ReadOf (Value (row k).gives.form) → ReadOf Outcome
 gives k read = read >>= λ x. Ok (Done k x.0, x.1)
 
-pub given : (k : OpKind) (read : ReadOf (Value (row k).gives.form)) (v : Value (row k).gives.form) (rest : List ℕ) → read ≡ Ok (v, rest) → gives k read ≡ Ok (Done k v, rest)
-given k read v rest e = ap (gives k) e
+pub given_is : (k : OpKind) (o : Outcome) (i : Item) (old new : List ℕ) → IsDone k i o → ReadsItem i old new → spelled_of k old ≡ Ok (o, new)
+unfolding spelled_of
+given_is k (Done j v) i old new is e =
+    let same : j ≡ k = let found = is.kind in cc in
+    let here = subst (λ (x : Item). ReadsItem x old new) (sym is.holds) e in
+    ap (λ (m : OpKind). spelled_of m old) (sym same) ∙ ap (gives j) here
+given_is k _ i old new is e = let found = is.kind in absurd cc
 
-pub ungiven : (k : OpKind) (old new : List ℕ) (read : ReadOf (Value (row k).gives.form)) (fault : XdrFault) (r : Result OpResult XdrFault)
-    → (read ≡ Err fault) × (new ≡ old) → IsErrAnd r (λ e. e ≡ fault) → Gives read_view old new r (gives k read)
-ungiven k old new read fault r e h = gives_err read_view old new (gives k read) fault r (ap (gives k) e.0) e.1 h
+pub ungiven_is : (k : OpKind) (s : Spelled) (old : List ℕ) (fault : XdrFault) → (row k).gives ≡ s → Faults old fault s → spelled_of k old ≡ Err fault
+unfolding spelled_of
+ungiven_is k s old fault is e = ap (gives k) (subst (Faults old fault) (sym is) e)

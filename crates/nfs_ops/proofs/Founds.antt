@@ -12,7 +12,7 @@ use Rattle.xdr_wire.proofs.Steps.{ok_is}
 use Rattle.nfs_ops.specs.Items.{Spelled, numbered, Stands}
 use Rattle.nfs_ops.specs.Rows.{row, kind_at}
 use Rattle.nfs_ops.specs.Operations.{Operation, Known, Unsupported, Illegal, op_item, is_built, any_stands, supported, arguments_of, arguments_from, no_operation, arguments_at, or_bad, next_at, next_from}
-use Rattle.nfs_ops.specs.declared.op_kind.OpKind.{OpKind}
+use Rattle.nfs_ops.specs.declared.OpKind.{OpKind}
 use Rattle.nfs_ops.proofs.Numbers.{number_is}
 use Rattle.nfs_ops.proofs.Nexts.{next_is}
 

@@ -9,7 +9,7 @@ use Rattle.xdr_wire.proofs.Steps.{bind_ok, ok_is}
 use Rattle.nfs_ops.specs.Items.{Item, Spelled, numbered, Stands, ItemHasSpelling, ItemIsNormal, item_spelling}
 use Rattle.nfs_ops.specs.Rows.{row}
 use Rattle.nfs_ops.specs.Operations.{Operation, Known, Unsupported, Illegal, Bad, op_item, is_built, supported, arguments_of, arguments_from, arguments_at, or_bad, next_at, next_from}
-use Rattle.nfs_ops.specs.declared.op_kind.OpKind.{OpKind}
+use Rattle.nfs_ops.specs.declared.OpKind.{OpKind}
 use Rattle.nfs_ops.proofs.Numbers.{kind_is}
 
 -- the bytes that two fields are read from

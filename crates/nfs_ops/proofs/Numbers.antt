@@ -3,8 +3,8 @@ use Rattle.std.proofs.Common.{◌≡◌, ℕ, cond, List, [], ◌∷◌, Option,
 use Rattle.std.proofs.lemmas.Bool.{ne_eqb, cases_eq}
 use Rattle.std.specs.Prelude.{◌==◌}
 use Rattle.nfs_ops.specs.Rows.{row, with_number, all_kinds, kind_at}
-use Rattle.nfs_ops.specs.declared.op_kind.OpKind.{OpKind}
-use Rattle.nfs_ops.specs.declared.op_kind.OpKind.TheVariants.{Access}
+use Rattle.nfs_ops.specs.declared.OpKind.{OpKind}
+use Rattle.nfs_ops.specs.declared.OpKind.TheVariants.{Access}
 
 pub kind_is : (k : OpKind) → kind_at (row k).number ≡ Some k
 unfolding kind_at

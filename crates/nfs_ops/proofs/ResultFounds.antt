@@ -18,7 +18,7 @@ use Rattle.nfs_ops.specs.Rows.{row, kind_at}
 use Rattle.nfs_ops.specs.Results.{Outcome, Done, Refused, SetAttrRefused, outcome_item}
 use Rattle.nfs_ops.specs.ResultReading.{refusal_at, none_set, setattr_refused, refused_from, refused_at, behind_status, result_at, outcome_conforms, conforming, spelled_of, done_at, done_of, done_from}
 use Rattle.nfs_ops.specs.Readable.{IsResult}
-use Rattle.nfs_ops.specs.declared.op_kind.OpKind.{OpKind}
+use Rattle.nfs_ops.specs.declared.OpKind.{OpKind}
 use Rattle.nfs_ops.proofs.Numbers.{number_is, either}
 use Rattle.nfs_ops.proofs.Founds.{pair_from, same_front}
 use Rattle.nfs_ops.proofs.ResultNexts.{result_is}

@@ -13,7 +13,7 @@ use Rattle.nfs_ops.specs.Rows.{row}
 use Rattle.nfs_ops.specs.Results.{Outcome, Done, Refused, SetAttrRefused, outcome_item}
 use Rattle.nfs_ops.specs.ResultReading.{refused_at, behind_status, result_at, conforms, conforming, spelled_of, done_at, done_of, done_from}
 use Rattle.nfs_ops.specs.Readable.{IsResult}
-use Rattle.nfs_ops.specs.declared.op_kind.OpKind.{OpKind}
+use Rattle.nfs_ops.specs.declared.OpKind.{OpKind}
 use Rattle.nfs_ops.proofs.Numbers.{kind_is}
 use Rattle.nfs_ops.proofs.Nexts.{pair_parts}
 

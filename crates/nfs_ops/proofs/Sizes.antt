@@ -1,28 +1,33 @@
 -- The size of a result: its greatest size bounds each of its spellings.
-use Rattle.std.proofs.Common.{◌≡◌, refl, ap, ◌∙◌, ℕ, ◌+◌, ◌*◌, ◌≤◌, List, [], ◌∷◌, length, Option, Some, None, Result, Ok, Err, replicate, inl, inr, IsTrue, is_ok, arith, true, false, cond, ◌==◌}
+use Rattle.std.proofs.Common.{◌≡◌, refl, ap, ◌∙◌, ℕ, ◌+◌, ◌*◌, ◌≤◌, List, [], ◌∷◌, length, Result, Ok, Err, replicate, inl, inr, IsTrue, is_ok, OnOk, arith, true, false, cond, ◌==◌}
 use Rattle.std.specs.Int.{w32, to_be_bytes}
 use Rattle.std.specs.List.{flat_map, sum_by}
 use Rattle.std.proofs.lemmas.List.{length-append, length-replicate}
+use Rattle.std.proofs.lemmas.Bool.{and_parts}
 use Rattle.std.proofs.lemmas.List.Sums.{sum_by-cons}
-use Rattle.xdr_wire.specs.Xdr.{Xdr, Value, uint, hyper, boolean, fixed, opaque, pair, chain, fields, padded, padding, spelling, link}
-use Rattle.xdr_wire.specs.Wire.{at_most_one}
+use Rattle.xdr_wire.specs.Xdr.{Xdr, Value, void, uint, hyper, boolean, fixed, opaque, pair, array, chain, union, arm, no_more, fields, padded, padding, spelling, link, HasSpelling}
 use Rattle.xdr_wire.specs.Buffer.{Buffer, Puts}
 use Rattle.xdr_wire.proofs.Words.{length_words}
 use Rattle.nfs_types.specs.Forms.{trimmed, front_word, stateid, bitmap, attributes}
-use Rattle.nfs_types.specs.Views.{handle_value}
-use Rattle.nfs_types.specs.declared.handle.Handle.{Handle}
-use Rattle.nfs_types.specs.declared.handle.Handle.TheVariants.{Sent, Object}
-use Rattle.nfs_ops.specs.Forms.{with_padding, change_size, setattr_refused_size, always, zeros, bytes, change_info, channel, entry, size_of_entry, close_result, create_result, getattr_result, getfh_result, open_result, read_result, readdir_result, readlink_result, rename_result, setattr_result, write_result, exchange_id_result, create_session_result, sequence_result}
-use Rattle.nfs_ops.specs.Items.{done, ItemHasSpelling, item_spelling}
-use Rattle.nfs_ops.specs.Results.{Outcome, Done, Refused, SetAttrRefused, outcome_item, most, carries_bytes, is_change, is_refusal}
+use Rattle.nfs_ops.specs.Forms.{with_padding, always, zeros, bytes, change_info, entry, size_of_entry, create_result, getattr_result, open_result, read_result, readdir_result, readlink_result, setattr_result}
+use Rattle.nfs_ops.specs.Items.{Item, done, ItemHasSpelling, ItemIsNormal, item_spelling}
+use Rattle.nfs_ops.specs.Writing.{IsWrittenWithin}
+use Rattle.nfs_ops.specs.Results.{Outcome, Done, Refused, SetAttrRefused, outcome_item}
+use Rattle.nfs_ops.specs.Sizes.{greatest, has_bound, change_size, setattr_refused_size, most, carries_bytes, is_change, is_refusal}
 use Rattle.nfs_ops.specs.Rows.{row}
-use Rattle.nfs_ops.specs.declared.op_kind.OpKind.{OpKind}
-use Rattle.nfs_ops.specs.declared.op_kind.OpKind.TheVariants.{Access, Close, Commit, Create, GetAttr, GetFh, Link, Open, Read, ReadDir, ReadLink, Remove, Rename, SetAttr, Write, ExchangeId, CreateSession, Sequence}
+use Rattle.nfs_ops.specs.declared.OpKind.{OpKind}
+use Rattle.nfs_ops.specs.declared.OpKind.TheVariants.{Create, GetAttr, Open, Read, ReadDir, ReadLink, SetAttr}
 
 -- n bytes or fewer are written where there is room for n
 pub fits : {E : Type 0} (old new : Buffer) (item : List ℕ) (r : Result (Unit {0}) E) (n : ℕ) → Puts old new item r → length item ≤ n → n ≤ old.room → IsTrue (is_ok r)
 fits old new item (Ok x) n puts short room = refl
 fits old new item (Err e) n puts short room = absurd (omega (arith, puts.0, short, room))
+
+-- an item of n bytes or fewer is written where there is room for n
+pub written_within : {E : Type 0} (i : Item) (n : ℕ) (old new : Buffer) (r : Result (Unit {0}) E) → OnOk r (ItemHasSpelling i) → OnOk r (ItemIsNormal i) → Puts old new (item_spelling i) r
+    → length (item_spelling i) ≤ n → IsWrittenWithin i n old new r
+unfolding IsWrittenWithin
+written_within i n old new r has normal puts short = record { has_spelling = has; in_normal_form = normal; fits = λ room. fits old new (item_spelling i) r n puts short room; puts = puts }
 
 -- the bytes that a result takes
 abbrev size : (k : OpKind) → Value (row k).gives.form → ℕ
@@ -36,10 +41,6 @@ two s t v = length-append (spelling s v.0) (spelling t v.1)
 
 padded_is : (v : List ℕ) → length (padded v) ≡ with_padding (length v)
 padded_is v = length-append v (replicate (padding (length v)) 0) ∙ ap (λ (n : ℕ). length v + n) (length-replicate (padding (length v)) 0)
-
--- padding goes no further than the next multiple of four
-rounded : (n words : ℕ) → n ≤ 4 * words → with_padding n ≤ 4 * words
-rounded n words short = omega (arith, short)
 
 -- more bytes take as much room or more
 pub rises : (few many : ℕ) → few ≤ many → with_padding few ≤ with_padding many
@@ -67,9 +68,6 @@ bitmap_is v = omega (arith, length_words v)
 attributes_is : (v : Value attributes) → length (spelling attributes v) ≡ 8 + 4 * length v.0 + with_padding (length v.1)
 attributes_is v = omega (arith, two bitmap bytes v, bitmap_is v.0, opaque_is 0xffff_ffff v.1)
 
-channel_short : (v : Value channel) → length v.1.1.1.1.1.1 ≤ 1 → length (spelling channel v) ≤ 32
-channel_short v few = omega (arith, length_words v.1.1.1.1.1.1, few)
-
 pub entry_is : (e : Value entry) → length (link (spelling entry) e) ≡ size_of_entry e
 entry_is e = omega (arith, two bytes attributes e.1, opaque_is 0xffff_ffff e.1.0, attributes_is e.1.1)
 
@@ -91,32 +89,36 @@ trimmed_short (w ∷ ws) = omega (arith, front_short w (trimmed ws), trimmed_sho
 pub words_few : (ws : List ℕ) → length ws ≡ 8 → length (trimmed ws) ≤ 8
 words_few ws whole = omega (arith, trimmed_short ws, whole)
 
--- the bytes of a filehandle
-pub handle_short : (h : Handle) → length (handle_value h) ≤ 128
-handle_short (Sent item) = item.within
-handle_short (Object n) = omega arith
+-- ---- a form that has a bound
 
--- the words of an array of at most one
-pub at_most : (o : Option ℕ) → length (at_most_one (λ n. n) o) ≤ 1
-at_most None = omega arith
-at_most (Some n) = omega arith
+one_short : (n : ℕ) (v : Value (always n)) → length (spelling (always n) v) ≤ 4
+one_short n v = omega (arith, always_is n v)
+
+-- a value of it takes no more bytes
+within : (t : Xdr) (v : Value t) → has_bound t ≡ true → HasSpelling t v → length (spelling t v) ≤ greatest t
+within void v e h = omega arith
+within uint v e h = omega arith
+within hyper v e h = omega arith
+within boolean v e h = omega arith
+within (fixed n) v e h = omega (arith, padded_is v, ap with_padding h)
+within (opaque max) v e h = omega (arith, opaque_is max v, rises (length v) max h.0)
+within (pair s t) v e h =
+    let both = and_parts _ _ e in
+    omega (arith, two s t v, within s v.0 both.0 h.0, within t v.1 both.1 h.1)
+within (array max uint) v e h = omega (arith, length_words v, h.0)
+within (union (arm n void no_more)) v e h = one_short n v
+within _ v e h = absurd cc
 
 -- ---- results
-
-pub close_short : (v : Value close_result) → length v.1 ≡ 12 → size Close v ≤ 24
-close_short v whole = omega (arith, stateid_is v whole)
 
 pub create_short : (v : Value create_result) → length v.1 ≤ 8 → size Create v ≤ 64
 create_short v few = omega (arith, two change_info bitmap v, change_info_is v.0, bitmap_is v.1, few)
 
-pub getattr_is : (v : Value getattr_result) → size GetAttr v ≡ (row GetAttr).most v
+pub getattr_is : (v : Value getattr_result) → size GetAttr v ≡ most (Done GetAttr v)
 getattr_is v = omega (arith, attributes_is v)
 
-pub getattr_short : (v : Value getattr_result) → size GetAttr v ≤ (row GetAttr).most v
+pub getattr_short : (v : Value getattr_result) → size GetAttr v ≤ most (Done GetAttr v)
 getattr_short v = omega (arith, getattr_is v)
-
-pub getfh_short : (v : Value getfh_result) → length v ≤ 128 → size GetFh v ≤ 140
-getfh_short v short = omega (arith, opaque_is 128 v, rounded (length v) 32 short)
 
 -- the fields after the change of an OPEN
 abbrev behind_change : Xdr
@@ -125,72 +127,35 @@ behind_change = fields (always 0 ∷ bitmap ∷ always 0 ∷ [])
 pub open_short : (v : Value open_result) → length v.0.1 ≡ 12 → length v.1.1.1.0 ≤ 8 → size Open v ≤ 88
 open_short v whole few = omega (arith, two stateid (pair change_info behind_change) v, two change_info behind_change v.1, two (always 0) (pair bitmap (always 0)) v.1.1, two bitmap (always 0) v.1.1.1, stateid_is v.0 whole, change_info_is v.1.0, always_is 0 v.1.1.0, bitmap_is v.1.1.1.0, always_is 0 v.1.1.1.1, few)
 
-pub read_is : (v : Value read_result) → size Read v ≡ (row Read).most v
+pub read_is : (v : Value read_result) → size Read v ≡ most (Done Read v)
 read_is v = omega (arith, opaque_is 0xffff_ffff v.1)
 
-pub read_short : (v : Value read_result) → size Read v ≤ (row Read).most v
+pub read_short : (v : Value read_result) → size Read v ≤ most (Done Read v)
 read_short v = omega (arith, read_is v)
 
-pub readdir_is : (v : Value readdir_result) → size ReadDir v ≡ (row ReadDir).most v
+pub readdir_is : (v : Value readdir_result) → size ReadDir v ≡ most (Done ReadDir v)
 readdir_is v = omega (arith, two zeros (pair (chain entry) boolean) v, zeros_is v.0, two (chain entry) boolean v.1, length-append (flat_map (link (spelling entry)) v.1.0) (to_be_bytes w32 0), entries_are v.1.0)
 
-pub readdir_short : (v : Value readdir_result) → size ReadDir v ≤ (row ReadDir).most v
+pub readdir_short : (v : Value readdir_result) → size ReadDir v ≤ most (Done ReadDir v)
 readdir_short v = omega (arith, readdir_is v)
 
-pub readlink_is : (v : Value readlink_result) → size ReadLink v ≡ (row ReadLink).most v
+pub readlink_is : (v : Value readlink_result) → size ReadLink v ≡ most (Done ReadLink v)
 readlink_is v = omega (arith, opaque_is 0xffff_ffff v)
 
-pub readlink_short : (v : Value readlink_result) → size ReadLink v ≤ (row ReadLink).most v
+pub readlink_short : (v : Value readlink_result) → size ReadLink v ≤ most (Done ReadLink v)
 readlink_short v = omega (arith, readlink_is v)
-
-pub rename_short : (v : Value rename_result) → size Rename v ≤ 48
-rename_short v = omega (arith, two change_info change_info v, change_info_is v.0, change_info_is v.1)
 
 pub setattr_short : (v : Value setattr_result) → length v ≤ 8 → size SetAttr v ≤ 44
 setattr_short v few = omega (arith, bitmap_is v, few)
 
-pub write_short : (v : Value write_result) → size Write v ≤ 24
-write_short v = omega (arith, two (always 2) zeros v.1, always_is 2 v.1.0, zeros_is v.1.1)
-
--- the fields at the end of an EXCHANGE_ID
-abbrev server_and_scope : Xdr
-server_and_scope = fields (opaque 11 ∷ opaque 11 ∷ always 0 ∷ [])
-
-pub exchange_id_short : (v : Value exchange_id_result) → length v.1.1.1.1.1.0 ≤ 11 → length v.1.1.1.1.1.1.0 ≤ 11 → size ExchangeId v ≤ 72
-exchange_id_short v server scope =
-    let names = v.1.1.1.1.1 in
-    let server_fits : with_padding (length names.0) ≤ 4 * 3 = rounded (length names.0) 3 (omega (arith, server)) in
-    let scope_fits : with_padding (length names.1.0) ≤ 4 * 3 = rounded (length names.1.0) 3 (omega (arith, scope)) in
-    omega (arith, two (always 0) (pair zeros server_and_scope) v.1.1.1, two zeros server_and_scope v.1.1.1.1, two (opaque 11) (pair (opaque 11) (always 0)) names, two (opaque 11) (always 0) names.1, always_is 0 v.1.1.1.0, zeros_is v.1.1.1.1.0, opaque_is 11 names.0, opaque_is 11 names.1.0, always_is 0 names.1.1, server_fits, scope_fits)
-
-pub create_session_short : (v : Value create_session_result) → length v.0 ≡ 16 → length v.1.1.1.0.1.1.1.1.1.1 ≤ 1 → length v.1.1.1.1.1.1.1.1.1.1 ≤ 1 → size CreateSession v ≤ 96
-create_session_short v whole fore back =
-    omega (arith, two (fixed 16) (fields (uint ∷ uint ∷ channel ∷ channel ∷ [])) v, padded_is v.0, whole, two channel channel v.1.1.1, channel_short v.1.1.1.0 fore, channel_short v.1.1.1.1 back)
-
-pub sequence_short : (v : Value sequence_result) → length v.0 ≡ 16 → size Sequence v ≤ 44
-sequence_short v whole = omega (arith, two (fixed 16) (fields (uint ∷ uint ∷ uint ∷ uint ∷ always 0 ∷ [])) v, padded_is v.0, whole, always_is 0 v.1.1.1.1.1)
-
 -- ---- all results
 
 pub bounded : (o : Outcome) → ItemHasSpelling (outcome_item o) → length (item_spelling (outcome_item o)) ≤ most o
-bounded (Done Access v) h = omega arith
-bounded (Done Close v) h = close_short v h.1.1.1
-bounded (Done Commit v) h = omega (arith, zeros_is v)
-bounded (Done Create v) h = create_short v h.1.1.1.0
 bounded (Done GetAttr v) h = getattr_short v
-bounded (Done GetFh v) h = getfh_short v h.1.1.0
-bounded (Done Link v) h = omega (arith, change_info_is v)
-bounded (Done Open v) h = open_short v h.1.1.0.1 h.1.1.1.1.1.0.0
 bounded (Done Read v) h = read_short v
 bounded (Done ReadDir v) h = readdir_short v
 bounded (Done ReadLink v) h = readlink_short v
-bounded (Done Remove v) h = omega (arith, change_info_is v)
-bounded (Done Rename v) h = rename_short v
-bounded (Done SetAttr v) h = setattr_short v h.1.1.0
-bounded (Done Write v) h = write_short v
-bounded (Done ExchangeId v) h = exchange_id_short v h.1.1.1.1.1.1.1.0.0 h.1.1.1.1.1.1.1.1.0.0
-bounded (Done CreateSession v) h = create_session_short v h.1.1.0 h.1.1.1.1.1.0.1.1.1.1.1.1.0 h.1.1.1.1.1.1.1.1.1.1.1.1.0
-bounded (Done Sequence v) h = sequence_short v h.1.1.0
+bounded (Done k v) h = omega (arith, within (row k).gives.form v refl h.1.1)
 bounded _ h = omega arith
 
 pub carried_is : (o : Outcome) → carries_bytes o ≡ true → length (item_spelling (outcome_item o)) ≡ most o

@@ -36,15 +36,6 @@ values_of v = v.1
 abbrev pub with_padding : ℕ → ℕ
 with_padding n = n + padding n
 
--- The most bytes of a result that is only its number and its status.
-abbrev pub plain_size : ℕ
-plain_size = 8
-
--- The most bytes of a result of any operation that can change the tree. With as much room it runs,
--- and its result can be sent.
-abbrev pub change_size : ℕ
-change_size = 256
-
 -- ACCESS (18.1): the rights requested; those supported, and those granted
 abbrev pub access_args : Xdr
 access_args = uint
@@ -52,18 +43,12 @@ access_args = uint
 abbrev pub access_result : Xdr
 access_result = fields (uint ∷ uint ∷ [])
 
-abbrev pub access_size : ℕ
-access_size = 16
-
 -- CLOSE (18.2): a number that is ignored, the open's stateid; the invalid stateid
 abbrev pub close_args : Xdr
 close_args = fields (uint ∷ stateid ∷ [])
 
 abbrev pub close_result : Xdr
 close_result = stateid
-
-abbrev pub close_size : ℕ
-close_size = 24
 
 abbrev pub closed_stateid : Value close_args → Value stateid
 closed_stateid v = v.1
@@ -74,9 +59,6 @@ commit_args = fields (hyper ∷ uint ∷ [])
 
 abbrev pub commit_result : Xdr
 commit_result = zeros
-
-abbrev pub commit_size : ℕ
-commit_size = 16
 
 abbrev pub committed_offset : Value commit_args → ℕ
 committed_offset v = v.0
@@ -106,9 +88,6 @@ create_normal v = (v.0, (v.1.0, trimmed_set v.1.1))
 
 abbrev pub create_result : Xdr
 create_result = fields (change_info ∷ bitmap ∷ [])
-
-abbrev pub create_size : ℕ
-create_size = 64
 
 abbrev pub create_result_normal : Value create_result → Value create_result
 create_result_normal v = (v.0, trimmed v.1)
@@ -161,18 +140,12 @@ getattr_size words values = 16 + 4 * words + with_padding values
 abbrev pub getfh_result : Xdr
 getfh_result = handle
 
-abbrev pub getfh_size : ℕ
-getfh_size = 140
-
 -- LINK (18.9): the new name; the directory's change
 abbrev pub link_args : Xdr
 link_args = bytes
 
 abbrev pub link_result : Xdr
 link_result = change_info
-
-abbrev pub link_size : ℕ
-link_size = 28
 
 -- LOOKUP (18.13): the name
 abbrev pub lookup_args : Xdr
@@ -210,9 +183,6 @@ open_normal v = (v.0, (v.1.0, (v.1.1.0, (v.1.1.1.0, (v.1.1.1.1.0, (open_how_norm
 
 abbrev pub open_result : Xdr
 open_result = fields (stateid ∷ change_info ∷ always 0 ∷ bitmap ∷ always 0 ∷ [])
-
-abbrev pub open_size : ℕ
-open_size = 88
 
 abbrev pub open_result_normal : Value open_result → Value open_result
 open_result_normal v = (v.0, (v.1.0, (v.1.1.0, (trimmed v.1.1.1.0, v.1.1.1.1))))
@@ -369,18 +339,12 @@ remove_args = bytes
 abbrev pub remove_result : Xdr
 remove_result = change_info
 
-abbrev pub remove_size : ℕ
-remove_size = 28
-
 -- RENAME (18.26): the old name, the new name; the changes of the source's directory and of the target's
 abbrev pub rename_args : Xdr
 rename_args = fields (bytes ∷ bytes ∷ [])
 
 abbrev pub rename_result : Xdr
 rename_result = fields (change_info ∷ change_info ∷ [])
-
-abbrev pub rename_size : ℕ
-rename_size = 48
 
 abbrev pub old_name : Value rename_args → List ℕ
 old_name v = v.0
@@ -402,12 +366,6 @@ setattr_normal v = (v.0, trimmed_set v.1)
 abbrev pub setattr_result : Xdr
 setattr_result = bitmap
 
-abbrev pub setattr_size : ℕ
-setattr_size = 44
-
-abbrev pub setattr_refused_size : ℕ
-setattr_refused_size = 12
-
 abbrev pub set_stateid : Value setattr_args → Value stateid
 set_stateid v = v.0
 
@@ -428,9 +386,6 @@ write_args = fields (stateid ∷ hyper ∷ stable_how ∷ bytes ∷ [])
 
 abbrev pub write_result : Xdr
 write_result = fields (uint ∷ always 2 ∷ zeros ∷ [])
-
-abbrev pub write_size : ℕ
-write_size = 24
 
 -- stable_how4
 pub data Reach : Type 0 where
@@ -467,9 +422,6 @@ exchange_id_args = fields (fixed 8 ∷ opaque 1024 ∷ uint ∷ always 0 ∷ arr
 
 abbrev pub exchange_id_result : Xdr
 exchange_id_result = fields (hyper ∷ uint ∷ uint ∷ always 0 ∷ zeros ∷ opaque 11 ∷ opaque 11 ∷ always 0 ∷ [])
-
-abbrev pub exchange_id_size : ℕ
-exchange_id_size = 72
 
 -- The arguments of an EXCHANGE_ID that aren't supported, up to the unsupported word: the protection
 -- of state by SP4_MACH_CRED (1) or SP4_SSV (2).
@@ -523,9 +475,6 @@ create_session_args = fields (hyper ∷ uint ∷ uint ∷ channel ∷ channel �
 abbrev pub create_session_result : Xdr
 create_session_result = fields (fixed 16 ∷ uint ∷ uint ∷ channel ∷ channel ∷ [])
 
-abbrev pub create_session_size : ℕ
-create_session_size = 96
-
 abbrev pub session_client : Value create_session_args → ℕ
 session_client v = v.0
 
@@ -568,9 +517,6 @@ sequence_args = fields (fixed 16 ∷ uint ∷ uint ∷ uint ∷ boolean ∷ [])
 
 abbrev pub sequence_result : Xdr
 sequence_result = fields (fixed 16 ∷ uint ∷ uint ∷ uint ∷ uint ∷ always 0 ∷ [])
-
-abbrev pub sequence_size : ℕ
-sequence_size = 44
 
 abbrev pub sequence_session : Value sequence_args → List ℕ
 sequence_session v = v.0

@@ -7,7 +7,7 @@ use Rattle.nfs_ops.specs.Items.{Item, item_spelling}
 use Rattle.nfs_ops.specs.Views.{zeros_value}
 use Rattle.nfs_ops.specs.Listing.{Listing}
 use Rattle.nfs_ops.specs.Results.{Outcome, Done}
-use Rattle.nfs_ops.specs.declared.op_kind.OpKind.TheVariants.{GetAttr, Read, ReadDir}
+use Rattle.nfs_ops.specs.declared.OpKind.TheVariants.{GetAttr, Read, ReadDir}
 
 -- these bytes of a file, and whether it ends after them
 abbrev pub read_outcome : Bool → List ℕ → Outcome

@@ -6,10 +6,13 @@ pub mod Views
 pub mod Rows
 pub mod Parts
 pub mod Operations
+pub mod Writing
+pub mod ReadsAs
 pub mod Names
 pub mod OpViews
 pub mod ResultReading
 pub mod Results
+pub mod Sizes
 pub mod ResultViews
 pub mod Readable
 pub mod Listing

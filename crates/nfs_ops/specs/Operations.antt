@@ -9,7 +9,7 @@ use Rattle.xdr_wire.specs.Reading.{Read as ReadOf, read_at}
 use Rattle.xdr_wire.specs.Wire.{in_normal_form}
 use Rattle.nfs_ops.specs.Items.{Item, numbered, number}
 use Rattle.nfs_ops.specs.Rows.{row, kind_at}
-use Rattle.nfs_ops.specs.declared.op_kind.OpKind.{OpKind}
+use Rattle.nfs_ops.specs.declared.OpKind.{OpKind}
 use Rattle.nfs_ops.specs.declared.op_kind.Placement.{Placement}
 
 pub data Operation : Type 0 where

@@ -1,7 +1,7 @@
 -- The results that are read again.
 use Rattle.std.specs.Prelude.{◌≡◌, ◌≢◌, true, Some}
 use Rattle.nfs_ops.specs.Rows.{row}
-use Rattle.nfs_ops.specs.declared.op_kind.OpKind.TheVariants.{SetAttr}
+use Rattle.nfs_ops.specs.declared.OpKind.TheVariants.{SetAttr}
 use Rattle.nfs_ops.specs.Results.{Outcome, Done, Refused, SetAttrRefused}
 use Rattle.nfs_ops.specs.ResultReading.{conforms, refusal_at}
 

@@ -12,8 +12,8 @@ use Rattle.nfs_types.specs.Status.{number_of, status_at}
 use Rattle.nfs_ops.specs.Forms.{SERVER_NAME, told_server, told_scope, granted_slot, target_slot}
 use Rattle.nfs_ops.specs.Rows.{row, kind_at}
 use Rattle.nfs_ops.specs.Results.{Outcome, Done, Refused, SetAttrRefused}
-use Rattle.nfs_ops.specs.declared.op_kind.OpKind.{OpKind}
-use Rattle.nfs_ops.specs.declared.op_kind.OpKind.TheVariants.{Close, SetAttr, ExchangeId, Sequence}
+use Rattle.nfs_ops.specs.declared.OpKind.{OpKind}
+use Rattle.nfs_ops.specs.declared.OpKind.TheVariants.{Close, SetAttr, ExchangeId, Sequence}
 
 -- this number, where it is that of a status that isn't OK
 unfoldable pub refusal_at : ℕ → Option ℕ

@@ -1,16 +1,15 @@
 -- The result of an operation as it stands in a COMPOUND's (RFC 8881, sections 16.2 and 18). It has
 -- its number, its status and, where that is OK, the value of its form.
-use Rattle.std.specs.Prelude.{ℕ, ◌==◌, Bool, true, false, if◌then◌else◌, [], ◌∷◌, Some}
+use Rattle.std.specs.Prelude.{ℕ, ◌==◌, if◌then◌else◌, [], ◌∷◌, Some}
 use Rattle.xdr_wire.specs.Xdr.{Value, uint, fields}
 use Rattle.nfs_types.specs.Forms.{bitmap, trimmed}
 use Rattle.nfs_types.specs.Status as statuses
 use Rattle.nfs_types.specs.declared.status.Status.{Status}
 use Rattle.nfs_types.specs.declared.status.Status.TheVariants.{ServerFault}
-use Rattle.nfs_ops.specs.Forms.{plain_size, setattr_refused_size}
 use Rattle.nfs_ops.specs.Items.{Item, done, plain}
 use Rattle.nfs_ops.specs.Rows.{row}
-use Rattle.nfs_ops.specs.declared.op_kind.OpKind.{OpKind}
-use Rattle.nfs_ops.specs.declared.op_kind.OpKind.TheVariants.{SetAttr}
+use Rattle.nfs_ops.specs.declared.OpKind.{OpKind}
+use Rattle.nfs_ops.specs.declared.OpKind.TheVariants.{SetAttr}
 
 pub data Outcome : Type 0 where
   -- the operation is OK, with this result
@@ -40,27 +39,6 @@ abbrev pub outcome_status : Outcome → ℕ
 outcome_status (Done k v) = 0
 outcome_status (Refused n status) = status
 outcome_status (SetAttrRefused status) = status
-
--- The most bytes of a result. The bytes that an object or a request makes long count as many as they are.
-abbrev pub most : Outcome → ℕ
-most (Done k v) = (row k).most v
-most (Refused n status) = plain_size
-most (SetAttrRefused status) = setattr_refused_size
-
--- the results whose size an object or a request decides
-abbrev pub carries_bytes : Outcome → Bool
-carries_bytes (Done k v) = (row k).carries
-carries_bytes _ = false
-
--- the operation can change the tree, and is OK
-abbrev pub is_change : Outcome → Bool
-is_change (Done k v) = (row k).changes
-is_change _ = false
-
--- the operation has another status than OK
-abbrev pub is_refusal : Outcome → Bool
-is_refusal (Done k v) = false
-is_refusal _ = true
 
 -- A refusal isn't OK: SERVERFAULT, which is answered nowhere else, is in its place.
 abbrev pub refusal : Status → ℕ

@@ -1,31 +1,31 @@
 -- The table of the operations (RFC 8881, section 18): a row each, in the order of their numbers.
-use Rattle.std.specs.Prelude.{ℕ, Bool, true, false, ◌==◌, if◌then◌else◌, List, [], ◌∷◌, length, codes, Option, Some}
+use Rattle.std.specs.Prelude.{ℕ, Bool, true, false, ◌==◌, if◌then◌else◌, List, [], ◌∷◌, codes, Option, Some}
 use Rattle.std.specs.Prelude.{None}
-use Rattle.xdr_wire.specs.Xdr.{Xdr, Value}
+use Rattle.xdr_wire.specs.Xdr.{Xdr}
 use Rattle.nfs_types.specs.Forms.{trimmed, trimmed_set}
 use Rattle.nfs_ops.specs.Items.{Spelled, alone, normally, nothing}
-use Rattle.nfs_ops.specs.Forms.{access_args, access_result, access_size, close_args, close_result, close_size}
-use Rattle.nfs_ops.specs.Forms.{commit_args, commit_result, commit_size, create_args, create_normal, create_result}
-use Rattle.nfs_ops.specs.Forms.{create_result_normal, create_size, getattr_args, getattr_result, getattr_size}
-use Rattle.nfs_ops.specs.Forms.{getfh_result, getfh_size, link_args, link_result, link_size, lookup_args, plain_size}
+use Rattle.nfs_ops.specs.Forms.{access_args, access_result, close_args, close_result}
+use Rattle.nfs_ops.specs.Forms.{commit_args, commit_result, create_args, create_normal, create_result}
+use Rattle.nfs_ops.specs.Forms.{create_result_normal, getattr_args, getattr_result}
+use Rattle.nfs_ops.specs.Forms.{getfh_result, link_args, link_result, lookup_args}
 use Rattle.nfs_ops.specs.Forms.{nverify_args, open_args, open_normal, open_result, open_result_normal, open_exclusive}
-use Rattle.nfs_ops.specs.Forms.{open_by_other_claim, open_size, putfh_args, read_args, read_result, read_size}
-use Rattle.nfs_ops.specs.Forms.{readdir_args, readdir_normal, readdir_result, readdir_result_normal, readdir_size}
-use Rattle.nfs_ops.specs.Forms.{readlink_result, readlink_size, remove_args, remove_result, remove_size, rename_args}
-use Rattle.nfs_ops.specs.Forms.{rename_result, rename_size, setattr_args, setattr_normal, setattr_result}
-use Rattle.nfs_ops.specs.Forms.{setattr_size, verify_args, write_args, write_result, write_size, exchange_id_args}
-use Rattle.nfs_ops.specs.Forms.{exchange_id_result, exchange_id_protected, exchange_id_size, create_session_args}
-use Rattle.nfs_ops.specs.Forms.{create_session_result, create_session_size, destroy_session_args, sequence_args}
-use Rattle.nfs_ops.specs.Forms.{sequence_result, sequence_size, destroy_clientid_args, reclaim_complete_args}
-use Rattle.nfs_ops.specs.declared.op_kind.OpKind.{OpKind}
+use Rattle.nfs_ops.specs.Forms.{open_by_other_claim, putfh_args, read_args, read_result}
+use Rattle.nfs_ops.specs.Forms.{readdir_args, readdir_normal, readdir_result, readdir_result_normal}
+use Rattle.nfs_ops.specs.Forms.{readlink_result, remove_args, remove_result, rename_args}
+use Rattle.nfs_ops.specs.Forms.{rename_result, setattr_args, setattr_normal, setattr_result}
+use Rattle.nfs_ops.specs.Forms.{verify_args, write_args, write_result, exchange_id_args}
+use Rattle.nfs_ops.specs.Forms.{exchange_id_result, exchange_id_protected, create_session_args}
+use Rattle.nfs_ops.specs.Forms.{create_session_result, destroy_session_args, sequence_args}
+use Rattle.nfs_ops.specs.Forms.{sequence_result, destroy_clientid_args, reclaim_complete_args}
+use Rattle.nfs_ops.specs.declared.OpKind.{OpKind}
 use Rattle.nfs_ops.specs.declared.op_kind.Placement.{Placement}
 use Rattle.nfs_ops.specs.declared.op_kind.Placement.TheVariants.{Anywhere, InSession, First, Alone}
-use Rattle.nfs_ops.specs.declared.op_kind.OpKind.TheVariants.{Access, Close, Commit, Create, GetAttr, GetFh, Link}
-use Rattle.nfs_ops.specs.declared.op_kind.OpKind.TheVariants.{Lookup, LookupP, NVerify, Open, PutFh, PutRootFh, Read}
-use Rattle.nfs_ops.specs.declared.op_kind.OpKind.TheVariants.{ReadDir, ReadLink, Remove, Rename, RestoreFh, SaveFh}
-use Rattle.nfs_ops.specs.declared.op_kind.OpKind.TheVariants.{SetAttr, Verify, Write, ExchangeId, CreateSession}
-use Rattle.nfs_ops.specs.declared.op_kind.OpKind.TheVariants.{DestroySession, Sequence, DestroyClientId}
-use Rattle.nfs_ops.specs.declared.op_kind.OpKind.TheVariants.{ReclaimComplete}
+use Rattle.nfs_ops.specs.declared.OpKind.TheVariants.{Access, Close, Commit, Create, GetAttr, GetFh, Link}
+use Rattle.nfs_ops.specs.declared.OpKind.TheVariants.{Lookup, LookupP, NVerify, Open, PutFh, PutRootFh, Read}
+use Rattle.nfs_ops.specs.declared.OpKind.TheVariants.{ReadDir, ReadLink, Remove, Rename, RestoreFh, SaveFh}
+use Rattle.nfs_ops.specs.declared.OpKind.TheVariants.{SetAttr, Verify, Write, ExchangeId, CreateSession}
+use Rattle.nfs_ops.specs.declared.OpKind.TheVariants.{DestroySession, Sequence, DestroyClientId}
+use Rattle.nfs_ops.specs.declared.OpKind.TheVariants.{ReclaimComplete}
 
 pub record Row : Type 0 where
   pub number : ℕ
@@ -38,365 +38,76 @@ pub record Row : Type 0 where
   pub unsupported : List Xdr
   -- the result, after number and status where that is OK
   pub gives : Spelled
-  -- the most bytes of the result with its number and its status
-  pub most : Value gives.form → ℕ
-  -- whether the result has exactly the bytes that `most` says, since an object or a request decides
-  -- its size
-  pub carries : Bool
   -- whether the operation can change the tree
   pub changes : Bool
   -- whether the operation may be answered DELAY; a replayed CREATE_SESSION never is, which is up to the caller
   pub delays : Bool
 
+-- the number, the name, the arguments and the result of an operation that stands anywhere in a COMPOUND, changes
+-- nothing in the tree and is never delayed
+abbrev pub simple : ℕ → List ℕ → Spelled → Spelled → Row
+simple number name takes gives = record {
+  number = number;
+  name = name;
+  placement = Anywhere;
+  takes = takes;
+  unsupported = [];
+  gives = gives;
+  changes = false;
+  delays = false;
+}
+
+-- the same, but it stands at this place, lacks these arguments, can change the tree, or may be delayed
+abbrev pub placed : Placement → Row → Row
+placed place r = record r { placement = place }
+
+abbrev pub lacking : List Xdr → Row → Row
+lacking forms r = record r { unsupported = forms }
+
+abbrev pub changing : Row → Row
+changing r = record r { changes = true }
+
+abbrev pub delayed : Row → Row
+delayed r = record r { delays = true }
+
 abbrev pub row : OpKind → Row
-row Access = record {
-  number = 3;
-  name = codes "ACCESS";
-  placement = Anywhere;
-  takes = alone access_args;
-  unsupported = [];
-  gives = alone access_result;
-  most = λ v. access_size;
-  carries = false;
-  changes = false;
-  delays = false;
-}
-row Close = record {
-  number = 4;
-  name = codes "CLOSE";
-  placement = Anywhere;
-  takes = alone close_args;
-  unsupported = [];
-  gives = alone close_result;
-  most = λ v. close_size;
-  carries = false;
-  changes = false;
-  delays = false;
-}
-row Commit = record {
-  number = 5;
-  name = codes "COMMIT";
-  placement = Anywhere;
-  takes = alone commit_args;
-  unsupported = [];
-  gives = alone commit_result;
-  most = λ v. commit_size;
-  carries = false;
-  changes = false;
-  delays = false;
-}
-row Create = record {
-  number = 6;
-  name = codes "CREATE";
-  placement = Anywhere;
-  takes = normally create_args create_normal;
-  unsupported = [];
-  gives = normally create_result create_result_normal;
-  most = λ v. create_size;
-  carries = false;
-  changes = true;
-  delays = true;
-}
-row GetAttr = record {
-  number = 9;
-  name = codes "GETATTR";
-  placement = Anywhere;
-  takes = normally getattr_args trimmed;
-  unsupported = [];
-  gives = normally getattr_result trimmed_set;
-  most = λ v. getattr_size (length v.0) (length v.1);
-  carries = true;
-  changes = false;
-  delays = false;
-}
-row GetFh = record {
-  number = 10;
-  name = codes "GETFH";
-  placement = Anywhere;
-  takes = nothing;
-  unsupported = [];
-  gives = alone getfh_result;
-  most = λ v. getfh_size;
-  carries = false;
-  changes = false;
-  delays = false;
-}
-row Link = record {
-  number = 11;
-  name = codes "LINK";
-  placement = Anywhere;
-  takes = alone link_args;
-  unsupported = [];
-  gives = alone link_result;
-  most = λ v. link_size;
-  carries = false;
-  changes = true;
-  delays = true;
-}
-row Lookup = record {
-  number = 15;
-  name = codes "LOOKUP";
-  placement = Anywhere;
-  takes = alone lookup_args;
-  unsupported = [];
-  gives = nothing;
-  most = λ v. plain_size;
-  carries = false;
-  changes = false;
-  delays = false;
-}
-row LookupP = record {
-  number = 16;
-  name = codes "LOOKUPP";
-  placement = Anywhere;
-  takes = nothing;
-  unsupported = [];
-  gives = nothing;
-  most = λ v. plain_size;
-  carries = false;
-  changes = false;
-  delays = false;
-}
-row NVerify = record {
-  number = 17;
-  name = codes "NVERIFY";
-  placement = Anywhere;
-  takes = normally nverify_args trimmed_set;
-  unsupported = [];
-  gives = nothing;
-  most = λ v. plain_size;
-  carries = false;
-  changes = false;
-  delays = true;
-}
-row Open = record {
-  number = 18;
-  name = codes "OPEN";
-  placement = Anywhere;
-  takes = normally open_args open_normal;
-  unsupported = open_exclusive ∷ open_by_other_claim ∷ [];
-  gives = normally open_result open_result_normal;
-  most = λ v. open_size;
-  carries = false;
-  changes = true;
-  delays = true;
-}
-row PutFh = record {
-  number = 22;
-  name = codes "PUTFH";
-  placement = Anywhere;
-  takes = alone putfh_args;
-  unsupported = [];
-  gives = nothing;
-  most = λ v. plain_size;
-  carries = false;
-  changes = false;
-  delays = false;
-}
-row PutRootFh = record {
-  number = 24;
-  name = codes "PUTROOTFH";
-  placement = Anywhere;
-  takes = nothing;
-  unsupported = [];
-  gives = nothing;
-  most = λ v. plain_size;
-  carries = false;
-  changes = false;
-  delays = false;
-}
-row Read = record {
-  number = 25;
-  name = codes "READ";
-  placement = Anywhere;
-  takes = alone read_args;
-  unsupported = [];
-  gives = alone read_result;
-  most = λ v. read_size (length v.1);
-  carries = true;
-  changes = false;
-  delays = false;
-}
-row ReadDir = record {
-  number = 26;
-  name = codes "READDIR";
-  placement = Anywhere;
-  takes = normally readdir_args readdir_normal;
-  unsupported = [];
-  gives = normally readdir_result readdir_result_normal;
-  most = λ v. readdir_size v.1.0;
-  carries = true;
-  changes = false;
-  delays = false;
-}
-row ReadLink = record {
-  number = 27;
-  name = codes "READLINK";
-  placement = Anywhere;
-  takes = nothing;
-  unsupported = [];
-  gives = alone readlink_result;
-  most = λ v. readlink_size (length v);
-  carries = true;
-  changes = false;
-  delays = false;
-}
-row Remove = record {
-  number = 28;
-  name = codes "REMOVE";
-  placement = Anywhere;
-  takes = alone remove_args;
-  unsupported = [];
-  gives = alone remove_result;
-  most = λ v. remove_size;
-  carries = false;
-  changes = true;
-  delays = false;
-}
-row Rename = record {
-  number = 29;
-  name = codes "RENAME";
-  placement = Anywhere;
-  takes = alone rename_args;
-  unsupported = [];
-  gives = alone rename_result;
-  most = λ v. rename_size;
-  carries = false;
-  changes = true;
-  delays = true;
-}
-row RestoreFh = record {
-  number = 31;
-  name = codes "RESTOREFH";
-  placement = Anywhere;
-  takes = nothing;
-  unsupported = [];
-  gives = nothing;
-  most = λ v. plain_size;
-  carries = false;
-  changes = false;
-  delays = false;
-}
-row SaveFh = record {
-  number = 32;
-  name = codes "SAVEFH";
-  placement = Anywhere;
-  takes = nothing;
-  unsupported = [];
-  gives = nothing;
-  most = λ v. plain_size;
-  carries = false;
-  changes = false;
-  delays = false;
-}
-row SetAttr = record {
-  number = 34;
-  name = codes "SETATTR";
-  placement = Anywhere;
-  takes = normally setattr_args setattr_normal;
-  unsupported = [];
-  gives = normally setattr_result trimmed;
-  most = λ v. setattr_size;
-  carries = false;
-  changes = true;
-  delays = true;
-}
-row Verify = record {
-  number = 37;
-  name = codes "VERIFY";
-  placement = Anywhere;
-  takes = normally verify_args trimmed_set;
-  unsupported = [];
-  gives = nothing;
-  most = λ v. plain_size;
-  carries = false;
-  changes = false;
-  delays = true;
-}
-row Write = record {
-  number = 38;
-  name = codes "WRITE";
-  placement = Anywhere;
-  takes = alone write_args;
-  unsupported = [];
-  gives = alone write_result;
-  most = λ v. write_size;
-  carries = false;
-  changes = true;
-  delays = true;
-}
-row ExchangeId = record {
-  number = 42;
-  name = codes "EXCHANGE_ID";
-  placement = Alone;
-  takes = alone exchange_id_args;
-  unsupported = exchange_id_protected ∷ [];
-  gives = alone exchange_id_result;
-  most = λ v. exchange_id_size;
-  carries = false;
-  changes = false;
-  delays = true;
-}
-row CreateSession = record {
-  number = 43;
-  name = codes "CREATE_SESSION";
-  placement = Alone;
-  takes = alone create_session_args;
-  unsupported = [];
-  gives = alone create_session_result;
-  most = λ v. create_session_size;
-  carries = false;
-  changes = false;
-  delays = true;
-}
-row DestroySession = record {
-  number = 44;
-  name = codes "DESTROY_SESSION";
-  placement = Alone;
-  takes = alone destroy_session_args;
-  unsupported = [];
-  gives = nothing;
-  most = λ v. plain_size;
-  carries = false;
-  changes = false;
-  delays = false;
-}
-row Sequence = record {
-  number = 53;
-  name = codes "SEQUENCE";
-  placement = First;
-  takes = alone sequence_args;
-  unsupported = [];
-  gives = alone sequence_result;
-  most = λ v. sequence_size;
-  carries = false;
-  changes = false;
-  delays = false;
-}
-row DestroyClientId = record {
-  number = 57;
-  name = codes "DESTROY_CLIENTID";
-  placement = Alone;
-  takes = alone destroy_clientid_args;
-  unsupported = [];
-  gives = nothing;
-  most = λ v. plain_size;
-  carries = false;
-  changes = false;
-  delays = false;
-}
-row ReclaimComplete = record {
-  number = 58;
-  name = codes "RECLAIM_COMPLETE";
-  placement = InSession;
-  takes = alone reclaim_complete_args;
-  unsupported = [];
-  gives = nothing;
-  most = λ v. plain_size;
-  carries = false;
-  changes = false;
-  delays = false;
-}
+row Access = simple 3 (codes "ACCESS") (alone access_args) (alone access_result)
+row Close = simple 4 (codes "CLOSE") (alone close_args) (alone close_result)
+row Commit = simple 5 (codes "COMMIT") (alone commit_args) (alone commit_result)
+row Create = delayed (changing (simple 6 (codes "CREATE") (normally create_args create_normal)
+    (normally create_result create_result_normal)))
+row GetAttr = simple 9 (codes "GETATTR") (normally getattr_args trimmed) (normally getattr_result trimmed_set)
+row GetFh = simple 10 (codes "GETFH") nothing (alone getfh_result)
+row Link = delayed (changing (simple 11 (codes "LINK") (alone link_args) (alone link_result)))
+row Lookup = simple 15 (codes "LOOKUP") (alone lookup_args) nothing
+row LookupP = simple 16 (codes "LOOKUPP") nothing nothing
+row NVerify = delayed (simple 17 (codes "NVERIFY") (normally nverify_args trimmed_set) nothing)
+row Open =
+    delayed (changing (lacking (open_exclusive ∷ open_by_other_claim ∷ [])
+    (simple 18 (codes "OPEN") (normally open_args open_normal) (normally open_result open_result_normal))))
+row PutFh = simple 22 (codes "PUTFH") (alone putfh_args) nothing
+row PutRootFh = simple 24 (codes "PUTROOTFH") nothing nothing
+row Read = simple 25 (codes "READ") (alone read_args) (alone read_result)
+row ReadDir = simple 26 (codes "READDIR") (normally readdir_args readdir_normal)
+    (normally readdir_result readdir_result_normal)
+row ReadLink = simple 27 (codes "READLINK") nothing (alone readlink_result)
+row Remove = changing (simple 28 (codes "REMOVE") (alone remove_args) (alone remove_result))
+row Rename = delayed (changing (simple 29 (codes "RENAME") (alone rename_args) (alone rename_result)))
+row RestoreFh = simple 31 (codes "RESTOREFH") nothing nothing
+row SaveFh = simple 32 (codes "SAVEFH") nothing nothing
+row SetAttr = delayed (changing (simple 34 (codes "SETATTR") (normally setattr_args setattr_normal)
+    (normally setattr_result trimmed)))
+row Verify = delayed (simple 37 (codes "VERIFY") (normally verify_args trimmed_set) nothing)
+row Write = delayed (changing (simple 38 (codes "WRITE") (alone write_args) (alone write_result)))
+row ExchangeId =
+    delayed (placed Alone (lacking (exchange_id_protected ∷ [])
+    (simple 42 (codes "EXCHANGE_ID") (alone exchange_id_args) (alone exchange_id_result))))
+row CreateSession = delayed (placed Alone (simple 43 (codes "CREATE_SESSION") (alone create_session_args)
+    (alone create_session_result)))
+row DestroySession = placed Alone (simple 44 (codes "DESTROY_SESSION") (alone destroy_session_args) nothing)
+row Sequence = placed First (simple 53 (codes "SEQUENCE") (alone sequence_args) (alone sequence_result))
+row DestroyClientId = placed Alone (simple 57 (codes "DESTROY_CLIENTID") (alone destroy_clientid_args) nothing)
+row ReclaimComplete = placed InSession (simple 58 (codes "RECLAIM_COMPLETE") (alone reclaim_complete_args) nothing)
 
 abbrev pub all_kinds : List OpKind
 all_kinds =

@@ -17,11 +17,11 @@ use Rattle.nfs_ops.specs.Forms.{destroy_session_args, sequence_args, sequence_re
 use Rattle.nfs_ops.specs.Forms.{reclaim_complete_args}
 use Rattle.nfs_ops.specs.Operations.{Operation, Known, Unsupported, Illegal, Bad}
 use Rattle.nfs_ops.specs.Results.{Outcome, Done, refused, refusal}
-use Rattle.nfs_ops.specs.declared.op.Op.{Op}
-use Rattle.nfs_ops.specs.declared.op.Op.TheVariants as ops
-use Rattle.nfs_ops.specs.declared.op_kind.OpKind.TheVariants as kinds
-use Rattle.nfs_ops.specs.declared.op_result.OpResult.{OpResult}
-use Rattle.nfs_ops.specs.declared.op_result.OpResult.TheVariants as results
+use Rattle.nfs_ops.specs.declared.Op.{Op}
+use Rattle.nfs_ops.specs.declared.Op.TheVariants as ops
+use Rattle.nfs_ops.specs.declared.OpKind.TheVariants as kinds
+use Rattle.nfs_ops.specs.declared.OpResult.{OpResult}
+use Rattle.nfs_ops.specs.declared.OpResult.TheVariants as results
 use Rattle.nfs_ops.specs.declared.change_info.ChangeInfo.{ChangeInfo}
 use Rattle.nfs_ops.specs.declared.channel.Channel.{Channel}
 use Rattle.nfs_ops.specs.declared.implementation.Implementation.{Implementation}

@@ -1,8 +1,8 @@
 //! Laws of the forms: each is the contract of a function with an empty body.
 ghost use Rattle.std.specs.Prelude.{◌≡◌, ◌≤◌, ◌↔◌, ◌++◌, ℕ, List, length, Ok, true};
 ghost use Rattle.nfs_ops.specs.Items.{Stands, ItemHasSpelling, ItemIsNormal, item_spelling};
-ghost use Rattle.nfs_ops.specs.Forms.{change_size, setattr_refused_size};
-ghost use Rattle.nfs_ops.specs.Results.{Outcome, outcome_item, most, carries_bytes, is_change, is_refusal};
+ghost use Rattle.nfs_ops.specs.Results.{Outcome, outcome_item};
+ghost use Rattle.nfs_ops.specs.Sizes.{most, carries_bytes, is_change, is_refusal, change_size, setattr_refused_size};
 ghost use Rattle.nfs_ops.specs.ResultReading.{result_at};
 ghost use Rattle.nfs_ops.specs.Readable.{IsResult};
 ghost use Rattle.nfs_ops.specs.Operations.{Operation, op_item, is_built, next_at};

@@ -3,14 +3,14 @@ ghost use Rattle.std.specs.Prelude.{◌≡◌, ◌==◌, option_map, Some, lengt
 ghost use Rattle.xdr_wire.specs.Reading.{Gives};
 ghost use Rattle.nfs_types.specs.Status.{number_of};
 ghost use Rattle.nfs_types.specs.Views.{bitmap_value};
-ghost use Rattle.nfs_ops.specs.ResultReading.{result_at, done_at, done_of, spelled_of, outcome_conforms};
+ghost use Rattle.nfs_ops.specs.ResultReading.{result_at, done_at, done_of, outcome_conforms};
 ghost use Rattle.nfs_ops.specs.ResultReading.{setattr_refused, refused_from, refused_at, refusal_at, behind_status};
+ghost use Rattle.nfs_ops.specs.ReadsAs.{IsDone, IsSpelled};
+ghost use Rattle.nfs_ops.specs.Rows.{row};
 ghost use Rattle.nfs_ops.specs.Views.{read_view};
 
-use crate::OP_SETATTR;
 use crate::exchange_id::SERVER_NAME;
-use crate::op_kind::{OpKind, rows};
-use crate::op_result::OpResult;
+use crate::{OP_SETATTR, OpKind, OpResult, rows};
 use nfs_types::{Bitmap, StateId, Status};
 use xdr_wire::{Reader, Wire, XdrFault};
 
@@ -25,10 +25,28 @@ fn refusal_of(number: u32) -> Option<Status>
     Status::of_number(number)
 }
 
+/// Reads the result of an operation of this kind. `make` makes the whole result of it.
+fn read_as<'a, T: Wire<'a>, F: FnOnce(T) -> OpResult<'a> + Drop>(
+    kind: OpKind,
+    make: F,
+    reader: &mut Reader<'a>,
+) -> Result<OpResult<'a>, XdrFault>
+    requires callable { F.IsAlwaysCallable make }
+    requires gives { (row kind).gives ≡ record { form = T.form; normal = T.normal } }
+    requires makes { (x : T) (outcome : OpResult) → F.post make x outcome →
+        IsDone kind (record { form = T.form; normal = T.normal; value = T.view x }) (read_view outcome) }
+    ensures { IsSpelled kind reader.old reader.new result }
+{
+    match Wire::read(reader) {
+        Ok(given) => Ok(make(given)),
+        Err(fault) => Err(fault),
+    }
+}
+
 /// Reads the result in a row, if it has one.
 macro_rules! given {
-    ($row:ident $given:ident, $reader:expr) => { Ok(OpResult::$row(Wire::read($reader)?)) };
-    ($row:ident, $reader:expr) => { Ok(OpResult::$row) };
+    ($row:ident $given:ident, $reader:expr) => { read_as(OpKind::$row, OpResult::$row, $reader) };
+    ($row:ident, $reader:expr) => { read_as(OpKind::$row, |()| OpResult::$row, $reader) };
 }
 
 /// Reads the result in the row of a kind.
@@ -45,7 +63,7 @@ macro_rules! given_of {
 
 /// Reads what the form of an operation's result spells.
 fn read_spelled<'a>(kind: OpKind, reader: &mut Reader<'a>) -> Result<OpResult<'a>, XdrFault>
-    ensures { Gives read_view reader.old reader.new result (spelled_of kind reader.old) }
+    ensures { IsSpelled kind reader.old reader.new result }
 {
     rows!(given_of, kind, reader)
 }
@@ -65,7 +83,7 @@ fn conforms(outcome: &OpResult<'_>) -> bool
 }
 
 /// Reads the result of an operation.
-#[tactic(auto, unfolding(crate::specs::ResultReading::done_of))]
+#[tactic(auto, unfolding(crate::specs::ResultReading::done_of, crate::specs::ReadsAs::IsSpelled))]
 fn read_done<'a>(kind: OpKind, reader: &mut Reader<'a>) -> Result<OpResult<'a>, XdrFault>
     ensures { Gives read_view reader.old reader.new result (done_of kind reader.old) }
 {

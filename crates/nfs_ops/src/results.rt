@@ -1,14 +1,15 @@
 //! Writing results.
-ghost use Rattle.std.specs.Prelude.{◌≡◌, ◌≤◌, length, OnOk, IsTrue, is_ok};
+ghost use Rattle.std.specs.Prelude.{◌≡◌, ◌≤◌, ◌+◌, length, OnOk, IsTrue, is_ok};
 ghost use Rattle.xdr_wire.specs.Buffer.{Puts};
-ghost use Rattle.nfs_ops.specs.Items.{ItemHasSpelling, ItemIsNormal, item_spelling};
-ghost use Rattle.nfs_ops.specs.Results.{outcome_item, refused, most};
+ghost use Rattle.xdr_wire.specs.Xdr.{spelling};
+ghost use Rattle.nfs_ops.specs.Items.{ItemHasSpelling, ItemIsNormal, item_spelling, done as item_of};
+ghost use Rattle.nfs_ops.specs.Results.{outcome_item, refused};
 ghost use Rattle.nfs_ops.specs.Results as specs;
+ghost use Rattle.nfs_ops.specs.Sizes.{most, greatest, plain_size};
 ghost use Rattle.nfs_ops.specs.Views.{result_view};
+ghost use Rattle.nfs_ops.specs.Writing.{IsWrittenWithin};
 
-use crate::OP_SETATTR;
-use crate::op_kind::rows;
-use crate::op_result::OpResult;
+use crate::{OP_SETATTR, OpResult, rows};
 use nfs_types::{Bitmap, Status};
 use std::alloc::Allocator;
 use xdr_wire::{Full, Spell, Writer};
@@ -49,9 +50,23 @@ fn write_refused<A: Allocator>(
     }
 }
 
+/// Writes a refusal of this number with the number of its status.
+#[tactic(auto, unfolding(crate::specs::Writing::IsWrittenWithin))]
+fn put_refusal<A: Allocator>(
+    number: u32,
+    status: Status,
+    writer: &mut Writer<A>,
+) -> Result<(), Full>
+    ensures { IsWrittenWithin (outcome_item (refused number (specs.refusal status)))
+        (most (refused number (specs.refusal status))) writer.old writer.new result }
+{
+    write_refused(number, refusal(status), writer)
+}
+
 /// Writes that the operation of this number has this status, and not OK: where it is OK,
 /// SERVERFAULT stands there. `Full` exactly where the room is less than that takes, at most 12
 /// bytes; then nothing is written.
+#[tactic(auto, unfolding(crate::specs::Writing::IsWrittenWithin))]
 pub fn write_refusal<A: Allocator>(
     number: u32,
     status: Status,
@@ -63,15 +78,29 @@ pub fn write_refusal<A: Allocator>(
     ensures puts { Puts writer.old writer.new (item_spelling (outcome_item (refused number (specs.refusal status))))
         result }
 {
-    write_refused(number, refusal(status), writer)
+    put_refusal(number, status, writer)
 }
 
-/// Writes number, status OK and the result, once the prover knows how long these bytes of it are.
+/// Writes number, status OK and a result that takes no more bytes than its form says.
+fn put<T: Spell, A: Allocator>(number: u32, given: T, writer: &mut Writer<A>) -> Result<(), Full>
+    requires { length (spelling T.form (T.view given)) ≤ greatest T.form }
+    ensures { IsWrittenWithin (item_of number (record { form = T.form; normal = T.normal }) (T.view given))
+        (plain_size + greatest T.form) writer.old writer.new result }
+{
+    (number, (0u32, given)).write(writer)
+}
+
+/// Writes the result in a row, once the prover knows how long these bytes of it are.
 macro_rules! whole {
     ($bytes:expr, $number:ident $given:ident, $writer:expr) => {{
         is_whole(&$bytes);
-        ($crate::$number, (0u32, $given)).write($writer)
+        put($crate::$number, $given, $writer)
     }};
+}
+
+/// Writes a result as long as what it carries.
+macro_rules! carried {
+    ($number:ident $given:ident, $writer:expr) => { ($crate::$number, (0u32, $given)).write($writer) };
 }
 
 /// Writes number, status OK and the result in a row, if it has one.
@@ -80,9 +109,11 @@ macro_rules! done {
     (Open $number:ident $given:ident, $writer:expr) => { whole!($given.stateid.other, $number $given, $writer) };
     (CreateSession $number:ident $given:ident, $writer:expr) => { whole!($given.session, $number $given, $writer) };
     (Sequence $number:ident $given:ident, $writer:expr) => { whole!($given.session, $number $given, $writer) };
-    ($row:ident $number:ident $($given:ident)?, $writer:expr) => {
-        ($crate::$number, (0u32, ($($given)?))).write($writer)
-    };
+    (GetAttr $number:ident $given:ident, $writer:expr) => { carried!($number $given, $writer) };
+    (Read $number:ident $given:ident, $writer:expr) => { carried!($number $given, $writer) };
+    (ReadDir $number:ident $given:ident, $writer:expr) => { carried!($number $given, $writer) };
+    (ReadLink $number:ident $given:ident, $writer:expr) => { carried!($number $given, $writer) };
+    ($row:ident $number:ident $($given:ident)?, $writer:expr) => { put($crate::$number, ($($given)?), $writer) };
 }
 
 /// Writes the result in the row of an operation that is OK, or a refusal.
@@ -93,20 +124,29 @@ macro_rules! done_of {
     ) => {
         match $outcome {
             $(OpResult::$row$(($given))? => done!($row $number $($given)?, $writer),)*
-            OpResult::Refused(number, status) => write_refusal(number, status, $writer),
+            OpResult::Refused(number, status) => put_refusal(number, status, $writer),
         }
     };
+}
+
+/// Writes a result by its row.
+fn put_result<A: Allocator>(outcome: OpResult, writer: &mut Writer<A>) -> Result<(), Full>
+    ensures { IsWrittenWithin (outcome_item (result_view outcome.entry)) (most (result_view outcome.entry)) writer.old
+        writer.new result }
+{
+    rows!(done_of, outcome, writer)
 }
 
 /// Writes a result: its number, its status and, where that is OK, the result of the operation.
 /// `Full` exactly where the room is less than that takes; then nothing is written. It takes at most
 /// the bytes that `most` gives. Those are at most 256 of an operation that can change the tree, and
 /// at most 12 of a refusal.
+#[tactic(auto, unfolding(crate::specs::Writing::IsWrittenWithin))]
 pub fn write_result<A: Allocator>(outcome: OpResult, writer: &mut Writer<A>) -> Result<(), Full>
     ensures has_spelling { OnOk result (ItemHasSpelling (outcome_item (result_view outcome.entry))) }
     ensures in_normal_form { OnOk result (ItemIsNormal (outcome_item (result_view outcome.entry))) }
     ensures fits { most (result_view outcome.entry) ≤ writer.old.room → IsTrue (is_ok result) }
     ensures puts { Puts writer.old writer.new (item_spelling (outcome_item (result_view outcome.entry))) result }
 {
-    rows!(done_of, outcome, writer)
+    put_result(outcome, writer)
 }

@@ -16,7 +16,7 @@ use Rattle.node_tree.specs.declared.fault.TreeFault.{TreeFault}
 use Rattle.node_tree.specs.declared.fault.TreeFault.TheVariants.{NotEmpty, NoEnt, FBig}
 use Rattle.node_tree.specs.Limits.{MAX_NAME}
 use Rattle.node_tree.specs.World.{World, Object, object, kind_of, child_named, is_one, is_named, is_directory_at, has_entries, name_count, parent_of}
-use Rattle.node_tree.specs.Changes.{new_object, with_new, with_move, renamed, with_bytes, with_write, with_list}
+use Rattle.node_tree.specs.Changes.{new_object, given_name, with_new, with_move, renamed, with_bytes, with_write, with_list}
 use Rattle.node_tree.specs.Refusals.{has_left, add_refusal, link_refusal, unlink_refusal, write_refusal, resize_refusal, is_below, may_replace, may_move}
 use Rattle.node_tree.specs.Sound.{IsTick, IsSound, most_bytes}
 use Rattle.node_tree.specs.Notes.{Notes, note, lost}
@@ -167,11 +167,11 @@ noted_after w mid new v s made it notes allowed =
 
 -- a new object that was noted and then made
 pub noted_add : (w mid new : World) (directory : ℕ) (name : List ℕ) (kind : Kind) (bytes : List ℕ) (owner group : ℕ) (list : List Entry) (high : ℕ) (at : At)
-    → mid ≡ record w { notes = notes_with w (Add directory name kind bytes owner group list high at) } → new ≡ quietly mid (with_new mid directory name (new_object kind bytes owner group list high mid.next_stamp at) at)
-    → allows w (Add directory name kind bytes owner group list high at) ≡ true → new ≡ with_new w directory name (new_object kind bytes owner group list high w.next_stamp at) at
+    → mid ≡ record w { notes = notes_with w (Add directory name kind bytes owner group list high at) } → new ≡ quietly mid (with_new mid directory name (new_object kind bytes owner group list high (record { stamp = mid.next_stamp; at = at })) at)
+    → allows w (Add directory name kind bytes owner group list high at) ≡ true → new ≡ with_new w directory name (new_object kind bytes owner group list high (record { stamp = w.next_stamp; at = at })) at
 noted_add w mid new directory name kind bytes owner group list high at noted_it made allowed =
-    made ∙ ap (λ (m : World). quietly m (with_new m directory name (new_object kind bytes owner group list high m.next_stamp at) at)) noted_it
-    ∙ ap (λ (n : Notes). record (with_new w directory name (new_object kind bytes owner group list high w.next_stamp at) at) { notes = n }) (noted_so w (Add directory name kind bytes owner group list high at) allowed)
+    made ∙ ap (λ (m : World). quietly m (with_new m directory name (new_object kind bytes owner group list high (record { stamp = m.next_stamp; at = at })) at)) noted_it
+    ∙ ap (λ (n : Notes). record (with_new w directory name (new_object kind bytes owner group list high (record { stamp = w.next_stamp; at = at })) at) { notes = n }) (noted_so w (Add directory name kind bytes owner group list high at) allowed)
 
 pub noted_list : (w mid new : World) (number : ℕ) (list : List Entry) (high : ℕ) (at : At)
     → mid ≡ record w { notes = notes_with w (SetList number list high at) } → new ≡ quietly mid (with_list mid number list high at)
@@ -182,10 +182,10 @@ noted_list w mid new number list high at noted_it made allowed =
 
 -- a rename of the child and the target that were found
 pub renamed_so : (w : World) (from : ℕ) (old : List ℕ) (to : ℕ) (new : List ℕ) (child : ℕ) (target : Option ℕ) (at : At) → child_named w from old ≡ Some child → child_named w to new ≡ target → is_one (Some child) target ≡ false
-    → with_move w from old to new child target at ≡ renamed w from old to new at
+    → with_move w from old (given_name w to new child) target at ≡ renamed w from old to new at
 renamed_so w from old to new child target at is taken apart =
-    sym (ap (λ b. cond b w (option_map_or (λ c. with_move w from old to new c (child_named w to new) at) (child_named w from old) w)) (ap (λ o. is_one o (child_named w to new)) is ∙ ap (is_one (Some child)) taken ∙ apart)
-    ∙ ap (λ (o : Option ℕ). option_map_or (λ c. with_move w from old to new c (child_named w to new) at) o w) is ∙ ap (λ o. with_move w from old to new child o at) taken)
+    sym (ap (λ b. cond b w (option_map_or (λ c. with_move w from old (given_name w to new c) (child_named w to new) at) (child_named w from old) w)) (ap (λ o. is_one o (child_named w to new)) is ∙ ap (is_one (Some child)) taken ∙ apart)
+    ∙ ap (λ (o : Option ℕ). option_map_or (λ c. with_move w from old (given_name w to new c) (child_named w to new) at) o w) is ∙ ap (λ o. with_move w from old (given_name w to new child) o at) taken)
 
 -- data that are some are written
 pub some_write : (w : World) (file offset : ℕ) (more : List ℕ) (at : At) → (length more == 0) ≡ false → with_bytes w file offset more at ≡ with_write w file offset more at

@@ -14,7 +14,7 @@ use Rattle.node_tree.specs.declared.at.At.{At}
 use Rattle.node_tree.specs.Limits.{ROOT, MAX_NAME, MAX_NAMES, MAX_LINKS}
 use Rattle.node_tree.specs.World.{World, Object, Name, object, kind_of, is_named, has_name, has_entries, child_named, is_one, is_directory_at, parent_of, name_count, link_count}
 use Rattle.node_tree.specs.Ways.{is_within}
-use Rattle.node_tree.specs.Changes.{changed, touched, retold, released, other_names, with_move}
+use Rattle.node_tree.specs.Changes.{changed, touched, retold, released, other_names, given_name, with_move}
 use Rattle.node_tree.specs.Refusals.{is_below, may_replace, may_move, has_left, has_room}
 use Rattle.node_tree.specs.Judged.{judged, judged_of, KeepsJudged}
 use Rattle.node_tree.specs.Sound.{stamp_of, IsIn, IsRooted, IsSound, IsTick}
@@ -191,12 +191,12 @@ pub IsSound-with_move : (w : World) → IsSound w → (from : ℕ) (old : List �
     → IfSome target (λ t. child ≢ t) → IfSome target (λ t. (n : Name) → IsIn n w.names → n.directory ≡ t → ⊥)
     → (kind_of w child ≡ Some Directory → is_within w child to ≡ false)
     → length new ≤ MAX_NAME → Room w from to target → w.next_cookie < 2 ^ 63
-    → IsSound (with_move w from old to new child target at)
+    → IsSound (with_move w from old (given_name w to new child) target at)
 IsSound-with_move w sound from old to new child target at tick live leads taken apart empty clear short room cookie =
     let due : at.tick < at.tick + 1 = omega arith in
     let names = other_names to new (other_names from old w.names) in
     let alive : (ℕ → Option Kind) = λ k. option_map_or (λ t. after (has_name names t) (kind_of w) t k) target (kind_of w k) in
-    let kinds : kind_of (with_move w from old to new child target at) ≡ alive = fun_ext (read_moved (λ o. o.kind) from to child names target at w.objects (λ o. refl) (λ o. refl)) in
+    let kinds : kind_of (with_move w from old (given_name w to new child) target at) ≡ alive = fun_ext (read_moved (λ o. o.kind) from to child names target at w.objects (λ o. refl) (λ o. refl)) in
     let held = IsHeld-touched to at _ w.next_number (at.tick + 1) due (IsHeld-touched from at _ w.next_number (at.tick + 1) due (IsHeld-retold child at _ w.next_number (at.tick + 1) due
     (IsHeld-left names target at w.objects w.next_number (at.tick + 1) due (IsHeld-later w.objects w.next_number w.next_tick (at.tick + 1) tick.fresh (held_in w sound))))) in
     let moves_so = moves (kind_of w) w.names sound.rooted from old to new child old_leads live target (child_sought w.names to new ∙ taken) apart empty in
@@ -206,7 +206,7 @@ IsSound-with_move w sound from old to new child target at tick live leads taken 
     let links : link_count names child ≤ link_count (other_names from old w.names) child = count_by-filter (λ n. n.child == child) (λ n. not (is_named to new n)) (other_names from old w.names) in
     let most : link_count w.names child ≤ MAX_LINKS = sound.limited.links child in
     record {
-      rooted = subst (λ k. IsRooted k (with_move w from old to new child target at).names) (sym kinds)
+      rooted = subst (λ k. IsRooted k (with_move w from old (given_name w to new child) target at).names) (sym kinds)
           (IsRooted-moved (kind_of w) alive w.names names child to w.next_cookie new (parent_of w) w.next_number sound.rooted moves_so (parents_of w)
           (λ is. clear (moved_some names target (kind_of w) child Directory is)));
       stamped = IsStamped-fewer (stamp_of w) _ w.next_stamp (λ k s is. moved_some names target (stamp_of w) k s (sym (read_moved (λ o. o.stamp) from to child names target at w.objects (λ o. refl) (λ o. refl) k) ∙ is)) sound.stamped;
@@ -257,7 +257,7 @@ IsSound-with_move w sound from old to new child target at tick live leads taken 
             let less : name_count (other_names to new (other_names from old w.names)) to < name_count (other_names from old w.names) to = name_count-filter_out (λ n. not (is_named to new n)) (other_names from old w.names) to it.name stays (named_directory to new it.name it.passes) out in
             omega (arith, first_le, all_le, less)
 
-pub KeepsJudged-with_move : (w : World) (from : ℕ) (old : List ℕ) (to : ℕ) (new : List ℕ) (child : ℕ) (target : Option ℕ) (at : At) → KeepsJudged w (with_move w from old to new child target at)
+pub KeepsJudged-with_move : (w : World) (from : ℕ) (old : List ℕ) (to : ℕ) (new : List ℕ) (child : ℕ) (target : Option ℕ) (at : At) → KeepsJudged w (with_move w from old (given_name w to new child) target at)
 KeepsJudged-with_move w from old to new child target at = record {
   stamps_rise = omega arith;
   same = λ k j is _. moved_some (other_names to new (other_names from old w.names)) target (judged_of w) k j (sym (read_moved judged from to child (other_names to new (other_names from old w.names)) target at w.objects (λ o. refl) (λ o. refl) k) ∙ is);
@@ -326,7 +326,7 @@ target_apart child (Some t) apart = λ same. apart (ap Some (sym same))
 pub IsSound-unrefused_move : (w : World) → IsSound w → (from : ℕ) (old : List ℕ) (to : ℕ) (new : List ℕ) (child : ℕ) (target : Option ℕ) (at : At) → IsTick w at.tick
     → kind_of w to ≡ Some Directory → length new ≤ MAX_NAME → child_named w from old ≡ Some child → child_named w to new ≡ target → (target ≡ Some child → ⊥)
     → is_below (kind_of w) (parent_of w) w.next_number child to ≡ false → may_replace (kind_of w) (has_entries w.names) child target ≡ true
-    → may_move (name_count w.names to) w.next_cookie from to target ≡ true → IsSound (with_move w from old to new child target at)
+    → may_move (name_count w.names to) w.next_cookie from to target ≡ true → IsSound (with_move w from old (given_name w to new child) target at)
 IsSound-unrefused_move w sound from old to new child target at tick live short leads taken apart below replaces moves =
     let may = unrefused_move w sound from to child target below replaces moves in
     IsSound-with_move w sound from old to new child target at tick live leads taken (target_apart child target apart) may.empty may.clear short may.room may.cookie

@@ -17,7 +17,7 @@ use Rattle.node_tree.specs.declared.at.At.{At}
 use Rattle.node_tree.specs.declared.node.NewObject.{NewObject}
 use Rattle.node_tree.specs.Notes.{no_notes}
 use Rattle.node_tree.specs.Noted.{noted}
-use Rattle.node_tree.specs.Steps.{Add, Link, Unlink, Rename, Write, Resize, SetList, SetOwner}
+use Rattle.node_tree.specs.Steps.{Step, Add, Link, Unlink, Rename, Write, Resize, SetList, SetOwner}
 use Rattle.node_tree.specs.World.{World, Object, Name, child_named, is_one, is_named, has_name}
 
 -- ---- objects
@@ -40,23 +40,29 @@ touched at o = record o { change = at.tick; time_modify = at.moment; time_metada
 abbrev pub retold : At → Object → Object
 retold at o = record o { change = at.tick; time_metadata = at.moment }
 
+-- when an object is made: its stamp, and the tick and the moment
+pub record Birth : Type 0 where
+  pub stamp : ℕ
+  pub at : At
+
 -- a new object, of this kind, bytes, owner, group, list and high bits of the mode
-abbrev pub new_object : Kind → List ℕ → ℕ → ℕ → List Entry → ℕ → ℕ → At → Object
-new_object kind bytes owner group list high stamp at = record {
+abbrev pub new_object : Kind → List ℕ → ℕ → ℕ → List Entry → ℕ → Birth → Object
+new_object kind bytes owner group list high birth = record {
   kind = kind;
   bytes = bytes;
   owner = owner;
   group = group;
   list = list;
   high = high;
-  change = at.tick;
-  time_modify = at.moment;
-  time_metadata = at.moment;
-  stamp = stamp;
+  change = birth.at.tick;
+  time_modify = birth.at.moment;
+  time_metadata = birth.at.moment;
+  stamp = birth.stamp;
 }
 
 abbrev pub made : {A : Type 0} → NewObject A → ℕ → At → Object
-made new stamp at = new_object new.kind new.bytes.items new.owner new.group new.list new.high stamp at
+made new stamp at =
+    new_object new.kind new.bytes.items new.owner new.group new.list new.high (record { stamp = stamp; at = at })
 
 -- ---- a new tree
 
@@ -70,7 +76,7 @@ from_start tick = record { tick = tick; moment = epoch }
 
 -- a new root
 abbrev pub root_of : ℕ → ℕ → List Entry → ℕ → Object
-root_of owner group list high = new_object Directory [] owner group list high 1 (from_start 1)
+root_of owner group list high = new_object Directory [] owner group list high (record { stamp = 1; at = from_start 1 })
 
 -- a root and no other object
 abbrev pub alone : Object → World
@@ -84,12 +90,17 @@ alone root = record {
   notes = no_notes;
 }
 
+-- ---- changes
+
+-- a change takes a tick, and is noted
+abbrev pub ticked : World → Step → At → World
+ticked w s at = record w { next_tick = at.tick + 1; notes = noted w s }
+
 -- ---- names
 
--- the names with one more name, by the next cookie
-abbrev pub named : World → ℕ → List ℕ → ℕ → List Name → List Name
-named w directory name child names =
-    names ++ record { cookie = w.next_cookie; directory = directory; name = name; child = child } ∷ []
+-- a name that is given to a child, by the next cookie
+abbrev pub given_name : World → ℕ → List ℕ → ℕ → Name
+given_name w directory name child = record { cookie = w.next_cookie; directory = directory; name = name; child = child }
 
 -- the names without this name
 abbrev pub other_names : ℕ → List ℕ → List Name → List Name
@@ -102,61 +113,55 @@ released names number at objects =
 
 -- a new object under a new name (CREATE, OPEN)
 abbrev pub with_new : World → ℕ → List ℕ → Object → At → World
-with_new w directory name o at = record w {
-  objects = changed directory (touched at) (insert_entry nat_cmp w.objects w.next_number o);
-  names = named w directory name w.next_number w.names;
-  next_number = w.next_number + 1;
-  next_tick = at.tick + 1;
-  next_stamp = w.next_stamp + 1;
-  next_cookie = w.next_cookie + 1;
-  notes = noted w (Add directory name o.kind o.bytes o.owner o.group o.list o.high at);
-}
+with_new w directory name o at =
+    record (ticked w (Add directory name o.kind o.bytes o.owner o.group o.list o.high at) at) {
+      objects = changed directory (touched at) (insert_entry nat_cmp w.objects w.next_number o);
+      names = w.names ++ given_name w directory name w.next_number ∷ [];
+      next_number = w.next_number + 1;
+      next_stamp = w.next_stamp + 1;
+      next_cookie = w.next_cookie + 1;
+    }
 
 -- one more name for an object (LINK)
 abbrev pub with_link : World → ℕ → List ℕ → ℕ → At → World
-with_link w directory name number at = record w {
+with_link w directory name number at = record (ticked w (Link directory name number at) at) {
   objects = changed directory (touched at) (changed number (retold at) w.objects);
-  names = named w directory name number w.names;
-  next_tick = at.tick + 1;
+  names = w.names ++ given_name w directory name number ∷ [];
   next_cookie = w.next_cookie + 1;
-  notes = noted w (Link directory name number at);
 }
 
 -- without the name of a child, and without the child if that was its last name (REMOVE)
 abbrev pub without_name : World → ℕ → List ℕ → ℕ → At → World
 without_name w directory name child at =
     let names = other_names directory name w.names in
-    record w {
+    record (ticked w (Unlink directory name at) at) {
       objects = changed directory (touched at) (released names child at w.objects);
       names = names;
-      next_tick = at.tick + 1;
-      notes = noted w (Unlink directory name at);
     }
 
 abbrev pub unlinked : World → ℕ → List ℕ → At → World
 unlinked w directory name at =
     option_map_or (λ child. without_name w directory name child at) (child_named w directory name) w
 
--- with another name for a child; a target of that name loses it (RENAME)
-abbrev pub with_move : World → ℕ → List ℕ → ℕ → List ℕ → ℕ → Option ℕ → At → World
-with_move w from old to new child target at =
-    let names = other_names to new (other_names from old w.names) in
-    record w {
+-- with a given name of a child in place of another one; a target of the given name loses it (RENAME)
+abbrev pub with_move : World → ℕ → List ℕ → Name → Option ℕ → At → World
+with_move w from old n target at =
+    let names = other_names n.directory n.name (other_names from old w.names) in
+    record (ticked w (Rename from old n.directory n.name at) at) {
       objects =
-          changed to (touched at)
+          changed n.directory (touched at)
           (changed from (touched at)
-          (changed child (retold at) (option_map_or (λ t. released names t at w.objects) target w.objects)));
-      names = named w to new child names;
-      next_tick = at.tick + 1;
+          (changed n.child (retold at) (option_map_or (λ t. released names t at w.objects) target w.objects)));
+      names = names ++ n ∷ [];
       next_cookie = w.next_cookie + 1;
-      notes = noted w (Rename from old to new at);
     }
 
 -- two names of one object stay as they are
 abbrev pub renamed : World → ℕ → List ℕ → ℕ → List ℕ → At → World
 renamed w from old to new at =
-    if is_one (child_named w from old) (child_named w to new) then w
-    else option_map_or (λ child. with_move w from old to new child (child_named w to new) at) (child_named w from old) w
+    let target = child_named w to new in
+    if is_one (child_named w from old) target then w
+    else option_map_or (λ child. with_move w from old (given_name w to new child) target at) (child_named w from old) w
 
 -- ---- bytes
 
@@ -170,10 +175,8 @@ written bytes offset more =
 
 -- bytes are written into a file
 abbrev pub with_bytes : World → ℕ → ℕ → List ℕ → At → World
-with_bytes w file offset more at = record w {
+with_bytes w file offset more at = record (ticked w (Write file offset more at) at) {
   objects = changed file (λ o. touched at (record o { bytes = written o.bytes offset more })) w.objects;
-  next_tick = at.tick + 1;
-  notes = noted w (Write file offset more at);
 }
 
 -- no bytes change nothing (WRITE)
@@ -187,28 +190,22 @@ resized bytes size = take size bytes ++ replicate (size - length bytes) 0
 
 -- a size is set, also to the file's own size (SETATTR, OPEN)
 abbrev pub with_size : World → ℕ → ℕ → At → World
-with_size w file size at = record w {
+with_size w file size at = record (ticked w (Resize file size at) at) {
   objects = changed file (λ o. touched at (record o { bytes = resized o.bytes size })) w.objects;
-  next_tick = at.tick + 1;
-  notes = noted w (Resize file size at);
 }
 
 -- ---- the list, owner and group of an object
 
 -- a list is set, with the high bits of the mode (SETATTR)
 abbrev pub with_list : World → ℕ → List Entry → ℕ → At → World
-with_list w number list high at = record w {
+with_list w number list high at = record (ticked w (SetList number list high at) at) {
   objects = changed number (λ o. retold at (record o { list = list; high = high; stamp = w.next_stamp })) w.objects;
-  next_tick = at.tick + 1;
   next_stamp = w.next_stamp + 1;
-  notes = noted w (SetList number list high at);
 }
 
 -- an owner and a group are set (SETATTR)
 abbrev pub with_owner : World → ℕ → ℕ → ℕ → At → World
-with_owner w number owner group at = record w {
+with_owner w number owner group at = record (ticked w (SetOwner number owner group at) at) {
   objects = changed number (λ o. retold at (record o { owner = owner; group = group; stamp = w.next_stamp })) w.objects;
-  next_tick = at.tick + 1;
   next_stamp = w.next_stamp + 1;
-  notes = noted w (SetOwner number owner group at);
 }

@@ -12,7 +12,7 @@ use Rattle.node_tree.specs.Changes.{new_object, from_start}
 
 -- the object of an empty place, to which no number leads
 abbrev pub unseen : Object
-unseen = new_object Directory [] 0 0 [] 0 0 (from_start 0)
+unseen = new_object Directory [] 0 0 [] 0 (record { stamp = 0; at = from_start 0 })
 
 -- the object in a place
 abbrev pub in_place : Slab Object → ℕ → Object

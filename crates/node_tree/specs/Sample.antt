@@ -11,7 +11,7 @@ use Rattle.node_tree.specs.Changes.{new_object, from_start}
 -- an object of the sample: its stamp and its last change are its number
 abbrev pub sample_object : ℕ → Kind → List ℕ → ℕ → ℕ → ℕ → Object
 sample_object number kind bytes owner group mode =
-    new_object kind bytes owner group (set_mode [] kind mode) 0 number (from_start number)
+    new_object kind bytes owner group (set_mode [] kind mode) 0 (record { stamp = number; at = from_start number })
 
 -- modes 0755, 0640 and 0777
 abbrev pub sample : World

@@ -16,8 +16,8 @@ ghost use Rattle.node_tree.specs.Steps.{Add, Link, Unlink, Rename, Write, Resize
 ghost use Rattle.node_tree.specs.Forms.{spelled};
 ghost use Rattle.node_tree.specs.Ranges.{in_range};
 ghost use Rattle.node_tree.specs.Changes.{alone, made, changed, touched, retold, without, released, other_names};
-ghost use Rattle.node_tree.specs.Changes.{written, resized, with_new, with_link, without_name, with_move, with_bytes};
-ghost use Rattle.node_tree.specs.Changes.{with_size, with_list, with_owner};
+ghost use Rattle.node_tree.specs.Changes.{written, resized, given_name, with_new, with_link, without_name, with_move};
+ghost use Rattle.node_tree.specs.Changes.{with_bytes, with_size, with_list, with_owner};
 ghost use Rattle.node_tree.specs.Sound.{most_bytes, Rises};
 ghost use Rattle.node_tree.specs.Refusals.{add_refusal, link_refusal, has_left, has_room, has_object_room, may_link};
 ghost use Rattle.node_tree.specs.Refusals.{may_name, may_add, is_below, may_replace, may_move};
@@ -434,7 +434,7 @@ impl<A: Allocator + Copy> Store<A> {
         requires listed { Rises (λ n. n.cookie) 3 self.old.names self.old.next_cookie }
         requires other { target ≢ Some child }
         ensures ok { OnOk result (self.new ≡
-            quietly self.old (with_move self.old from old.now to new.now child target at)) }
+            quietly self.old (with_move self.old from old.now (given_name self.old to new.now child) target at)) }
         ensures err { OnErr result (self.new ≡ self.old) }
     {
         self.names

@@ -29,23 +29,25 @@ AnswersAll fate Run (call ∷ calls) [] old new = ⊥
 AnswersAll {Call} {State} fate Run (call ∷ calls) (reply ∷ replies) old new =
     (mid : State) × AnswersBy Run (fate old call) call old reply mid × AnswersAll fate Run calls replies mid new
 
+-- calls that are answered in turn, with their replies and the states before and after
+pub record Answering (Call State Reply : Type 0) : Type 0 where
+  pub calls : List Call
+  pub replies : List Reply
+  pub old : State
+  pub new : State
+
 -- a call with its reply, and whether it was a repeat
 pub record Exchange (Call Reply : Type 0) : Type 0 where
   pub call : Call
   pub reply : Reply
   pub repeats : Bool
 
-abbrev pub calls_of : {Call Reply : Type 0} → List (Exchange Call Reply) → List Call
-calls_of es = map (λ e. e.call) es
-
-abbrev pub replies_of : {Call Reply : Type 0} → List (Exchange Call Reply) → List Reply
-replies_of es = map (λ e. e.reply) es
-
 -- the repeats taken out
 abbrev pub first_ones : {Call Reply : Type 0} → List (Exchange Call Reply) → List (Exchange Call Reply)
 first_ones es = filter (λ e. not e.repeats) es
 
--- each call is marked as a repeat where it was one, in the state after the calls before it
+-- The exchanges are answered in turn, and each is marked as a repeat where it was one, in the state after those before
+-- it.
 abbrev pub AreAnswered : {Call State Reply : Type 0} → (State → Call → Fate Reply)
     → (Call → State → Reply → State → Type 0) → List (Exchange Call Reply) → State → State → Type 0
 AreAnswered fate Run [] old new = new ≡ old
@@ -53,12 +55,11 @@ AreAnswered {Call} {State} fate Run (e ∷ es) old new =
     (mid : State) × AnswersBy Run (fate old e.call) e.call old e.reply mid × (e.repeats ≡ is_repeat (fate old e.call))
     × AreAnswered fate Run es mid new
 
--- The calls with their replies, marked; and the calls without the repeats, which lead to the same state.
+-- The calls with their replies, marked; and the rest without the repeats, which leads to the same state.
 pub record WithoutRepeats {Call State Reply : Type 0} (fate : State → Call → Fate Reply)
-    (Run : Call → State → Reply → State → Type 0) (calls : List Call) (replies : List Reply)
-    (old new : State) : Type 0 where
+    (Run : Call → State → Reply → State → Type 0) (a : Answering Call State Reply) : Type 0 where
   pub exchanges : List (Exchange Call Reply)
-  pub of_calls : calls_of exchanges ≡ calls
-  pub of_replies : replies_of exchanges ≡ replies
-  pub marked : AreAnswered fate Run exchanges old new
-  pub rest : AnswersAll fate Run (calls_of (first_ones exchanges)) (replies_of (first_ones exchanges)) old new
+  pub of_calls : map (λ e. e.call) exchanges ≡ a.calls
+  pub of_replies : map (λ e. e.reply) exchanges ≡ a.replies
+  pub marked : AreAnswered fate Run exchanges a.old a.new
+  pub rest : AreAnswered fate Run (first_ones exchanges) a.old a.new

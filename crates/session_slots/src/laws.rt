@@ -3,7 +3,7 @@ ghost use Rattle.std.specs.Prelude.{◌≡◌, ℕ, ◌<◌, ◌^◌, true, List
 ghost use Rattle.session_slots.specs.Counting.{last_number};
 ghost use Rattle.session_slots.specs.Slots.{Call, Kept, number_of, SlotStandsFor};
 ghost use Rattle.session_slots.specs.Creating.{RecordStandsFor};
-ghost use Rattle.session_slots.specs.Repeating.{AnswersAll, WithoutRepeats};
+ghost use Rattle.session_slots.specs.Repeating.{AnswersAll, Answering, WithoutRepeats};
 ghost use Rattle.session_slots.specs.Acting as acting;
 ghost use Rattle.session_slots.specs.Calls as calls;
 ghost use Rattle.session_slots.specs.Calls.{Reply, State, fate, RunsSo, sent};
@@ -39,9 +39,8 @@ pub trait World {
 /// replies to the rest and an equal state, whatever the running of a call does.
 #[tactic(auto, using(crate::proofs::Repeating::repeats_go))]
 pub fn repeats_change_nothing<W: World>()
-    ensures { (called : List calls.Call) (replies : List Reply) (old new : State W) →
-        AnswersAll fate (RunsSo W.run) called replies old new →
-        WithoutRepeats fate (RunsSo W.run) called replies old new }
+    ensures { (a : Answering calls.Call (State W) Reply) →
+        AnswersAll fate (RunsSo W.run) a.calls a.replies a.old a.new → WithoutRepeats fate (RunsSo W.run) a }
 {}
 
 /// However calls come, the slot stands for the history of those that came on it, with their

@@ -6,7 +6,7 @@ use Rattle.std.specs.Option.{option_map_or}
 use Rattle.std.proofs.lemmas.Bool.{and_parts}
 use Rattle.std.proofs.lemmas.List.Concat.{flat_map-append}
 use Rattle.node_tree.specs.World.{World, child_named, is_one}
-use Rattle.node_tree.specs.Changes.{new_object, with_new, with_link, without_name, with_move, with_bytes, with_size, with_list, with_owner}
+use Rattle.node_tree.specs.Changes.{new_object, given_name, with_new, with_link, without_name, with_move, with_bytes, with_size, with_list, with_owner}
 use Rattle.node_tree.specs.Notes.{Notes, no_notes, begun_notes, cleared, lost}
 use Rattle.node_tree.specs.Noted.{noted}
 use Rattle.node_tree.specs.Forms.{spelled}
@@ -29,7 +29,7 @@ quiet w n = record w { notes = n }
 -- a change makes of a world without notes what it makes of the world, without notes
 bare_stepped : (w : World) (s : Step) → stepped (bare w) s ≡ bare (stepped w s)
 bare_stepped w (Add directory name kind bytes owner group list high at) =
-    ap (quiet (with_new w directory name (new_object kind bytes owner group list high w.next_stamp at) at)) (none_noted w (Add directory name kind bytes owner group list high at))
+    ap (quiet (with_new w directory name (new_object kind bytes owner group list high (record { stamp = w.next_stamp; at = at })) at)) (none_noted w (Add directory name kind bytes owner group list high at))
 bare_stepped w (Link directory name number at) = ap (quiet (with_link w directory name number at)) (none_noted w (Link directory name number at))
 bare_stepped w (Unlink directory name at) =
     elim (child_named w directory name) as (λ o. option_map_or (λ child. without_name (bare w) directory name child at) o (bare w) ≡ bare (option_map_or (λ child. without_name w directory name child at) o w)) [
@@ -38,13 +38,13 @@ bare_stepped w (Unlink directory name at) =
     ]
 bare_stepped w (Rename from old to new at) =
     elim (is_one (child_named w from old) (child_named w to new)) as (λ b.
-    cond b (bare w) (option_map_or (λ child. with_move (bare w) from old to new child (child_named w to new) at) (child_named w from old) (bare w))
-    ≡ bare (cond b w (option_map_or (λ child. with_move w from old to new child (child_named w to new) at) (child_named w from old) w))) [
+    cond b (bare w) (option_map_or (λ child. with_move (bare w) from old (given_name w to new child) (child_named w to new) at) (child_named w from old) (bare w))
+    ≡ bare (cond b w (option_map_or (λ child. with_move w from old (given_name w to new child) (child_named w to new) at) (child_named w from old) w))) [
       | true ↦ refl
-      | false ↦ elim (child_named w from old) as (λ o. option_map_or (λ child. with_move (bare w) from old to new child (child_named w to new) at) o (bare w)
-          ≡ bare (option_map_or (λ child. with_move w from old to new child (child_named w to new) at) o w)) [
+      | false ↦ elim (child_named w from old) as (λ o. option_map_or (λ child. with_move (bare w) from old (given_name w to new child) (child_named w to new) at) o (bare w)
+          ≡ bare (option_map_or (λ child. with_move w from old (given_name w to new child) (child_named w to new) at) o w)) [
             | None ↦ refl
-            | Some child ↦ ap (quiet (with_move w from old to new child (child_named w to new) at)) (none_noted w (Rename from old to new at))
+            | Some child ↦ ap (quiet (with_move w from old (given_name w to new child) (child_named w to new) at)) (none_noted w (Rename from old to new at))
           ]
     ]
 bare_stepped w (Write file offset [] at) = refl
@@ -79,9 +79,9 @@ notes_so w (Unlink directory name at) =
     ]
 notes_so w (Rename from old to new at) =
     elim (is_one (child_named w from old) (child_named w to new)) as (λ b.
-    Notes_so w (cond b w (option_map_or (λ child. with_move w from old to new child (child_named w to new) at) (child_named w from old) w)) (Rename from old to new at)) [
+    Notes_so w (cond b w (option_map_or (λ child. with_move w from old (given_name w to new child) (child_named w to new) at) (child_named w from old) w)) (Rename from old to new at)) [
       | true ↦ inl refl
-      | false ↦ elim (child_named w from old) as (λ o. Notes_so w (option_map_or (λ child. with_move w from old to new child (child_named w to new) at) o w) (Rename from old to new at)) [
+      | false ↦ elim (child_named w from old) as (λ o. Notes_so w (option_map_or (λ child. with_move w from old (given_name w to new child) (child_named w to new) at) o w) (Rename from old to new at)) [
         | None ↦ inl refl
         | Some child ↦ inr refl
       ]

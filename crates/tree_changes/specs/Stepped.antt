@@ -8,7 +8,8 @@ use Rattle.node_tree.specs.Steps.{Step, Add, Link, Unlink, Rename, Write, Resize
 -- the world after a change
 abbrev pub stepped : World → Step → World
 stepped w (Add directory name kind bytes owner group list high at) =
-    with_new w directory name (new_object kind bytes owner group list high w.next_stamp at) at
+    with_new w directory name
+    (new_object kind bytes owner group list high (record { stamp = w.next_stamp; at = at })) at
 stepped w (Link directory name number at) = with_link w directory name number at
 stepped w (Unlink directory name at) = unlinked w directory name at
 stepped w (Rename from old to new at) = renamed w from old to new at

@@ -4,7 +4,7 @@ use Rattle.std.specs.Prelude.{Option}
 use Rattle.std.specs.Option.{option_map_or}
 use Rattle.xdr_wire.specs.Xdr.{Value}
 use Rattle.node_tree.specs.World.{World, child_named, is_one}
-use Rattle.node_tree.specs.Changes.{without_name, with_move}
+use Rattle.node_tree.specs.Changes.{given_name, without_name, with_move}
 use Rattle.node_tree.specs.Notes.{Notes, no_notes, note}
 use Rattle.node_tree.specs.Noted.{noted}
 use Rattle.node_tree.specs.Forms.{spelled}
@@ -39,9 +39,9 @@ stepped_quiet w (Unlink directory name at) quiet =
     ]
 stepped_quiet w (Rename from old to new at) quiet =
     elim (is_one (child_named w from old) (child_named w to new)) as (λ b.
-    IsQuiet (cond b w (option_map_or (λ child. with_move w from old to new child (child_named w to new) at) (child_named w from old) w))) [
+    IsQuiet (cond b w (option_map_or (λ child. with_move w from old (given_name w to new child) (child_named w to new) at) (child_named w from old) w))) [
       | true ↦ quiet
-      | false ↦ elim (child_named w from old) as (λ o. IsQuiet (option_map_or (λ child. with_move w from old to new child (child_named w to new) at) o w)) [
+      | false ↦ elim (child_named w from old) as (λ o. IsQuiet (option_map_or (λ child. with_move w from old (given_name w to new child) (child_named w to new) at) o w)) [
         | None ↦ quiet
         | Some child ↦ none_noted w (Rename from old to new at) quiet
       ]

@@ -4,7 +4,8 @@ use Rattle.std.proofs.lemmas.List.{length-append}
 use Rattle.xdr_wire.specs.Buffer.{Buffer}
 use Rattle.nfs_ops.specs.Given as ops
 use Rattle.nfs_ops.specs.Items.{item_spelling}
-use Rattle.nfs_ops.specs.Results.{Outcome, outcome_item, most}
+use Rattle.nfs_ops.specs.Results.{Outcome, outcome_item}
+use Rattle.nfs_ops.specs.Sizes.{most}
 use Rattle.compound_run.specs.Runs.{spelled}
 use Rattle.compound_run.specs.Says.{PutsWithin, given_outcome}
 use Rattle.compound_run.proofs.getattr.put_attributes.Goals as goal

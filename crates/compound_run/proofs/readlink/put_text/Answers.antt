@@ -6,7 +6,7 @@ use Rattle.xdr_wire.specs.Xdr.{padded}
 use Rattle.xdr_wire.proofs.Filling.{then_behind}
 use Rattle.nfs_ops.specs.Forms.{readlink_size}
 use Rattle.nfs_ops.specs.Results.{Done}
-use Rattle.nfs_ops.specs.declared.op_kind.OpKind.TheVariants as kinds
+use Rattle.nfs_ops.specs.declared.OpKind.TheVariants as kinds
 use Rattle.node_tree.specs.World.{bytes_at, bytes_of}
 use Rattle.compound_run.specs.Runs.{spelled}
 use Rattle.compound_run.proofs.Texts.{text_is_all}

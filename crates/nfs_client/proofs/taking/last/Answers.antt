@@ -1,7 +1,7 @@
 use Rattle.std.proofs.Common.{◌≡◌, Option, Some, None, ℕ, arith}
 use Rattle.std.specs.Prelude.{MatchOption}
 use Rattle.std.proofs.lemmas.List.{nil_from_length}
-use Rattle.nfs_ops.specs.declared.op_result.OpResult.{OpResult}
+use Rattle.nfs_ops.specs.declared.OpResult.{OpResult}
 use Rattle.nfs_client.proofs.Taken.{popped}
 use Rattle.nfs_client.proofs.taking.last.Goals as goal
 

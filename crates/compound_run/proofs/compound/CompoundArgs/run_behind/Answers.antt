@@ -4,7 +4,7 @@ use Rattle.xdr_wire.specs.Buffer.{Fills}
 use Rattle.nfs_types.specs.Status.{number_of}
 use Rattle.nfs_ops.specs.Results.{Done}
 use Rattle.nfs_ops.specs.Views.{sequence_result_value}
-use Rattle.nfs_ops.specs.declared.op_kind.OpKind.TheVariants as kinds
+use Rattle.nfs_ops.specs.declared.OpKind.TheVariants as kinds
 use Rattle.compound_run.specs.Compound.{first_room}
 use Rattle.compound_run.specs.Limits.{REFUSAL_ROOM, REPLY_HEADER}
 use Rattle.compound_run.specs.Runs.{spelled}

@@ -3,7 +3,7 @@ use Rattle.std.proofs.lemmas.List.{length-append}
 use Rattle.nfs_ops.specs.Results.{Done}
 use Rattle.nfs_ops.specs.Views.{sequence_result_value}
 use Rattle.nfs_ops.specs.Rows.{row}
-use Rattle.nfs_ops.specs.declared.op_kind.OpKind.TheVariants as kinds
+use Rattle.nfs_ops.specs.declared.OpKind.TheVariants as kinds
 use Rattle.compound_run.specs.Limits.{REFUSAL_ROOM}
 use Rattle.compound_run.specs.Runs.{spelled}
 use Rattle.compound_run.specs.Views.{context_at}

@@ -7,7 +7,7 @@ use Rattle.access_rows.specs.declared.demand.Demand.{Demand}
 use Rattle.node_tree.specs.World.{name_after}
 use Rattle.node_tree.specs.Sound.{IsSound}
 use Rattle.compound_run.specs.Asking.{sight_of}
-use Rattle.compound_run.specs.Readdir.{entry_of, judged_above}
+use Rattle.compound_run.specs.Operations.Readdir.{entry_of, judged_above}
 use Rattle.compound_run.specs.Listed.{linked}
 use Rattle.compound_run.specs.Views.{context_at}
 use Rattle.compound_run.proofs.Listing.{moved_entry, next_entry_judged}

@@ -1,7 +1,7 @@
 use Rattle.std.proofs.Common.{◌∙◌, ap, sym}
 use Rattle.nfs_ops.specs.Views.{sequence_args_value}
 use Rattle.nfs_ops.specs.Rows.{row}
-use Rattle.nfs_ops.specs.declared.op_kind.OpKind.TheVariants as kinds
+use Rattle.nfs_ops.specs.declared.OpKind.TheVariants as kinds
 use Rattle.session_slots.specs.Registry.{results_at}
 use Rattle.session_slots.specs.Repeating.{Fate, Repeats}
 use Rattle.session_slots.specs.Sequencing.{sequence_begin, sequence_begun}

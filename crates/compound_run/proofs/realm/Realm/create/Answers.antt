@@ -7,14 +7,14 @@ use Rattle.node_tree.specs.Judged.{judged_of}
 use Rattle.node_tree.specs.World.{is_directory_in}
 use Rattle.nfs_ops.specs.Operations.{Known}
 use Rattle.nfs_ops.specs.Parts.{created_name, created_type}
-use Rattle.nfs_ops.specs.declared.op_kind.OpKind.TheVariants as kinds
+use Rattle.nfs_ops.specs.declared.OpKind.TheVariants as kinds
 use Rattle.access_rows.specs.Rows.{first_demands}
 use Rattle.compound_run.specs.Faults.{fault_in}
 use Rattle.compound_run.specs.Sight.{whole, child}
 use Rattle.compound_run.specs.Rows.{first_facts}
 use Rattle.compound_run.specs.Questions.{all_granted, demand_lines}
 use Rattle.compound_run.specs.Meaning.{has_space}
-use Rattle.compound_run.specs.Create.{create, can_make, draft, draft_of, is_own, sent, size_fault, text_fault, type_fault, wanted}
+use Rattle.compound_run.specs.Operations.Create.{create, can_make, draft, draft_of, is_own, sent, size_fault, text_fault, type_fault, wanted}
 use Rattle.compound_run.specs.Views.{context_at, realm_of}
 use Rattle.compound_run.proofs.Behind.{behind_at}
 use Rattle.compound_run.proofs.realm.Realm.create.Goals as goal

@@ -2,7 +2,7 @@ use Rattle.std.proofs.Common.{rules, ◌≡◌, ap, sym}
 use Rattle.std.specs.Prelude.{Ok, Err}
 use Rattle.nfs_ops.specs.Operations.{Known}
 use Rattle.nfs_ops.specs.Views.{create_session_args_value}
-use Rattle.nfs_ops.specs.declared.op_kind.OpKind.TheVariants as kinds
+use Rattle.nfs_ops.specs.declared.OpKind.TheVariants as kinds
 use Rattle.compound_run.specs.CreateSession.{session_made}
 use Rattle.compound_run.specs.Sessions.{told_by}
 use Rattle.compound_run.specs.Views.{realm_of}

@@ -3,7 +3,7 @@ use Rattle.std.specs.Prelude.{Err}
 use Rattle.nfs_ops.specs.Operations.{Known}
 use Rattle.nfs_ops.specs.Results.{Done}
 use Rattle.nfs_ops.specs.Views.{destroy_clientid_args_value}
-use Rattle.nfs_ops.specs.declared.op_kind.OpKind.TheVariants as kinds
+use Rattle.nfs_ops.specs.declared.OpKind.TheVariants as kinds
 use Rattle.session_slots.specs.Destroying.{destroy_client_refusal}
 use Rattle.compound_run.specs.Sessions.{with_registry}
 use Rattle.compound_run.specs.Questions.{told}

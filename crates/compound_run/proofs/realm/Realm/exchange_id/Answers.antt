@@ -2,7 +2,7 @@ use Rattle.std.proofs.Common.{rules, ◌≡◌, refl, ap}
 use Rattle.std.specs.Prelude.{Ok, Err}
 use Rattle.nfs_ops.specs.Operations.{Known}
 use Rattle.nfs_ops.specs.Views.{exchange_id_args_value}
-use Rattle.nfs_ops.specs.declared.op_kind.OpKind.TheVariants as kinds
+use Rattle.nfs_ops.specs.declared.OpKind.TheVariants as kinds
 use Rattle.compound_run.specs.ExchangeId.{exchanged}
 use Rattle.compound_run.specs.Views.{realm_of}
 use Rattle.compound_run.proofs.Acting.{refuses, gives}

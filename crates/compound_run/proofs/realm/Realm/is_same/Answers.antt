@@ -4,7 +4,7 @@ use Rattle.std.specs.Cmp.Lexicographic.{pointwise}
 use Rattle.who_book.specs.Content.{Content}
 use Rattle.nfs_types.specs.Given.{given_values}
 use Rattle.nfs_types.specs.Views.{bitmap_value}
-use Rattle.compound_run.specs.Verify.{is_same}
+use Rattle.compound_run.specs.Operations.Verify.{is_same}
 use Rattle.compound_run.proofs.realm.Realm.is_same.Goals as goal
 
 pub returns-in-Ok-clause-same : goal.returns-in-Ok-clause-same

@@ -4,7 +4,7 @@ use Rattle.std.specs.Option.{option_copied}
 use Rattle.std.specs.Cmp.Lexicographic.{pointwise}
 use Rattle.nfs_ops.specs.Views.{open_args_value}
 use Rattle.compound_run.specs.Asking.{sight_of}
-use Rattle.compound_run.specs.Open as specs
+use Rattle.compound_run.specs.Operations.Open as specs
 use Rattle.compound_run.specs.Stateids.{client_of}
 use Rattle.compound_run.specs.Views.{context_at, open_view}
 use Rattle.compound_run.proofs.OpenFiles.{found_in_view}

@@ -7,7 +7,7 @@ use Rattle.acl_list.specs.declared.entry.Kind.{Kind}
 use Rattle.acl_list.specs.declared.entry.Kind.TheVariants.{File, Directory, Link}
 use Rattle.acl_shape.specs.Inherited.{is_directory}
 use Rattle.nfs_ops.specs.Operations.{Known}
-use Rattle.nfs_ops.specs.declared.op_kind.OpKind.TheVariants as kinds
+use Rattle.nfs_ops.specs.declared.OpKind.TheVariants as kinds
 use Rattle.node_tree.specs.Judged.{judged_of}
 use Rattle.node_tree.specs.Limits.{MAX_LINKS}
 use Rattle.node_tree.specs.World.{World, kind_of, link_count}
@@ -16,7 +16,7 @@ use Rattle.compound_run.specs.Sight.{whole}
 use Rattle.compound_run.specs.Rows.{first_facts}
 use Rattle.compound_run.specs.Questions.{demand_lines}
 use Rattle.compound_run.specs.Meaning.{number_in, there}
-use Rattle.compound_run.specs.Link.{link, is_nameable}
+use Rattle.compound_run.specs.Operations.Link.{link, is_nameable}
 use Rattle.compound_run.specs.Views.{realm_of}
 use Rattle.compound_run.proofs.Behind.{behind_at}
 use Rattle.compound_run.proofs.realm.Realm.link.Goals as goal

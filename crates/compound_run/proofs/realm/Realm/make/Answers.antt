@@ -4,8 +4,8 @@ use Rattle.nfs_types.specs.declared.status.Status.{Status}
 use Rattle.nfs_ops.specs.Views.{create_args_value}
 use Rattle.node_tree.specs.Refusals.{has_left}
 use Rattle.compound_run.specs.Asking.{sight_of}
-use Rattle.compound_run.specs.Create as specs
-use Rattle.compound_run.specs.Create.{list_at}
+use Rattle.compound_run.specs.Operations.Create as specs
+use Rattle.compound_run.specs.Operations.Create.{list_at}
 use Rattle.compound_run.specs.Lists.{new_fits}
 use Rattle.compound_run.specs.Runs.{waits}
 use Rattle.compound_run.specs.declared.filehandles.FileHandles.{FileHandles}

@@ -4,13 +4,13 @@ use Rattle.std.proofs.lemmas.List.{append_assoc}
 use Rattle.who_book.specs.Members.{member}
 use Rattle.nfs_ops.specs.Operations.{Known}
 use Rattle.nfs_ops.specs.Views.{open_args_value}
-use Rattle.nfs_ops.specs.declared.op_kind.OpKind.TheVariants as kinds
+use Rattle.nfs_ops.specs.declared.OpKind.TheVariants as kinds
 use Rattle.node_tree.specs.Judged.{judged_of}
 use Rattle.access_rows.specs.Rows.{first_demands, second_demands}
 use Rattle.compound_run.specs.Sight.{whole}
 use Rattle.compound_run.specs.Rows.{first_facts, opening_facts}
 use Rattle.compound_run.specs.Questions.{demand_lines}
-use Rattle.compound_run.specs.Open.{open_file, last_questions, found, wanted}
+use Rattle.compound_run.specs.Operations.Open.{open_file, last_questions, found, wanted}
 use Rattle.compound_run.specs.Views.{context_at, realm_of}
 use Rattle.compound_run.proofs.Behind.{behind_at}
 use Rattle.compound_run.proofs.Demanding.{held_together}

@@ -4,9 +4,9 @@ use Rattle.nfs_types.specs.declared.status.Status.{Status}
 use Rattle.nfs_ops.specs.Parts.{claim_of}
 use Rattle.nfs_ops.specs.Results.{Done}
 use Rattle.nfs_ops.specs.Views.{open_args_value}
-use Rattle.nfs_ops.specs.declared.op_kind.OpKind.TheVariants as kinds
+use Rattle.nfs_ops.specs.declared.OpKind.TheVariants as kinds
 use Rattle.compound_run.specs.Asking.{sight_of}
-use Rattle.compound_run.specs.Open.{file_in, has_space_for, joined, opening}
+use Rattle.compound_run.specs.Operations.Open.{file_in, has_space_for, joined, opening}
 use Rattle.compound_run.specs.Opening.{placed_stateid}
 use Rattle.compound_run.specs.Runs.{waits}
 use Rattle.compound_run.specs.declared.filehandles.FileHandles.{FileHandles}

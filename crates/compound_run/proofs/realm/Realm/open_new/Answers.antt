@@ -4,7 +4,7 @@ use Rattle.rpc_record.specs.Identity.{Identity}
 use Rattle.nfs_types.specs.declared.status.Status.{Status}
 use Rattle.nfs_ops.specs.Results.{Done}
 use Rattle.nfs_ops.specs.Views.{change_info_value, open_args_value}
-use Rattle.nfs_ops.specs.declared.op_kind.OpKind.TheVariants as kinds
+use Rattle.nfs_ops.specs.declared.OpKind.TheVariants as kinds
 use Rattle.node_tree.specs.Changes.{made, with_new}
 use Rattle.node_tree.specs.Refusals.{has_left}
 use Rattle.node_tree.specs.World.{World}
@@ -13,15 +13,15 @@ use Rattle.nfs_ops.specs.Forms.{change_info}
 use Rattle.nfs_ops.specs.Parts.{claim_of}
 use Rattle.compound_run.specs.Asking.{sight_of}
 use Rattle.acl_list.specs.declared.entry.Kind.TheVariants.{File}
-use Rattle.compound_run.specs.Create.{can_add, is_own, list_at}
+use Rattle.compound_run.specs.Operations.Create.{can_add, is_own, list_at}
 use Rattle.compound_run.specs.Lists.{new_fits}
 use Rattle.compound_run.specs.Realm.{Realm}
 use Rattle.compound_run.specs.Meaning.{at, here}
-use Rattle.compound_run.specs.Open.{change_of, file_in, has_file_space, has_open_space, has_space_for, joined, opened_on, opening, with_open}
-use Rattle.compound_run.specs.Open as specs
+use Rattle.compound_run.specs.Operations.Open.{change_of, file_in, has_file_space, has_open_space, has_space_for, joined, opened_on, opening, with_open}
+use Rattle.compound_run.specs.Operations.Open as specs
 use Rattle.compound_run.specs.Opening.{MakesFile, placed_stateid}
 use Rattle.compound_run.specs.Runs.{waits}
-use Rattle.compound_run.specs.Setattr.{size_fits}
+use Rattle.compound_run.specs.Operations.Setattr.{size_fits}
 use Rattle.compound_run.specs.Sight.{whole}
 use Rattle.compound_run.specs.declared.filehandles.FileHandles.{FileHandles}
 use Rattle.compound_run.specs.Views.{GivesSo, context_at, opens_view, realm_of, settings_in, settings_of, wanted_view, stage, sense}

@@ -1,6 +1,6 @@
 use Rattle.std.proofs.Common.{rules}
 use Rattle.node_tree.specs.World.{bytes_of}
-use Rattle.compound_run.specs.Read.{most_of}
+use Rattle.compound_run.specs.Operations.Read.{most_of}
 use Rattle.compound_run.specs.Runs.{spelled}
 use Rattle.compound_run.proofs.Bytes.{end_is}
 use Rattle.compound_run.proofs.realm.Realm.put_data.Goals as goal

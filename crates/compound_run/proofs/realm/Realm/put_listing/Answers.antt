@@ -1,4 +1,4 @@
-use Rattle.compound_run.specs.Readdir.{listed}
+use Rattle.compound_run.specs.Operations.Readdir.{listed}
 use Rattle.compound_run.proofs.realm.Realm.put_listing.Goals as goal
 
 pub returns-clause-ok : goal.returns-clause-ok

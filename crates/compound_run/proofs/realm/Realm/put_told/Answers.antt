@@ -3,8 +3,8 @@ use Rattle.who_book.specs.Content.{Content}
 use Rattle.nfs_types.specs.Given.{given_set, given_values}
 use Rattle.nfs_types.specs.Views.{bitmap_value}
 use Rattle.nfs_ops.specs.Results.{Done}
-use Rattle.nfs_ops.specs.declared.op_kind.OpKind.TheVariants as kinds
-use Rattle.compound_run.specs.Getattr.{told}
+use Rattle.nfs_ops.specs.declared.OpKind.TheVariants as kinds
+use Rattle.compound_run.specs.Operations.Getattr.{told}
 use Rattle.compound_run.specs.Says.{PutsWithin}
 use Rattle.compound_run.proofs.realm.Realm.put_told.Goals as goal
 

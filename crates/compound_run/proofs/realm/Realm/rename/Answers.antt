@@ -8,11 +8,11 @@ use Rattle.compound_run.specs.Questions.{demand_lines}
 use Rattle.compound_run.specs.Meaning.{at, here, there}
 use Rattle.nfs_ops.specs.Operations.{Known}
 use Rattle.nfs_ops.specs.Parts.{new_name}
-use Rattle.nfs_ops.specs.declared.op_kind.OpKind.TheVariants as kinds
+use Rattle.nfs_ops.specs.declared.OpKind.TheVariants as kinds
 use Rattle.access_rows.specs.Rows.{rename_first, rename_second, second_demands}
 use Rattle.compound_run.specs.Sight.{whole}
 use Rattle.compound_run.specs.Rows.{first_facts, second_facts, second_row}
-use Rattle.compound_run.specs.Rename.{rename, is_movable, moved, replaced}
+use Rattle.compound_run.specs.Operations.Rename.{rename, is_movable, moved, replaced}
 use Rattle.compound_run.specs.Views.{context_at, realm_of}
 use Rattle.compound_run.proofs.Behind.{behind, behind_at, row_refuses}
 use Rattle.compound_run.proofs.Refused.{renamed_same}

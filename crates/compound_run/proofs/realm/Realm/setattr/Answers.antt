@@ -3,7 +3,7 @@ use Rattle.std.specs.Prelude.{Result, Err}
 use Rattle.nfs_types.specs.declared.status.Status.{Status}
 use Rattle.nfs_ops.specs.Views.{setattr_args_value}
 use Rattle.compound_run.specs.Runs.{waits}
-use Rattle.compound_run.specs.Setattr.{setattr}
+use Rattle.compound_run.specs.Operations.Setattr.{setattr}
 use Rattle.compound_run.specs.declared.filehandles.FileHandles.{FileHandles}
 use Rattle.compound_run.specs.Views.{context_at, wanted_view, GivesSo, stage, sense}
 use Rattle.compound_run.proofs.Setting.{not_sized, not_wanted, attributes_refused, attributes_set}

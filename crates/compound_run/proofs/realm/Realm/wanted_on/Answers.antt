@@ -6,7 +6,7 @@ use Rattle.acl_list.specs.declared.entry.Kind.TheVariants.{File}
 use Rattle.nfs_ops.specs.Views.{setattr_args_value}
 use Rattle.node_tree.specs.World.{Object, object}
 use Rattle.compound_run.specs.Asking.{sight_of}
-use Rattle.compound_run.specs.Setattr.{sent_by}
+use Rattle.compound_run.specs.Operations.Setattr.{sent_by}
 use Rattle.compound_run.specs.Sight.{kind_at}
 use Rattle.compound_run.specs.Views.{IsWanted}
 use Rattle.compound_run.proofs.realm.Realm.wanted_on.Goals as goal

@@ -1,7 +1,7 @@
 use Rattle.std.proofs.Common.{refl}
 use Rattle.nfs_types.specs.Views.{bitmap_value}
 use Rattle.nfs_ops.specs.Operations.{Known}
-use Rattle.nfs_ops.specs.declared.op_kind.OpKind.TheVariants as kinds
+use Rattle.nfs_ops.specs.declared.OpKind.TheVariants as kinds
 use Rattle.nfs_client.specs.Access.{NoPath}
 use Rattle.nfs_client.specs.GetAttr.{GetAttrAsks, attributes_in}
 use Rattle.nfs_client.specs.GetAttrViews.{given_value}

@@ -1,6 +1,6 @@
 use Rattle.std.proofs.Common.{ℕ, Vec, refl}
 use Rattle.nfs_ops.specs.Operations.{Known}
-use Rattle.nfs_ops.specs.declared.op_kind.OpKind.TheVariants as kinds
+use Rattle.nfs_ops.specs.declared.OpKind.TheVariants as kinds
 use Rattle.nfs_client.specs.Access.{NoPath}
 use Rattle.nfs_client.specs.ReadLink.{ReadLinkAsks, text_in}
 use Rattle.nfs_client.specs.Streams.{directions_of}
