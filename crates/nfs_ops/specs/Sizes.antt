@@ -7,7 +7,7 @@ use Rattle.nfs_ops.specs.Rows.{row}
 use Rattle.nfs_ops.specs.Results.{Outcome, Done, Refused, SetAttrRefused}
 use Rattle.nfs_ops.specs.declared.OpKind.TheVariants.{GetAttr, Read, ReadDir, ReadLink}
 
--- the most bytes of a value of a form, of those that have a bound
+-- the most bytes of a value of a form that has a bound, and 0 of another form
 abbrev pub greatest : Xdr → ℕ
 greatest uint = 4
 greatest hyper = 8
@@ -32,10 +32,11 @@ has_bound (array max uint) = true
 has_bound (union (arm n void no_more)) = true
 has_bound _ = false
 
--- a result that is only its number and its status; with the count of a bitmap without words
+-- the most bytes of a result that is only its number and its status
 abbrev pub plain_size : ℕ
 plain_size = 8
 
+-- and of one that has the count of a bitmap without words too
 abbrev pub setattr_refused_size : ℕ
 setattr_refused_size = 12
 

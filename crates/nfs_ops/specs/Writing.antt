@@ -9,6 +9,7 @@ pub record Written {E : Type 0} (i : Item) (old new : Buffer) (r : Result (Unit 
   pub in_normal_form : OnOk r (ItemIsNormal i)
   pub puts : Puts old new (item_spelling i) r
 
+-- the same, shut: so the prover carries it from an operation to an equal one
 unfoldable pub IsWritten : {E : Type 0} → Item → Buffer → Buffer → Result (Unit {0}) E → Type 0
 IsWritten i old new r = Written i old new r
 
@@ -19,5 +20,6 @@ pub record WrittenWithin {E : Type 0} (i : Item) (most : ℕ) (old new : Buffer)
   pub fits : most ≤ old.room → IsTrue (is_ok r)
   pub puts : Puts old new (item_spelling i) r
 
+-- the same, shut
 unfoldable pub IsWrittenWithin : {E : Type 0} → Item → ℕ → Buffer → Buffer → Result (Unit {0}) E → Type 0
 IsWrittenWithin i most old new r = WrittenWithin i most old new r
