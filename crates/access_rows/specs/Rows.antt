@@ -1,6 +1,6 @@
 -- The bits that each operation demands of the lists (RFC 8881, sections 6.2.1.3.1 and 18): a line
 -- for each operation, by its number.
-use Rattle.std.specs.Prelude.{ℕ, ◌+◌, ◌%◌, Bool, true, false, ◌==◌, ◌&&◌, ◌||◌, nat_le, if◌then◌else◌, List, [], ◌∷◌}
+use Rattle.std.specs.Prelude.{ℕ, ◌+◌, ◌%◌, Bool, true, false, ◌==◌, ◌||◌, nat_le, if◌then◌else◌, List, [], ◌∷◌}
 use Rattle.std.specs.Prelude.{length, Option, Some, None, bit_or}
 use Rattle.std.specs.List.{list_any}
 use Rattle.std.specs.Option.{option_map_or}
@@ -9,7 +9,7 @@ use Rattle.acl_list.specs.declared.entry.Kind.TheVariants.{File, Directory, Link
 use Rattle.acl_list.specs.declared.mask.TheConstants.{READ_DATA, LIST_DIRECTORY, WRITE_DATA, ADD_FILE, APPEND_DATA}
 use Rattle.acl_list.specs.declared.mask.TheConstants.{ADD_SUBDIRECTORY, EXECUTE, READ_ATTRIBUTES, READ_ACL, WRITE_ACL}
 use Rattle.acl_list.specs.declared.mask.TheConstants.{WRITE_OWNER}
-use Rattle.nfs_types.specs.Attributes.{supported_words}
+use Rattle.nfs_types.specs.Attributes.{numbers_read_by, numbers_set_by, supported_words}
 use Rattle.nfs_types.specs.Common.{without}
 use Rattle.nfs_types.specs.Sets.{has_number}
 use Rattle.nfs_ops.specs.Operations.{Operation, Known}
@@ -76,13 +76,12 @@ most_of_entry = 2
 abbrev pub has_any : List ℕ → List ℕ → Bool
 has_any set numbers = list_any (λ n. has_number set n) numbers
 
--- the attributes read by READ_ATTRIBUTES: change, size, mode, numlinks, owner, owner_group, time_metadata, time_modify
+-- the attributes read by READ_ATTRIBUTES, and by READ_ACL
 abbrev pub governed : List ℕ
-governed = 3 ∷ 4 ∷ 33 ∷ 35 ∷ 36 ∷ 37 ∷ 52 ∷ 53 ∷ []
+governed = numbers_read_by READ_ATTRIBUTES
 
--- the attributes read by READ_ACL: acl, dacl, sacl
 abbrev pub list_giving : List ℕ
-list_giving = 12 ∷ 58 ∷ 59 ∷ []
+list_giving = numbers_read_by READ_ACL
 
 -- all other attributes can be read by everyone
 abbrev pub reading_mask : List ℕ → ℕ
@@ -98,13 +97,12 @@ kept_where false numbers words = without words numbers
 abbrev pub granted_words : (attributes list : Bool) → List ℕ
 granted_words attributes list = kept_where list list_giving (kept_where attributes governed supported_words)
 
--- the attributes set by WRITE_ACL: acl, mode, dacl, sacl
+-- the attributes set by WRITE_ACL, and by WRITE_OWNER
 abbrev pub list_setting : List ℕ
-list_setting = 12 ∷ 33 ∷ 58 ∷ 59 ∷ []
+list_setting = numbers_set_by WRITE_ACL
 
--- the attributes set by WRITE_OWNER: owner, owner_group
 abbrev pub owner_setting : List ℕ
-owner_setting = 36 ∷ 37 ∷ []
+owner_setting = numbers_set_by WRITE_OWNER
 
 -- setting a size takes WRITE_DATA, and APPEND_DATA too where the file grows, or where it isn't known that it doesn't
 abbrev pub sizing_mask : Option ℕ → Option ℕ → ℕ

@@ -12,7 +12,7 @@ use crate::demand::Demand;
 use crate::facts::{First, Object, Second};
 use acl_list::{Kind, mask};
 use nfs_ops::{CreateType, Op, OpenArgs, OpenClaim, OpenHow};
-use nfs_types::Bitmap;
+use nfs_types::{Attribute, Bitmap, READ_BY_ACL, READ_BY_ATTRIBUTES, SET_BY_ACL, SET_BY_OWNER};
 
 /// The first demands of an operation on lists, in order (RFC 8881, sections 6.2.1.3.1 and 18). They
 /// are EXECUTE on the directories of its names, or all demands of an operation without names. It
@@ -133,27 +133,11 @@ fn removal(parent: Option<Object>, target: Option<Object>) -> Option<Demand>
 
 // ---- the bits that depend on the arguments
 
-/// The attributes that are read by READ_ATTRIBUTES (RFC 8881, section 5.6): change, size, mode, numlinks, owner,
-/// owner_group, time_metadata, time_modify.
-const GOVERNED: [u32; 8] = [3, 4, 33, 35, 36, 37, 52, 53];
-
-/// The number of the attribute size.
-const SIZE: u32 = 4;
-
-/// The attributes that are read by READ_ACL: acl, dacl, sacl.
-const LIST_GIVING: [u32; 3] = [12, 58, 59];
-
-/// The attributes that are set by WRITE_ACL: acl, mode, dacl, sacl.
-const LIST_SETTING: [u32; 4] = [12, 33, 58, 59];
-
-/// The attributes that are set by WRITE_OWNER: owner, owner_group.
-const OWNER_SETTING: [u32; 2] = [36, 37];
-
 /// READ_ATTRIBUTES, where one of these attributes takes it.
 fn attributes_mask(set: &Bitmap) -> u32
     ensures { result ≡ if specs.has_any (bitmap_value set.now) specs.governed then mask.READ_ATTRIBUTES else 0 }
 {
-    if has_any(set, &GOVERNED) {
+    if has_any(set, &READ_BY_ATTRIBUTES) {
         mask::READ_ATTRIBUTES
     } else {
         0
@@ -164,7 +148,7 @@ fn attributes_mask(set: &Bitmap) -> u32
 fn list_mask(set: &Bitmap) -> u32
     ensures { result ≡ if specs.has_any (bitmap_value set.now) specs.list_giving then mask.READ_ACL else 0 }
 {
-    if has_any(set, &LIST_GIVING) {
+    if has_any(set, &READ_BY_ACL) {
         mask::READ_ACL
     } else {
         0
@@ -186,10 +170,10 @@ pub fn granted_attributes(attributes: bool, list: bool) -> Bitmap
 {
     let mut set = Bitmap::supported();
     if !attributes {
-        set = set.without(&GOVERNED);
+        set = set.without(&READ_BY_ATTRIBUTES);
     }
     if !list {
-        set = set.without(&LIST_GIVING);
+        set = set.without(&READ_BY_ACL);
     }
     set
 }
@@ -205,17 +189,17 @@ fn has_any(set: &Bitmap, numbers: &[u32]) -> bool
 fn setting_mask(set: &Bitmap, facts: &First) -> u32
     ensures { result ≡ specs.setting_mask (bitmap_value set.now) facts.now }
 {
-    let size = if set.has(SIZE) {
+    let size = if set.has(Attribute::Size.number()) {
         sizing_mask(facts.size, facts.new_size)
     } else {
         0
     };
-    let list = if has_any(set, &LIST_SETTING) {
+    let list = if has_any(set, &SET_BY_ACL) {
         mask::WRITE_ACL
     } else {
         0
     };
-    let owner = if has_any(set, &OWNER_SETTING) {
+    let owner = if has_any(set, &SET_BY_OWNER) {
         mask::WRITE_OWNER
     } else {
         0

@@ -44,6 +44,7 @@ use Rattle.compound_run.specs.Exact.{ArePassed, FailsFirst}
 use Rattle.compound_laws.specs.EntriesExact.{ungoverned, IsExact, AreExact, GivesExactly, before_row, IsUnlisted, MeetsRefused}
 use Rattle.compound_run.proofs.Exactly.{refused_by_row, by_row}
 use Rattle.compound_run.proofs.Listing.{what_refuses}
+use Rattle.compound_laws.proofs.Tested.{all_pass, all_fail}
 
 -- ---- attributes in sets
 
@@ -70,39 +71,39 @@ IsSupported a = has_number supported_words a ≡ true
 -- each of these is supported
 are_supported : AllByRecursion IsSupported governed
 unfolding has_number
-are_supported = (refl, (refl, (refl, (refl, (refl, (refl, (refl, (refl, tt))))))))
+are_supported = all_pass (λ n. has_number supported_words n) governed refl
 
 lists_are_supported : AllByRecursion IsSupported list_giving
 unfolding has_number
-lists_are_supported = (refl, (refl, (refl, tt)))
+lists_are_supported = all_pass (λ n. has_number supported_words n) list_giving refl
+
+others_are_supported : AllByRecursion IsSupported ungoverned
+unfolding has_number
+others_are_supported = all_pass (λ n. has_number supported_words n) ungoverned refl
 
 -- the governed attributes among the permitted ones
 governed_words : (a l : Bool) → AllByRecursion (λ n. has_number (granted_words a l) n ≡ a) governed
 unfolding has_number
-governed_words true true = (refl, (refl, (refl, (refl, (refl, (refl, (refl, (refl, tt))))))))
-governed_words true false = (refl, (refl, (refl, (refl, (refl, (refl, (refl, (refl, tt))))))))
-governed_words false true = (refl, (refl, (refl, (refl, (refl, (refl, (refl, (refl, tt))))))))
-governed_words false false = (refl, (refl, (refl, (refl, (refl, (refl, (refl, (refl, tt))))))))
+governed_words true true = all_pass (λ n. has_number (granted_words true true) n) governed refl
+governed_words true false = all_pass (λ n. has_number (granted_words true false) n) governed refl
+governed_words false true = all_fail (λ n. has_number (granted_words false true) n) governed refl
+governed_words false false = all_fail (λ n. has_number (granted_words false false) n) governed refl
 
 -- acl, dacl and sacl among the permitted ones
 list_words : (a l : Bool) → AllByRecursion (λ n. has_number (granted_words a l) n ≡ l) list_giving
 unfolding has_number
-list_words true true = (refl, (refl, (refl, tt)))
-list_words true false = (refl, (refl, (refl, tt)))
-list_words false true = (refl, (refl, (refl, tt)))
-list_words false false = (refl, (refl, (refl, tt)))
-
-others_are_supported : AllByRecursion IsSupported ungoverned
-unfolding has_number
-others_are_supported = (refl, (refl, (refl, (refl, (refl, (refl, (refl, (refl, (refl, (refl, (refl, (refl, (refl, (refl, (refl, (refl, (refl, (refl, (refl, tt)))))))))))))))))))
+list_words true true = all_pass (λ n. has_number (granted_words true true) n) list_giving refl
+list_words true false = all_fail (λ n. has_number (granted_words true false) n) list_giving refl
+list_words false true = all_pass (λ n. has_number (granted_words false true) n) list_giving refl
+list_words false false = all_fail (λ n. has_number (granted_words false false) n) list_giving refl
 
 -- the attributes that everyone can read among the permitted ones
 other_words : (a l : Bool) → AllByRecursion (λ n. has_number (granted_words a l) n ≡ true) ungoverned
 unfolding has_number
-other_words true true = (refl, (refl, (refl, (refl, (refl, (refl, (refl, (refl, (refl, (refl, (refl, (refl, (refl, (refl, (refl, (refl, (refl, (refl, (refl, tt)))))))))))))))))))
-other_words true false = (refl, (refl, (refl, (refl, (refl, (refl, (refl, (refl, (refl, (refl, (refl, (refl, (refl, (refl, (refl, (refl, (refl, (refl, (refl, tt)))))))))))))))))))
-other_words false true = (refl, (refl, (refl, (refl, (refl, (refl, (refl, (refl, (refl, (refl, (refl, (refl, (refl, (refl, (refl, (refl, (refl, (refl, (refl, tt)))))))))))))))))))
-other_words false false = (refl, (refl, (refl, (refl, (refl, (refl, (refl, (refl, (refl, (refl, (refl, (refl, (refl, (refl, (refl, (refl, (refl, (refl, (refl, tt)))))))))))))))))))
+other_words true true = all_pass (λ n. has_number (granted_words true true) n) ungoverned refl
+other_words true false = all_pass (λ n. has_number (granted_words true false) n) ungoverned refl
+other_words false true = all_pass (λ n. has_number (granted_words false true) n) ungoverned refl
+other_words false false = all_pass (λ n. has_number (granted_words false false) n) ungoverned refl
 
 given_all : (set : List ℕ) (a : ℕ) → has_number supported_words a ≡ true → has_number (given_set set) a ≡ has_number set a
 given_all set a is = shared set supported_words a ∙ ap (λ b. has_number set a && b) is ∙ and_true (has_number set a)

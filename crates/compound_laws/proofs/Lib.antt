@@ -1,4 +1,5 @@
 pub mod Seen
+pub mod Tested
 pub mod Showing
 pub mod Told
 pub mod ListingSeen

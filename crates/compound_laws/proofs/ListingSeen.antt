@@ -35,6 +35,7 @@ use Rattle.compound_run.specs.Operations.{meaning}
 use Rattle.compound_run.specs.Operations.Readdir.{first_refused, permitted, judgment, entry_by, judged_entry, listed, refused_in, fits_in, given_in}
 use Rattle.compound_laws.specs.Disclosure.{DisclosesNothing}
 use Rattle.compound_laws.proofs.Seen.{IsSeen, discloses_nothing}
+use Rattle.compound_laws.proofs.Tested.{all_fail}
 use Rattle.compound_laws.proofs.Showing.{Grants, MaySee, gives_mask, values_seen}
 
 -- ---- the names
@@ -70,8 +71,8 @@ each_without asked words (n ∷ ns) all = (without asked words n all.0, each_wit
 -- where READ_ATTRIBUTES isn't granted no attribute that it governs is returned
 none_given : (l : Bool) → AllByRecursion (λ n. has_number (granted_words false l) n ≡ false) governed
 unfolding has_number
-none_given true = (refl, (refl, (refl, (refl, (refl, (refl, (refl, (refl, tt))))))))
-none_given false = (refl, (refl, (refl, (refl, (refl, (refl, (refl, (refl, tt))))))))
+none_given true = all_fail (λ n. has_number (granted_words false true) n) governed refl
+none_given false = all_fail (λ n. has_number (granted_words false false) n) governed refl
 
 none_governed : (l : Bool) (asked : List ℕ) → has_any (trimmed (common asked (granted_words false l))) governed ≡ false
 none_governed l asked = any_none (λ n. has_number (trimmed (common asked (granted_words false l))) n) governed (each_without asked (granted_words false l) governed (none_given l))

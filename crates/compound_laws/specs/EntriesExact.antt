@@ -5,6 +5,7 @@ use Rattle.std.specs.List.{AllByRecursion}
 use Rattle.xdr_wire.specs.Xdr.{Value}
 use Rattle.rpc_record.specs.Identity.{Identity}
 use Rattle.acl_list.specs.declared.mask.TheConstants.{READ_ATTRIBUTES, READ_ACL}
+use Rattle.nfs_types.specs.Attributes.{numbers_read_by}
 use Rattle.nfs_types.specs.Sets.{has_number}
 use Rattle.nfs_ops.specs.Forms.{entry, readdir_args}
 use Rattle.nfs_ops.specs.Given.{readdir_outcome}
@@ -34,8 +35,7 @@ attributes_in e = set_of (entry_attributes e)
 
 -- the supported attributes that everyone can read
 abbrev pub ungoverned : List ℕ
-ungoverned =
-    0 ∷ 1 ∷ 2 ∷ 5 ∷ 6 ∷ 7 ∷ 8 ∷ 9 ∷ 10 ∷ 11 ∷ 13 ∷ 19 ∷ 20 ∷ 27 ∷ 29 ∷ 30 ∷ 31 ∷ 55 ∷ 75 ∷ []
+ungoverned = numbers_read_by 0
 
 -- The entry is of this name. An attribute that READ_ATTRIBUTES governs is in it exactly where it is
 -- requested and the list of the name's object grants READ_ATTRIBUTES. Each of acl, dacl and sacl is

@@ -10,7 +10,6 @@ pub mod Entering
 pub mod Exactly
 pub mod OpenFiles
 pub mod Running
-pub mod Saying
 pub mod Setting
 pub mod Texts
 pub mod Writing

@@ -14,8 +14,7 @@ use Rattle.xdr_wire.specs.Xdr.{Value}
 use Rattle.xdr_wire.specs.Buffer.{Buffer}
 use Rattle.xdr_wire.specs.declared.writer.Full.{Full}
 use Rattle.nfs_types.specs.Common.{common}
-use Rattle.nfs_types.specs.Given.{given_set}
-use Rattle.nfs_types.specs.declared.facts.ObjectFacts.{ObjectFacts}
+use Rattle.nfs_types.specs.Attributes.{Facts}
 use Rattle.nfs_types.specs.Forms.{trimmed}
 use Rattle.nfs_types.specs.Sets.{has_number}
 use Rattle.nfs_types.specs.declared.status.Status.{Status}
@@ -37,6 +36,7 @@ use Rattle.access_guard.specs.Decisions.{decision, is_granted, answer}
 use Rattle.compound_run.specs.Context.{Context}
 use Rattle.compound_run.specs.Sight.{Sight}
 use Rattle.compound_run.specs.Rows.{object_of}
+use Rattle.compound_run.specs.Values.{facts_at}
 use Rattle.compound_run.specs.Operations.Readdir.{allows, first_refused, permitted, judgment, judgment_of, entry_of, entry_by, judged_entry, names_above, judged_above, listed, listing_of, refused_in, fits_some}
 use Rattle.compound_run.specs.declared.context.Context as code
 use Rattle.compound_run.specs.declared.realm.Realm as realms
@@ -49,7 +49,6 @@ use Rattle.compound_run.specs.Questions.{all_granted, demand_lines}
 use Rattle.compound_run.specs.Runs.{spelled, waits}
 use Rattle.compound_run.specs.Views.{GivesSo, context_at, holding, stage, sense}
 use Rattle.compound_run.specs.Listed.{IsNext, IsNextOf, PutsEntry, refused_of, written_entry}
-use Rattle.compound_run.specs.Says.{SaysAsked}
 use Rattle.compound_run.proofs.Behind.{row_refuses_always}
 
 -- ---- the next entry is the first of those above the cookie
@@ -292,11 +291,11 @@ what_refuses c v directory s d h =
 -- ---- the bytes that the code writes
 
 -- the facts of the entry's object are those of the attributes requested
-pub next_told : (c : Context) (s : Sight) (m n : Name) (number : ℕ) (error : Status) (set : List ℕ) (f : ObjectFacts) (old new : Buffer) (result : Result (Unit {0}) Full) → m ≡ n → number ≡ m.child
-    → SaysAsked s number error set f → PutsEntry (written_entry c.book f m set) old new result → PutsEntry (entry_of c s n error set) old new result
+pub next_told : (c : Context) (s : Sight) (m n : Name) (number : ℕ) (error : Status) (set : List ℕ) (f : Facts) (old new : Buffer) (result : Result (Unit {0}) Full) → m ≡ n → number ≡ m.child
+    → f ≡ facts_at s number error set → PutsEntry (written_entry c.book f m set) old new result → PutsEntry (entry_of c s n error set) old new result
 next_told c s m n number error set f old new result same child tells puts =
     subst (λ (x : Name). PutsEntry (entry_of c s x error set) old new result) same
-    (subst (λ (values : List ℕ). PutsEntry (m.cookie, (m.name, (given_set set, values))) old new result) (subst (λ (k : ℕ). SaysAsked s k error set f) child tells c.book) puts)
+    (subst (λ (g : Facts). PutsEntry (written_entry c.book g m set) old new result) (tells ∙ ap (λ k. facts_at s k error set) child) puts)
 
 -- an object that is there, by its number
 pub object_there : (s : Sight) (number : ℕ) → IsSome (s.kinds number) → (child : Object) × (object_of s (Some number) ≡ Some child)

@@ -21,7 +21,7 @@ pub mod State
 pub mod Views
 pub mod Permits
 pub mod Asking
-pub mod Says
+pub mod GivenViews
 pub mod Written
 pub mod Listed
 pub mod Opening

@@ -5,9 +5,9 @@ use Rattle.xdr_wire.specs.Xdr.{Value}
 use Rattle.xdr_wire.specs.Buffer.{Buffer, Puts}
 use Rattle.xdr_wire.specs.declared.writer.Full.{Full}
 use Rattle.who_book.specs.Content.{Content}
+use Rattle.nfs_types.specs.Attributes.{Facts}
 use Rattle.nfs_types.specs.Given.{given_set, given_values}
 use Rattle.nfs_types.specs.Views.{bitmap_value}
-use Rattle.nfs_types.specs.declared.facts.ObjectFacts.{ObjectFacts}
 use Rattle.nfs_ops.specs.Forms.{entry}
 use Rattle.nfs_ops.specs.Listing.{linked_bytes, IsSendable}
 use Rattle.nfs_types.specs.declared.bitmap.Bitmap.{Bitmap}
@@ -58,7 +58,7 @@ pub record IsEntry (w : World) (cookie : ℕ) : Type 0 where
   pub by : name.cookie ≡ cookie
 
 -- an entry that is written with the facts of its object
-abbrev pub written_entry : Content → ObjectFacts → Name → List ℕ → Value entry
+abbrev pub written_entry : Content → Facts → Name → List ℕ → Value entry
 written_entry book facts n asked = (n.cookie, (n.name, (given_set asked, given_values book facts asked)))
 
 -- an entry after its link

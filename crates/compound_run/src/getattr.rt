@@ -7,7 +7,7 @@ ghost use Rattle.nfs_ops.specs.declared.OpKind.TheVariants as kinds;
 ghost use Rattle.node_tree.specs.World.{object};
 ghost use Rattle.compound_run.specs.Asking.{sight_of};
 ghost use Rattle.compound_run.specs.Operations.Getattr.{getattr, told};
-ghost use Rattle.compound_run.specs.Says.{PutsWithin, given_outcome};
+ghost use Rattle.compound_run.specs.GivenViews.{PutsWithin, given_outcome};
 ghost use Rattle.compound_run.specs.Views.{context_at, Gives, HasRoom, stage};
 
 use crate::context::Context;

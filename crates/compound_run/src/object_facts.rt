@@ -1,10 +1,9 @@
 //! The attributes of an object for GETATTR, READDIR, VERIFY and NVERIFY (RFC 8881, sections 5.6 to 5.8 and 6.2).
-ghost use Rattle.std.specs.Prelude.{◌≡◌, IfSome, is_some, if◌then◌else◌, length, bit_or, true};
+ghost use Rattle.std.specs.Prelude.{◌≡◌, IfSome, is_some, if◌then◌else◌, length, bit_or};
 ghost use Rattle.acl_shape.specs.Inherited.{is_directory};
 ghost use Rattle.compound_run.specs.Asking.{sight_of};
-ghost use Rattle.compound_run.specs.Says.{SaysAsked};
-ghost use Rattle.compound_run.specs.Values.{links_at};
-ghost use Rattle.nfs_types.specs.Sets.{has_number};
+ghost use Rattle.compound_run.specs.Values.{facts_at, if_asked, links_at};
+ghost use Rattle.nfs_types.specs.FactsView.{facts_value};
 ghost use Rattle.nfs_types.specs.Views.{bitmap_value};
 ghost use Rattle.acl_shape.specs.Mode as specs;
 ghost use Rattle.node_tree.specs.Sound.{IsSound};
@@ -12,15 +11,9 @@ ghost use Rattle.node_tree.specs.World.{is_directory_in};
 
 use crate::realm::Realm;
 use acl_shape::mode_of;
-use nfs_types::{Bitmap, ObjectFacts, Status};
+use nfs_types::{Attribute, Bitmap, ObjectFacts, Status};
 use node_tree::Node;
 use std::alloc::Allocator;
-
-/// The number of the attribute mode.
-const MODE: u32 = 33;
-
-/// The number of the attribute numlinks.
-const NUMLINKS: u32 = 35;
 
 /// The number of bytes that a file has, or the text of a link; a directory has none.
 fn size_told<A: Allocator>(node: &Node<A>) -> u64
@@ -31,10 +24,10 @@ fn size_told<A: Allocator>(node: &Node<A>) -> u64
 
 /// The mode of an object, if it is requested, else 0.
 fn mode_if_asked<A: Allocator>(node: &Node<A>, asked: &Bitmap) -> u32
-    ensures { has_number (bitmap_value asked.now) 33 ≡ true →
-        result ≡ bit_or node.now.high (specs.mode_of node.now.list) }
+    ensures { result ≡ if_asked (bitmap_value asked.now) Attribute.Mode
+        (bit_or node.now.high (specs.mode_of node.now.list)) }
 {
-    if asked.has(MODE) {
+    if asked.has(Attribute::Mode.number()) {
         node.high() | mode_of(node.list())
     } else {
         0
@@ -57,9 +50,9 @@ impl<A: Allocator + Copy> Realm<A> {
     /// The number of names that an object has, if it is requested, else 0.
     fn links_if_asked(&self, number: u64, is_directory: bool, asked: &Bitmap) -> u32
         requires { is_directory ≡ is_directory_in (sight_of self.now).kinds number }
-        ensures { has_number (bitmap_value asked.now) 35 ≡ true → result ≡ links_at (sight_of self.now) number }
+        ensures { result ≡ if_asked (bitmap_value asked.now) Attribute.NumLinks (links_at (sight_of self.now) number) }
     {
-        if asked.has(NUMLINKS) {
+        if asked.has(Attribute::NumLinks.number()) {
             self.links_told(number, is_directory)
         } else {
             0
@@ -70,12 +63,13 @@ impl<A: Allocator + Copy> Realm<A> {
     /// mode and the number of links are looked at only where they are requested: a listing has many
     /// objects, and both cost a walk or a search. `None`: it isn't there.
     pub fn facts_for(&self, number: u64, status: Status, asked: &Bitmap) -> Option<ObjectFacts<'_>>
-        ensures tells { IfSome result (SaysAsked (sight_of self.now) number status (bitmap_value asked.now)) }
+        ensures tells { IfSome result (λ facts. facts_value facts ≡
+            facts_at (sight_of self.now) number status (bitmap_value asked.now)) }
         ensures there { is_some result ≡ is_some ((sight_of self.now).kinds number) }
         ensures sound { IsSound self.now.tree.world }
     {
         let node = self.tree.object(number)?;
-        let links = self.links_if_asked(number, node.is_directory(), asked);
+        let numlinks = self.links_if_asked(number, node.is_directory(), asked);
         Some(ObjectFacts {
             kind: node.kind(),
             number,
@@ -84,7 +78,7 @@ impl<A: Allocator + Copy> Realm<A> {
             error: status,
             entries: node.list().as_slice(),
             mode: mode_if_asked(node, asked),
-            links,
+            numlinks,
             owner: node.owner(),
             group: node.group(),
             metadata: node.time_metadata(),

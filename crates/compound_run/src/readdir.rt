@@ -1,6 +1,7 @@
 //! READDIR (RFC 8881, section 18.23).
 ghost use Rattle.std.specs.Prelude.{◌≡◌, ◌≤◌, ◌==◌, ℕ, [], length, bit_and, Some, None, Err, IfErr, IfSome, IsSome};
 ghost use Rattle.std.specs.Prelude.{OnOk};
+ghost use Rattle.nfs_types.specs.FactsView.{facts_value};
 ghost use Rattle.nfs_types.specs.Views.{bitmap_value};
 ghost use Rattle.nfs_ops.specs.ListingSteps.{Lists};
 ghost use Rattle.nfs_ops.specs.Views.{readdir_args_value};
@@ -95,7 +96,8 @@ fn put_entry<'t, A: Allocator, B: Allocator>(
     out: &mut Writer<B>,
 ) -> Result<(), Full>
     requires short { length name.now.name ≤ 0xffff_ffff }
-    ensures { PutsEntry (written_entry book.now facts.now name.now (bitmap_value asked)) out.old out.new result }
+    ensures { PutsEntry (written_entry book.now (facts_value facts.now) name.now (bitmap_value asked)) out.old out.new
+        result }
 {
     let attributes = GivenAttributes { book, facts, asked };
     let bytes = Bytes { bytes: name.name() };

@@ -1,13 +1,12 @@
 //! VERIFY (RFC 8881, section 18.31), and its parts that NVERIFY uses.
 ghost use Rattle.std.specs.Prelude.{◌≡◌, [], nat_eq, Some, None, Err, IsSome, MatchResult};
 ghost use Rattle.std.specs.Cmp.Lexicographic.{pointwise};
-ghost use Rattle.nfs_types.specs.Given.{given_values};
 ghost use Rattle.nfs_types.specs.Views.{attributes_value, bitmap_value};
 ghost use Rattle.nfs_ops.specs.Views.{verify_args_value};
 ghost use Rattle.node_tree.specs.World.{object};
 ghost use Rattle.compound_run.specs.Asking.{sight_of};
 ghost use Rattle.compound_run.specs.Operations.Verify.{verify, is_same, set_fault};
-ghost use Rattle.compound_run.specs.Says.{values_given};
+ghost use Rattle.compound_run.specs.GivenViews.{values_given};
 ghost use Rattle.compound_run.specs.Views.{context_at, GivesOrDelays, HasRoom, stage};
 ghost use Rattle.std.specs.Prelude.{IfOk};
 

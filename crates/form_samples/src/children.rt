@@ -25,13 +25,15 @@ pub struct Children<'a> {
 impl<'a> Entries for Children<'a> {
     ghost use Rattle.who_book.specs.Content.{Content};
     ghost use Rattle.std.specs.Prelude.{map};
+    ghost use Rattle.nfs_types.specs.FactsView.{facts_value};
     ghost use Rattle.form_samples.specs.Children.{judged_as};
     ghost use Rattle.form_samples.specs.declared.children.Child.{Child};
 
     type Refusal = u32;
 
     ghost left = { λ c.
-        map (λ (k : Child). judged_as c.book.now c.facts.now k.cookie k.name.bytes.now k.judged) c.left.now };
+        map (λ (k : Child). judged_as c.book.now (facts_value c.facts.now) k.cookie k.name.bytes.now k.judged)
+        c.left.now };
 
     ghost Kept = { Content };
 

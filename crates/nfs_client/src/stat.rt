@@ -1,9 +1,6 @@
 //! Some attributes of an object, read from what a server gave.
 ghost use Rattle.std.specs.Prelude.{◌≡◌, option_map};
 ghost use Rattle.xdr_wire.specs.Reading.{Gives};
-ghost use Rattle.xdr_wire.specs.Wire.{in_normal_form, within};
-ghost use Rattle.nfs_types.specs.Sent.{chosen_at};
-ghost use Rattle.nfs_types.specs.Sets.{has_number};
 ghost use Rattle.nfs_types.specs.Views.{bitmap_value};
 ghost use Rattle.nfs_client.specs.GetAttrViews.{given_value};
 ghost use Rattle.nfs_client.specs.Stat.{AreOfStat, ReadsStat, stat_at, whole};
@@ -11,9 +8,9 @@ ghost use Rattle.nfs_client.specs.StatViews.{stat_value};
 
 use crate::attributes::Given;
 use nfs_ops::Bytes;
-use nfs_types::{Attribute, Bitmap};
+use nfs_types::{Attribute, Bitmap, read_chosen};
 use std::alloc::Allocator;
-use xdr_wire::{Reader, Wire, XdrFault};
+use xdr_wire::{Reader, XdrFault};
 
 /// A moment: seconds since the epoch, below 0 before it, and nanoseconds on top of them (RFC 8881, section 3.3.1).
 type Time = (i64, u32);
@@ -43,37 +40,21 @@ pub struct Stat<'a> {
     pub modified: Option<Time>,
 }
 
-/// The value of an attribute of this number, if it is given.
-fn taken<'a, T: Wire<'a>>(
-    set: &Bitmap,
-    number: u32,
-    reader: &mut Reader<'a>,
-) -> Result<Option<T>, XdrFault>
-    ensures { Gives (λ o. option_map T.view o) reader.old reader.new result
-        (in_normal_form (within T.normal) (chosen_at (has_number (bitmap_value set.now) number) T.form reader.old)) }
-{
-    if set.has(number) {
-        Ok(Some(T::read(reader)?))
-    } else {
-        Ok(None)
-    }
-}
-
 /// The values of this set, one after the other.
 fn values<'a>(set: &Bitmap, reader: &mut Reader<'a>) -> Result<Stat<'a>, XdrFault>
     ensures { Gives stat_value reader.old reader.new result (stat_at (bitmap_value set.now) reader.old) }
 {
     let mut ahead = reader.fork();
-    let kind = taken(set, Attribute::ObjectType.number(), &mut ahead)?;
-    let change = taken(set, Attribute::Change.number(), &mut ahead)?;
-    let size = taken(set, Attribute::Size.number(), &mut ahead)?;
-    let number = taken(set, Attribute::FileId.number(), &mut ahead)?;
-    let mode = taken(set, Attribute::Mode.number(), &mut ahead)?;
-    let links = taken(set, Attribute::NumLinks.number(), &mut ahead)?;
-    let owner = taken(set, Attribute::Owner.number(), &mut ahead)?;
-    let group = taken(set, Attribute::OwnerGroup.number(), &mut ahead)?;
-    let changed = taken(set, Attribute::TimeMetadata.number(), &mut ahead)?;
-    let modified = taken(set, Attribute::TimeModify.number(), &mut ahead)?;
+    let kind = read_chosen(set, Attribute::ObjectType.number(), &mut ahead)?;
+    let change = read_chosen(set, Attribute::Change.number(), &mut ahead)?;
+    let size = read_chosen(set, Attribute::Size.number(), &mut ahead)?;
+    let number = read_chosen(set, Attribute::FileId.number(), &mut ahead)?;
+    let mode = read_chosen(set, Attribute::Mode.number(), &mut ahead)?;
+    let links = read_chosen(set, Attribute::NumLinks.number(), &mut ahead)?;
+    let owner = read_chosen(set, Attribute::Owner.number(), &mut ahead)?;
+    let group = read_chosen(set, Attribute::OwnerGroup.number(), &mut ahead)?;
+    let changed = read_chosen(set, Attribute::TimeMetadata.number(), &mut ahead)?;
+    let modified = read_chosen(set, Attribute::TimeModify.number(), &mut ahead)?;
     *reader = ahead;
     Ok(Stat {
         kind,

@@ -3,6 +3,7 @@ use Rattle.std.specs.Prelude.{None}
 use Rattle.std.proofs.Common.{inl, inr}
 use Rattle.xdr_wire.specs.Xdr.{Value, uint}
 use Rattle.xdr_wire.specs.Wire.{array_values}
+use Rattle.nfs_types.specs.FactsView.{facts_value}
 use Rattle.nfs_types.specs.Forms.{attributes}
 use Rattle.nfs_types.specs.Given.{given_set, given_values}
 use Rattle.nfs_types.specs.Views.{bitmap_value, attributes_value}
@@ -32,7 +33,8 @@ entry_value e = (e.cookie, (e.name.bytes.now, attributes_value e.attributes))
 
 -- the attributes that are returned of an object
 abbrev pub given_value : GivenAttributes → Value attributes
-given_value g = (given_set (bitmap_value g.asked), given_values g.book.now g.facts.now (bitmap_value g.asked))
+given_value g =
+    (given_set (bitmap_value g.asked), given_values g.book.now (facts_value g.facts.now) (bitmap_value g.asked))
 
 abbrev pub given_entry_value : GivenEntry → Value entry
 given_entry_value e = (e.cookie, (e.name.bytes.now, given_value e.attributes))

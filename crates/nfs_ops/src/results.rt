@@ -31,42 +31,9 @@ fn is_whole<const N: usize>(bytes: &[u8; N])
     let _bytes = *bytes;
 }
 
-/// Writes a refusal of this number. SETATTR has an empty bitmap after its status.
-fn write_refused<A: Allocator>(
-    number: u32,
-    refusal: u32,
-    writer: &mut Writer<A>,
-) -> Result<(), Full>
-    ensures has_spelling { OnOk result (ItemHasSpelling (outcome_item (refused number refusal))) }
-    ensures in_normal_form { OnOk result (ItemIsNormal (outcome_item (refused number refusal))) }
-    ensures fits { most (refused number refusal) ≤ writer.old.room → IsTrue (is_ok result) }
-    ensures puts { Puts writer.old writer.new (item_spelling (outcome_item (refused number refusal))) result }
-{
-    if number == OP_SETATTR {
-        let set = Bitmap::empty();
-        (OP_SETATTR, (refusal, set)).write(writer)
-    } else {
-        (number, refusal).write(writer)
-    }
-}
-
-/// Writes a refusal of this number with the number of its status.
-#[tactic(auto, unfolding(crate::specs::Writing::IsWrittenWithin))]
-fn put_refusal<A: Allocator>(
-    number: u32,
-    status: Status,
-    writer: &mut Writer<A>,
-) -> Result<(), Full>
-    ensures { IsWrittenWithin (outcome_item (refused number (specs.refusal status)))
-        (most (refused number (specs.refusal status))) writer.old writer.new result }
-{
-    write_refused(number, refusal(status), writer)
-}
-
 /// Writes that the operation of this number has this status, and not OK: where it is OK,
-/// SERVERFAULT stands there. `Full` exactly where the room is less than that takes, at most 12
-/// bytes; then nothing is written.
-#[tactic(auto, unfolding(crate::specs::Writing::IsWrittenWithin))]
+/// SERVERFAULT stands there. SETATTR has an empty bitmap after its status. `Full` exactly where the
+/// room is less than that takes, at most 12 bytes; then nothing is written.
 pub fn write_refusal<A: Allocator>(
     number: u32,
     status: Status,
@@ -78,7 +45,26 @@ pub fn write_refusal<A: Allocator>(
     ensures puts { Puts writer.old writer.new (item_spelling (outcome_item (refused number (specs.refusal status))))
         result }
 {
-    put_refusal(number, status, writer)
+    let refusal = refusal(status);
+    if number == OP_SETATTR {
+        let set = Bitmap::empty();
+        (OP_SETATTR, (refusal, set)).write(writer)
+    } else {
+        (number, refusal).write(writer)
+    }
+}
+
+/// Writes a refusal, as the arms of [`put_result`] say it.
+#[tactic(auto, unfolding(crate::specs::Writing::IsWrittenWithin))]
+fn put_refusal<A: Allocator>(
+    number: u32,
+    status: Status,
+    writer: &mut Writer<A>,
+) -> Result<(), Full>
+    ensures { IsWrittenWithin (outcome_item (refused number (specs.refusal status)))
+        (most (refused number (specs.refusal status))) writer.old writer.new result }
+{
+    write_refusal(number, status, writer)
 }
 
 /// Writes number, status OK and a result that takes no more bytes than its form says.

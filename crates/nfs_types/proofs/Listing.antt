@@ -10,8 +10,7 @@ use Rattle.xdr_wire.specs.Buffer.{Buffer, Appends, Puts}
 use Rattle.xdr_wire.proofs.Going.{Going, step, cut_back}
 use Rattle.acl_list.specs.declared.entry.Entry.{Entry}
 use Rattle.who_book.specs.Content.{Content}
-use Rattle.nfs_types.specs.Attributes.{ace, acl, acl41}
-use Rattle.nfs_types.specs.Given.{ace_of}
+use Rattle.nfs_types.specs.Attributes.{ace, ace_of, acl, acl41}
 
 abbrev pub entry_bytes : Content → Entry → List ℕ
 entry_bytes book e = spelling ace (ace_of book e)

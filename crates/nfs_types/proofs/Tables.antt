@@ -67,9 +67,9 @@ pub supported_are : (n : ℕ) → has_number supported_words n ≡ list_any (λ 
 unfolding has_number
 supported_are = are_picked supported_words (λ a. true) (omega arith) refl
 
-pub settable_are : (n : ℕ) → has_number settable_words n ≡ list_any (λ a. (row a).settable && nat_eq (number_of a) n) all
+pub settable_are : (n : ℕ) → has_number settable_words n ≡ list_any (λ a. not (nat_eq (row a).set_by 0) && nat_eq (number_of a) n) all
 unfolding has_number
-settable_are = are_picked settable_words (λ a. (row a).settable) (omega arith) refl
+settable_are = are_picked settable_words (λ a. not (nat_eq (row a).set_by 0)) (omega arith) refl
 
 and_test : (x y r : ℕ) → x < 2 → y < 2 → r ≡ min x y → nat_eq r 1 ≡ nat_eq x 1 && nat_eq y 1
 and_test x y r p q e = grind (arith, nat_tests)

@@ -1,9 +1,26 @@
--- The attributes: numbers, types and whether they can be set (RFC 8881, sections 5.6 to 5.8 and 6.2; RFC 5662).
-use Rattle.std.specs.Prelude.{ℕ, Bool, true, false, not, ◌||◌, List, [], ◌∷◌}
+-- The attributes: their numbers, who can read and set them, and the type and value of each by the facts of an object
+-- (RFC 8881, sections 5.6 to 5.8 and 6.2; RFC 5662).
+use Rattle.std.specs.Prelude.{ℕ, Bool, true, false, not, ◌==◌, ◌||◌, List, [], ◌∷◌, filter, map}
 use Rattle.std.specs.List.{list_all, range_with_len}
-use Rattle.xdr_wire.specs.Xdr.{Xdr, uint, hyper, boolean, opaque, fields, array}
+use Rattle.xdr_wire.specs.Xdr.{Xdr, Value, uint, hyper, boolean, opaque, fields, array}
+use Rattle.acl_list.specs.Kinds.{kind_number}
+use Rattle.acl_list.specs.declared.entry.Entry.{Entry}
+use Rattle.acl_list.specs.declared.entry.Kind.{Kind}
+use Rattle.acl_list.specs.declared.entry.Kind.TheVariants as kind
+use Rattle.acl_list.specs.declared.mask.TheConstants.{READ_ATTRIBUTES, READ_ACL, WRITE_DATA, WRITE_ACL, WRITE_OWNER}
+use Rattle.acl_shape.specs.Parts.{part_of}
+use Rattle.acl_shape.specs.declared.part.Part.TheVariants as parts
+use Rattle.who_book.specs.Content.{Content}
+use Rattle.who_book.specs.Spelling.{principal_text, who_text}
+use Rattle.who_book.specs.declared.kind.NameKind.TheVariants as name
 use Rattle.nfs_types.specs.Forms.{bitmap, handle, time}
+use Rattle.nfs_types.specs.Handles.{object_handle}
+use Rattle.nfs_types.specs.MomentView.{moment_value}
+use Rattle.nfs_types.specs.Name.{MAX_NAME}
 use Rattle.nfs_types.specs.Sets.{has_number}
+use Rattle.nfs_types.specs.Status as status
+use Rattle.nfs_types.specs.declared.moment.Moment.{Moment}
+use Rattle.nfs_types.specs.declared.status.Status.{Status}
 use Rattle.nfs_types.specs.declared.attribute.Attribute.{Attribute}
 use Rattle.nfs_types.specs.declared.attribute.Attribute.TheVariants.{SupportedAttrs, ObjectType, FhExpireType, Change}
 use Rattle.nfs_types.specs.declared.attribute.Attribute.TheVariants.{Size, LinkSupport, SymlinkSupport, NamedAttr, Fsid}
@@ -33,54 +50,57 @@ acl = array 0xffff_ffff ace
 abbrev pub acl41 : Xdr
 acl41 = fields (uint ∷ acl ∷ [])
 
+-- An attribute's number, and the bits that a caller must be granted to read it and to set it. Where the first is 0
+-- everyone can read it, and where the second is 0 it can't be set.
 pub record Row : Type 0 where
   pub number : ℕ
-  pub form : Xdr
-  pub settable : Bool
+  pub read_by : ℕ
+  pub set_by : ℕ
 
-abbrev pub read_only : ℕ → Xdr → Row
-read_only number form = record { number = number; form = form; settable = false }
+abbrev pub read_by : ℕ → ℕ → Row
+read_by bit number = record { number = number; read_by = bit; set_by = 0 }
 
-abbrev pub settable : ℕ → Xdr → Row
-settable number form = record { number = number; form = form; settable = true }
+abbrev pub read_by_all : ℕ → Row
+read_by_all number = read_by 0 number
 
+abbrev pub set_by : ℕ → Row → Row
+set_by bit r = record r { set_by = bit }
+
+-- the rows; to set a size takes APPEND_DATA too where the file grows
 abbrev pub row : Attribute → Row
-row SupportedAttrs = read_only 0 bitmap
-row ObjectType = read_only 1 uint
-row FhExpireType = read_only 2 uint
-row Change = read_only 3 hyper
-row Size = settable 4 hyper
-row LinkSupport = read_only 5 boolean
-row SymlinkSupport = read_only 6 boolean
-row NamedAttr = read_only 7 boolean
-row Fsid = read_only 8 fsid
-row UniqueHandles = read_only 9 boolean
-row LeaseTime = read_only 10 uint
-row RdattrError = read_only 11 uint
-row Acl = settable 12 acl
-row AclSupport = read_only 13 uint
-row FileHandle = read_only 19 handle
-row FileId = read_only 20 hyper
-row MaxFileSize = read_only 27 hyper
-row MaxName = read_only 29 uint
-row MaxRead = read_only 30 hyper
-row MaxWrite = read_only 31 hyper
-row Mode = settable 33 uint
-row NumLinks = read_only 35 uint
-row Owner = settable 36 text
-row OwnerGroup = settable 37 text
-row TimeMetadata = read_only 52 time
-row TimeModify = read_only 53 time
-row MountedOnFileId = read_only 55 hyper
-row Dacl = settable 58 acl41
-row Sacl = settable 59 acl41
-row SuppattrExclcreat = read_only 75 bitmap
+row SupportedAttrs = read_by_all 0
+row ObjectType = read_by_all 1
+row FhExpireType = read_by_all 2
+row Change = read_by READ_ATTRIBUTES 3
+row Size = set_by WRITE_DATA (read_by READ_ATTRIBUTES 4)
+row LinkSupport = read_by_all 5
+row SymlinkSupport = read_by_all 6
+row NamedAttr = read_by_all 7
+row Fsid = read_by_all 8
+row UniqueHandles = read_by_all 9
+row LeaseTime = read_by_all 10
+row RdattrError = read_by_all 11
+row Acl = set_by WRITE_ACL (read_by READ_ACL 12)
+row AclSupport = read_by_all 13
+row FileHandle = read_by_all 19
+row FileId = read_by_all 20
+row MaxFileSize = read_by_all 27
+row MaxName = read_by_all 29
+row MaxRead = read_by_all 30
+row MaxWrite = read_by_all 31
+row Mode = set_by WRITE_ACL (read_by READ_ATTRIBUTES 33)
+row NumLinks = read_by READ_ATTRIBUTES 35
+row Owner = set_by WRITE_OWNER (read_by READ_ATTRIBUTES 36)
+row OwnerGroup = set_by WRITE_OWNER (read_by READ_ATTRIBUTES 37)
+row TimeMetadata = read_by READ_ATTRIBUTES 52
+row TimeModify = read_by READ_ATTRIBUTES 53
+row MountedOnFileId = read_by_all 55
+row Dacl = set_by WRITE_ACL (read_by READ_ACL 58)
+row Sacl = set_by WRITE_ACL (read_by READ_ACL 59)
+row SuppattrExclcreat = read_by_all 75
 
 abbrev pub number_of : Attribute → ℕ
 number_of a = (row a).number
-
-abbrev pub form_of : Attribute → Xdr
-form_of a = (row a).form
 
 -- all attributes, by rising number
 abbrev pub all : List Attribute
@@ -90,6 +110,13 @@ all =
     ∷ LeaseTime ∷ RdattrError ∷ Acl ∷ AclSupport ∷ FileHandle ∷ FileId ∷ MaxFileSize ∷ MaxName ∷ MaxRead ∷ MaxWrite
     ∷ Mode ∷ NumLinks ∷ Owner ∷ OwnerGroup ∷ TimeMetadata ∷ TimeModify ∷ MountedOnFileId ∷ Dacl ∷ Sacl
     ∷ SuppattrExclcreat ∷ []
+
+-- the numbers of the attributes that are read, and of those that are set, by this bit
+abbrev pub numbers_read_by : ℕ → List ℕ
+numbers_read_by bit = map number_of (filter (λ a. (row a).read_by == bit) all)
+
+abbrev pub numbers_set_by : ℕ → List ℕ
+numbers_set_by bit = map number_of (filter (λ a. (row a).set_by == bit) all)
 
 -- the words of the set of all attributes, and of the set of those that can be set
 abbrev pub supported_words : List ℕ
@@ -108,3 +135,71 @@ stays_within set other n = not (has_number set n) || has_number other n
 
 abbrev pub is_within : List ℕ → List ℕ → Bool
 is_within set other = list_all (stays_within set other) numbers
+
+-- ---- the values
+
+-- the facts of an object that its attributes are made of; error is the reason that rdattr_error gives
+pub record Facts : Type 0 where
+  pub kind : Kind
+  pub number : ℕ
+  pub change : ℕ
+  pub size : ℕ
+  pub error : Status
+  pub list : List Entry
+  pub mode : ℕ
+  pub numlinks : ℕ
+  pub owner : ℕ
+  pub group : ℕ
+  pub metadata : Moment
+  pub modify : Moment
+
+-- nfs_ftype4
+abbrev pub type_number : Kind → ℕ
+type_number kind.File = 1
+type_number kind.Directory = 2
+type_number kind.Link = 5
+
+-- an entry as it is sent
+abbrev pub ace_of : Content → Entry → Value ace
+ace_of book e = (kind_number e.kind, (e.flags, (e.mask, who_text book e.who)))
+
+-- a value, and its type
+pub record Typed : Type 0 where
+  pub form : Xdr
+  pub value : Value form
+
+abbrev pub typed : (t : Xdr) → Value t → Typed
+typed t value = record { form = t; value = value }
+
+-- the type and the value of each attribute
+abbrev pub value_of : Content → Facts → Attribute → Typed
+value_of book o SupportedAttrs = typed bitmap supported_words
+value_of book o ObjectType = typed uint (type_number o.kind)
+value_of book o FhExpireType = typed uint 0
+value_of book o Change = typed hyper o.change
+value_of book o Size = typed hyper o.size
+value_of book o LinkSupport = typed boolean true
+value_of book o SymlinkSupport = typed boolean true
+value_of book o NamedAttr = typed boolean false
+value_of book o Fsid = typed fsid (1, 0)
+value_of book o UniqueHandles = typed boolean true
+value_of book o LeaseTime = typed uint 90
+value_of book o RdattrError = typed uint (status.number_of o.error)
+value_of book o Acl = typed acl (map (ace_of book) o.list)
+value_of book o AclSupport = typed uint 15
+value_of book o FileHandle = typed handle (object_handle o.number)
+value_of book o FileId = typed hyper o.number
+value_of book o MaxFileSize = typed hyper 1048576
+value_of book o MaxName = typed uint MAX_NAME
+value_of book o MaxRead = typed hyper 32768
+value_of book o MaxWrite = typed hyper 61440
+value_of book o Mode = typed uint o.mode
+value_of book o NumLinks = typed uint o.numlinks
+value_of book o Owner = typed text (principal_text name.User book o.owner)
+value_of book o OwnerGroup = typed text (principal_text name.Group book o.group)
+value_of book o TimeMetadata = typed time (moment_value o.metadata)
+value_of book o TimeModify = typed time (moment_value o.modify)
+value_of book o MountedOnFileId = typed hyper o.number
+value_of book o Dacl = typed acl41 (0, map (ace_of book) (part_of parts.Dacl o.list))
+value_of book o Sacl = typed acl41 (0, map (ace_of book) (part_of parts.Sacl o.list))
+value_of book o SuppattrExclcreat = typed bitmap []

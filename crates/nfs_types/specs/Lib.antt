@@ -12,6 +12,8 @@ pub mod SentFaults
 pub mod MomentView
 pub mod Views
 pub mod Common
+pub mod FactsView
+pub mod Writing
 pub mod Given
 pub mod Seen
 pub mod SeenViews

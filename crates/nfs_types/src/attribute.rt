@@ -1,5 +1,20 @@
-//! The attributes (RFC 8881, section 5).
-ghost use Rattle.std.specs.Prelude.{◌≡◌};
+//! The attributes: their numbers and sets, and how the value of each is written (RFC 8881, section 5).
+ghost use Rattle.std.specs.Prelude.{◌≡◌, ◌≤◌, length};
+ghost use Rattle.xdr_wire.specs.Xdr.{spelling};
+ghost use Rattle.who_book.specs.Spelling.{principal_text};
+ghost use Rattle.nfs_types.specs.Attributes.{text, type_number, typed};
+ghost use Rattle.nfs_types.specs.Writing.{IsWritten};
+
+use crate::acl::{write_list, write_part_of_list};
+use crate::bitmap::Bitmap;
+use crate::handle::Handle;
+use crate::moment::Moment;
+use crate::status::Status;
+use acl_list::{Entry, Kind};
+use acl_shape::Part;
+use std::alloc::Allocator;
+use who_book::{Book, NameKind};
+use xdr_wire::{Full, Spell, Writer};
 
 /// The attributes that are supported (RFC 8881, sections 5.6 to 5.8 and 6.2), each with its number.
 #[derive(Clone, Copy, Debug, PartialEq, Eq)]
@@ -100,6 +115,42 @@ pub const ALL: [Attribute; 30] = [
     Attribute::SuppattrExclcreat,
 ];
 
+/// The words of the set of all attributes.
+pub(crate) const SUPPORTED: [u32; 8] = [0xe818_3fff, 0x0cb0_003a, 0x0000_0800, 0, 0, 0, 0, 0];
+
+/// The words of the set of the attributes that can be set.
+pub(crate) const SETTABLE: [u32; 8] = [0x0000_1010, 0x0c00_0032, 0, 0, 0, 0, 0, 0];
+
+/// The numbers of the attributes that are read by READ_ATTRIBUTES (RFC 8881, section 6.2.1.3.1).
+pub const READ_BY_ATTRIBUTES: [u32; 8] = [
+    Attribute::Change as u32,
+    Attribute::Size as u32,
+    Attribute::Mode as u32,
+    Attribute::NumLinks as u32,
+    Attribute::Owner as u32,
+    Attribute::OwnerGroup as u32,
+    Attribute::TimeMetadata as u32,
+    Attribute::TimeModify as u32,
+];
+
+/// The numbers of the attributes that are read by READ_ACL.
+pub const READ_BY_ACL: [u32; 3] = [
+    Attribute::Acl as u32,
+    Attribute::Dacl as u32,
+    Attribute::Sacl as u32,
+];
+
+/// The numbers of the attributes that are set by WRITE_ACL.
+pub const SET_BY_ACL: [u32; 4] = [
+    Attribute::Acl as u32,
+    Attribute::Mode as u32,
+    Attribute::Dacl as u32,
+    Attribute::Sacl as u32,
+];
+
+/// The numbers of the attributes that are set by WRITE_OWNER.
+pub const SET_BY_OWNER: [u32; 2] = [Attribute::Owner as u32, Attribute::OwnerGroup as u32];
+
 impl Attribute {
     ghost use Rattle.nfs_types.specs.Attributes.{number_of};
 
@@ -108,5 +159,117 @@ impl Attribute {
         ensures { result ≡ number_of self }
     {
         self as u32
+    }
+}
+
+/// The facts of an object that GETATTR and READDIR return, lent.
+#[derive(Clone, Copy, Debug)]
+pub struct ObjectFacts<'a> {
+    /// The type of the object.
+    pub kind: Kind,
+    /// The number of the object, of which its filehandle and its file ids are made.
+    pub number: u64,
+    /// A number that each change of the object makes larger.
+    pub change: u64,
+    /// How many bytes a file or a link text has; 0 of a directory.
+    pub size: u64,
+    /// Why READDIR returns less than was requested, else `Ok`.
+    pub error: Status,
+    /// The list, of at most 64 entries.
+    pub entries: &'a [Entry],
+    /// The mode: its high bits, and the mode that the list stands for.
+    pub mode: u32,
+    /// How many names the object has.
+    pub numlinks: u32,
+    /// The number of the owner.
+    pub owner: u32,
+    /// The number of the owner's group.
+    pub group: u32,
+    /// The time of the last change.
+    pub metadata: Moment,
+    /// The time of the last change of the content.
+    pub modify: Moment,
+    ghost few: { length entries.now ≤ 64 },
+}
+
+/// The number of the type, `nfs_ftype4`.
+fn number_of_type(kind: Kind) -> u32
+    ensures { result ≡ type_number kind }
+{
+    match kind {
+        Kind::File => 1,
+        Kind::Directory => 2,
+        Kind::Link => 5,
+    }
+}
+
+/// Writes the text of a user or a group. It stands alone: its text takes 200 bytes of the stack, and
+/// no other attribute is to make room for them.
+#[tactic(auto, unfolding(crate::specs::Writing::IsWritten))]
+fn put_principal<A: Allocator>(
+    book: &Book,
+    kind: NameKind,
+    number: u32,
+    writer: &mut Writer<A>,
+) -> Result<(), Full>
+    ensures { IsWritten (typed text (principal_text kind book.now number)) writer.old writer.new result }
+{
+    writer.put_opaque(book.spell_principal(kind, number).as_bytes())
+}
+
+/// Writes a value of at most 16,384 bytes.
+#[tactic(auto, unfolding(crate::specs::Writing::IsWritten))]
+fn put<T: Spell, A: Allocator>(value: T, writer: &mut Writer<A>) -> Result<(), Full>
+    requires { length (spelling T.form (T.view value)) ≤ 16384 }
+    ensures { IsWritten (typed T.form (T.view value)) writer.old writer.new result }
+{
+    value.write(writer)
+}
+
+impl<'a> ObjectFacts<'a> {
+    ghost use Rattle.nfs_types.specs.FactsView.{facts_value};
+    ghost use Rattle.nfs_types.specs.Attributes.{value_of};
+
+    /// Writes the value of an attribute.
+    pub(crate) fn write<A: Allocator>(
+        &self,
+        book: &Book,
+        attribute: Attribute,
+        writer: &mut Writer<A>,
+    ) -> Result<(), Full>
+        ensures { IsWritten (value_of book.now (facts_value self.now) attribute) writer.old writer.new result }
+    {
+        match attribute {
+            Attribute::SupportedAttrs => put(Bitmap::supported(), writer),
+            Attribute::ObjectType => put(number_of_type(self.kind), writer),
+            Attribute::FhExpireType => put(0u32, writer),
+            Attribute::Change => put(self.change, writer),
+            Attribute::Size => put(self.size, writer),
+            Attribute::LinkSupport => put(true, writer),
+            Attribute::SymlinkSupport => put(true, writer),
+            Attribute::NamedAttr => put(false, writer),
+            Attribute::Fsid => put((1u64, 0u64), writer),
+            Attribute::UniqueHandles => put(true, writer),
+            Attribute::LeaseTime => put(90u32, writer),
+            Attribute::RdattrError => put(self.error.number(), writer),
+            Attribute::Acl => write_list(book, self.entries, writer),
+            Attribute::AclSupport => put(15u32, writer),
+            Attribute::FileHandle => put(Handle::Object(self.number), writer),
+            Attribute::FileId => put(self.number, writer),
+            Attribute::MaxFileSize => put(1_048_576u64, writer),
+            Attribute::MaxName => put(255u32, writer),
+            Attribute::MaxRead => put(32_768u64, writer),
+            Attribute::MaxWrite => put(61_440u64, writer),
+            Attribute::Mode => put(self.mode, writer),
+            Attribute::NumLinks => put(self.numlinks, writer),
+            Attribute::Owner => put_principal(book, NameKind::User, self.owner, writer),
+            Attribute::OwnerGroup => put_principal(book, NameKind::Group, self.group, writer),
+            Attribute::TimeMetadata => put(self.metadata, writer),
+            Attribute::TimeModify => put(self.modify, writer),
+            Attribute::MountedOnFileId => put(self.number, writer),
+            Attribute::Dacl => write_part_of_list(book, self.entries, Part::Dacl, writer),
+            Attribute::Sacl => write_part_of_list(book, self.entries, Part::Sacl, writer),
+            Attribute::SuppattrExclcreat => put(Bitmap::empty(), writer),
+        }
     }
 }

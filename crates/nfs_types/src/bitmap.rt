@@ -2,6 +2,7 @@
 ghost use Rattle.std.specs.Prelude.{◌≡◌, ◌≤◌, ◌<◌, ◌||◌, ◌==◌, ℕ, [], ◌∷◌, length};
 ghost use Rattle.nfs_types.specs.Forms as forms;
 
+use crate::attribute::{SETTABLE, SUPPORTED};
 use std::alloc::Allocator;
 use xdr_wire::{Full, Reader, Spell, Wire, Writer, XdrFault};
 
@@ -98,9 +99,7 @@ impl Bitmap {
     pub fn supported() -> Self
         ensures { bitmap_value result ≡ specs.supported_words }
     {
-        Bitmap {
-            words: [0xe818_3fff, 0x0cb0_003a, 0x0000_0800, 0, 0, 0, 0, 0],
-        }
+        Bitmap { words: SUPPORTED }
     }
 
     /// The set of these first two words.
@@ -134,9 +133,7 @@ impl Bitmap {
     pub fn settable() -> Self
         ensures { bitmap_value result ≡ specs.settable_words }
     {
-        Bitmap {
-            words: [0x0000_1010, 0x0c00_0032, 0, 0, 0, 0, 0, 0],
-        }
+        Bitmap { words: SETTABLE }
     }
 }
 

@@ -1,7 +1,10 @@
 //! Laws that follow from the definitions alone.
-ghost use Rattle.std.specs.Prelude.{◌≡◌, ◌==◌, ◌&&◌, ℕ, true, List, Ok, map};
+ghost use Rattle.std.specs.Prelude.{◌≡◌, ◌==◌, ◌&&◌, ℕ, true, not, List, Ok, map};
 ghost use Rattle.std.specs.List.{list_any};
-ghost use Rattle.nfs_types.specs.Attributes.{all, number_of, row, settable_words, supported_words};
+ghost use Rattle.acl_list.specs.declared.mask.TheConstants as mask;
+ghost use Rattle.nfs_types.specs.Attributes.{all, number_of, numbers_read_by, numbers_set_by, row, settable_words};
+ghost use Rattle.nfs_types.specs.Attributes.{supported_words};
+ghost use Rattle.nfs_types.specs.declared.attribute.TheConstants as numbers;
 ghost use Rattle.nfs_types.specs.Given.{given_set};
 ghost use Rattle.nfs_types.specs.Rising.{rises};
 ghost use Rattle.nfs_types.specs.Seen.{Seen, seen_of, shown_set, shown_values};
@@ -9,12 +12,17 @@ ghost use Rattle.nfs_types.specs.Sendable.{IsSendable};
 ghost use Rattle.nfs_types.specs.Sets.{has_number};
 
 /// The words of the supported attributes are the numbers of the table. Those of the settable ones
-/// are the numbers of its rows that can be set. The table stands by rising number.
+/// are the numbers of its rows that can be set. The table stands by rising number. The numbers that
+/// a bit lets read or set are those of its rows that name the bit.
 pub fn sets_are_the_table()
     ensures supported { (n : ℕ) → has_number supported_words n ≡ list_any (λ a. number_of a == n) all }
     ensures rising { rises (map number_of all) ≡ true }
     ensures settable { (n : ℕ) → has_number settable_words n ≡
-        list_any (λ a. (row a).settable && (number_of a == n)) all }
+        list_any (λ a. not ((row a).set_by == 0) && (number_of a == n)) all }
+    ensures read_by_attributes { numbers.READ_BY_ATTRIBUTES ≡ numbers_read_by mask.READ_ATTRIBUTES }
+    ensures read_by_acl { numbers.READ_BY_ACL ≡ numbers_read_by mask.READ_ACL }
+    ensures set_by_acl { numbers.SET_BY_ACL ≡ numbers_set_by mask.WRITE_ACL }
+    ensures set_by_owner { numbers.SET_BY_OWNER ≡ numbers_set_by mask.WRITE_OWNER }
 {}
 
 /// The attributes returned of an object are those requested and supported.

@@ -10,7 +10,7 @@ use crate::acl41::Acl41;
 use crate::attribute::Attribute;
 use crate::attributes::Attributes;
 use crate::bitmap::Bitmap;
-use crate::sent::chosen;
+use crate::sent::read_chosen;
 use xdr_wire::{Array, Opaque, Reader, XdrFault};
 
 /// The attributes that a client requests, as the server returns them: each if it is there.
@@ -41,15 +41,15 @@ fn values<'a>(set: &Bitmap, reader: &mut Reader<'a>) -> Result<SeenAttributes<'a
     ensures { Gives seen_value reader.old reader.new result (seen_at (bitmap_value set.now) reader.old) }
 {
     let mut ahead = reader.fork();
-    let kind = chosen(set, Attribute::ObjectType.number(), &mut ahead)?;
-    let size = chosen(set, Attribute::Size.number(), &mut ahead)?;
-    let error = chosen(set, Attribute::RdattrError.number(), &mut ahead)?;
-    let entries = chosen(set, Attribute::Acl.number(), &mut ahead)?;
-    let mode = chosen(set, Attribute::Mode.number(), &mut ahead)?;
-    let owner = chosen(set, Attribute::Owner.number(), &mut ahead)?;
-    let group = chosen(set, Attribute::OwnerGroup.number(), &mut ahead)?;
-    let dacl = chosen(set, Attribute::Dacl.number(), &mut ahead)?;
-    let sacl = chosen(set, Attribute::Sacl.number(), &mut ahead)?;
+    let kind = read_chosen(set, Attribute::ObjectType.number(), &mut ahead)?;
+    let size = read_chosen(set, Attribute::Size.number(), &mut ahead)?;
+    let error = read_chosen(set, Attribute::RdattrError.number(), &mut ahead)?;
+    let entries = read_chosen(set, Attribute::Acl.number(), &mut ahead)?;
+    let mode = read_chosen(set, Attribute::Mode.number(), &mut ahead)?;
+    let owner = read_chosen(set, Attribute::Owner.number(), &mut ahead)?;
+    let group = read_chosen(set, Attribute::OwnerGroup.number(), &mut ahead)?;
+    let dacl = read_chosen(set, Attribute::Dacl.number(), &mut ahead)?;
+    let sacl = read_chosen(set, Attribute::Sacl.number(), &mut ahead)?;
     *reader = ahead;
     Ok(SeenAttributes {
         kind,

@@ -26,8 +26,9 @@ pub(crate) struct Sent<'a> {
     pub sacl: Option<Acl41<Array<'a, Ace<'a>, 0xffff_ffff>>>,
 }
 
-/// The value of an attribute, if it is in the set.
-pub(crate) fn chosen<'a, T: Wire<'a>>(
+/// Reads the value of an attribute at the front, if the attribute is in the set; else it reads
+/// nothing (RFC 8881, section 3.3.9). A fault leaves the reader where the value begins.
+pub fn read_chosen<'a, T: Wire<'a>>(
     set: &Bitmap,
     number: u32,
     reader: &mut Reader<'a>,
@@ -47,13 +48,13 @@ fn values<'a>(set: &Bitmap, reader: &mut Reader<'a>) -> Result<Sent<'a>, XdrFaul
     ensures { Gives sent_value reader.old reader.new result (sent_at (bitmap_value set.now) reader.old) }
 {
     let mut ahead = reader.fork();
-    let size = chosen(set, Attribute::Size.number(), &mut ahead)?;
-    let entries = chosen(set, Attribute::Acl.number(), &mut ahead)?;
-    let mode = chosen(set, Attribute::Mode.number(), &mut ahead)?;
-    let owner = chosen(set, Attribute::Owner.number(), &mut ahead)?;
-    let group = chosen(set, Attribute::OwnerGroup.number(), &mut ahead)?;
-    let dacl = chosen(set, Attribute::Dacl.number(), &mut ahead)?;
-    let sacl = chosen(set, Attribute::Sacl.number(), &mut ahead)?;
+    let size = read_chosen(set, Attribute::Size.number(), &mut ahead)?;
+    let entries = read_chosen(set, Attribute::Acl.number(), &mut ahead)?;
+    let mode = read_chosen(set, Attribute::Mode.number(), &mut ahead)?;
+    let owner = read_chosen(set, Attribute::Owner.number(), &mut ahead)?;
+    let group = read_chosen(set, Attribute::OwnerGroup.number(), &mut ahead)?;
+    let dacl = read_chosen(set, Attribute::Dacl.number(), &mut ahead)?;
+    let sacl = read_chosen(set, Attribute::Sacl.number(), &mut ahead)?;
     *reader = ahead;
     Ok(Sent {
         size,

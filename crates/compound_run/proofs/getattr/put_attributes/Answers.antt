@@ -7,7 +7,7 @@ use Rattle.nfs_ops.specs.Items.{item_spelling}
 use Rattle.nfs_ops.specs.Results.{Outcome, outcome_item}
 use Rattle.nfs_ops.specs.Sizes.{most}
 use Rattle.compound_run.specs.Runs.{spelled}
-use Rattle.compound_run.specs.Says.{PutsWithin, given_outcome}
+use Rattle.compound_run.specs.GivenViews.{PutsWithin, given_outcome}
 use Rattle.compound_run.proofs.getattr.put_attributes.Goals as goal
 
 -- a value that takes as many bytes as its spelling has is written where they fit

@@ -2,6 +2,7 @@ use Rattle.std.proofs.Common.{rules, subst, sym, ◌≡◌, ◌∙◌, ap, ℕ, 
 use Rattle.std.specs.Prelude.{Some, None, is_some}
 use Rattle.std.specs.Option.{option_copied}
 use Rattle.who_book.specs.Content.{Content}
+use Rattle.nfs_types.specs.FactsView.{facts_value}
 use Rattle.nfs_types.specs.Views.{bitmap_value}
 use Rattle.node_tree.specs.World.{Name, kind_of}
 use Rattle.node_tree.specs.Sound.{IsNextName}
@@ -44,6 +45,6 @@ pub returns-clause-puts : goal.returns-clause-puts
 returns-clause-puts g c directory last n is by =
     let again : Some c.in-Some.name.now ≡ Some n = search (rules, c.name_by_cookie.ensures.again directory last n is by) in
     let same : c.in-Some.name.now ≡ n = cc in
-    next_told (context_at c.args.self.now c.args.context) (sight_of c.args.self.now) c.in-Some.name.now n c.child.result c.args.given.0 (bitmap_value c.args.given.1) c.in-Some-facts_for.facts _ _ _
+    next_told (context_at c.args.self.now c.args.context) (sight_of c.args.self.now) c.in-Some.name.now n c.child.result c.args.given.0 (bitmap_value c.args.given.1) (facts_value c.in-Some-facts_for.facts) _ _ _
     same c.child.ensures c.in-Some-facts_for.ensures.tells
-    (subst (λ (b : Content). PutsEntry (written_entry b c.in-Some-facts_for.facts c.in-Some.name.now (bitmap_value c.args.given.1)) c.args.out.now c.put_entry.new.out c.put_entry.result) c.book.ensures c.put_entry.ensures)
+    (subst (λ (b : Content). PutsEntry (written_entry b (facts_value c.in-Some-facts_for.facts) c.in-Some.name.now (bitmap_value c.args.given.1)) c.args.out.now c.put_entry.new.out c.put_entry.result) c.book.ensures c.put_entry.ensures)

@@ -1,17 +1,19 @@
-use Rattle.std.proofs.Common.{subst, List, ℕ}
+use Rattle.std.proofs.Common.{subst}
 use Rattle.who_book.specs.Content.{Content}
+use Rattle.nfs_types.specs.Attributes.{Facts}
+use Rattle.nfs_types.specs.FactsView.{facts_value}
 use Rattle.nfs_types.specs.Given.{given_set, given_values}
 use Rattle.nfs_types.specs.Views.{bitmap_value}
 use Rattle.nfs_ops.specs.Results.{Done}
 use Rattle.nfs_ops.specs.declared.OpKind.TheVariants as kinds
 use Rattle.compound_run.specs.Operations.Getattr.{told}
-use Rattle.compound_run.specs.Says.{PutsWithin}
+use Rattle.compound_run.specs.GivenViews.{PutsWithin}
 use Rattle.compound_run.proofs.realm.Realm.put_told.Goals as goal
 
 pub returns : goal.returns
 unfolding told
 returns g c =
     let asked = bitmap_value c.args.asked in
-    subst (λ (values : List ℕ). PutsWithin c.args.context.room (Done kinds.GetAttr (given_set asked, values)) c.args.out.now c.put_attributes.result c.put_attributes.new.out)
-    (c.in-Some.ensures.tells c.args.self.now.tree.book)
-    (subst (λ (b : Content). PutsWithin c.args.context.room (Done kinds.GetAttr (given_set asked, given_values b c.in-Some.facts asked)) c.args.out.now c.put_attributes.result c.put_attributes.new.out) c.book.ensures c.put_attributes.ensures)
+    subst (λ (f : Facts). PutsWithin c.args.context.room (Done kinds.GetAttr (given_set asked, given_values c.args.self.now.tree.book f asked)) c.args.out.now c.put_attributes.result c.put_attributes.new.out)
+    c.in-Some.ensures.tells
+    (subst (λ (b : Content). PutsWithin c.args.context.room (Done kinds.GetAttr (given_set asked, given_values b (facts_value c.in-Some.facts) asked)) c.args.out.now c.put_attributes.result c.put_attributes.new.out) c.book.ensures c.put_attributes.ensures)

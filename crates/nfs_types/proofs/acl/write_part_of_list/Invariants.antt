@@ -3,7 +3,7 @@ use Rattle.std.specs.Int.{w32, to_be_bytes}
 use Rattle.xdr_wire.proofs.Going.{Going}
 use Rattle.acl_shape.specs.Parts.{is_of}
 use Rattle.nfs_types.proofs.Listing.{bytes_if, IsShort}
-use Rattle.nfs_types.proofs.given.write_part_of_list.Given as goal
+use Rattle.nfs_types.proofs.acl.write_part_of_list.Given as goal
 
 abbrev pub invariant-loop-entry : goal.invariant-loop-entry
 invariant-loop-entry g l =

@@ -2,7 +2,7 @@ use Rattle.std.proofs.Common.{length, drop}
 use Rattle.std.specs.Int.{w32, to_be_bytes}
 use Rattle.xdr_wire.proofs.Going.{Going}
 use Rattle.nfs_types.proofs.Listing.{entry_bytes, IsShort}
-use Rattle.nfs_types.proofs.given.write_list.Given as goal
+use Rattle.nfs_types.proofs.acl.write_list.Given as goal
 
 abbrev pub invariant-loop-entry : goal.invariant-loop-entry
 invariant-loop-entry g l =

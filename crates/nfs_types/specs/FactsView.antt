@@ -1,0 +1,19 @@
+-- The facts of an object, as they are lent.
+use Rattle.nfs_types.specs.Attributes.{Facts}
+use Rattle.nfs_types.specs.declared.attribute.ObjectFacts.{ObjectFacts}
+
+abbrev pub facts_value : ObjectFacts → Facts
+facts_value f = record {
+  kind = f.kind;
+  number = f.number;
+  change = f.change;
+  size = f.size;
+  error = f.error;
+  list = f.entries.now;
+  mode = f.mode;
+  numlinks = f.numlinks;
+  owner = f.owner;
+  group = f.group;
+  metadata = f.metadata;
+  modify = f.modify;
+}
