@@ -92,7 +92,7 @@ fn facts() -> ObjectFacts<'static> {
         error: Status::Ok,
         entries: &[],
         mode: 0o640,
-        links: 1,
+        numlinks: 1,
         owner: 0,
         group: 0,
         metadata: Moment {

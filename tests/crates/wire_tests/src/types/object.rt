@@ -36,7 +36,7 @@ pub fn facts() -> ObjectFacts<'static> {
         error: Status::Ok,
         entries: list(),
         mode: 0o640,
-        links: 1,
+        numlinks: 1,
         owner: 1001,
         group: 100,
         metadata: Moment {
