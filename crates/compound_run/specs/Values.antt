@@ -51,7 +51,7 @@ mode_at s number = bit_or (details_at s number).high (mode_of (list_at s number)
 
 -- ---- all of them
 
--- a fact that no other attribute tells, where that one is requested; else 0
+-- a fact that this attribute alone tells, where it is requested; else 0
 abbrev pub if_asked : List ℕ → Attribute → ℕ → ℕ
 if_asked asked a fact = if has_number asked (number_of a) then fact else 0
 
