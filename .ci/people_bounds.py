@@ -161,7 +161,7 @@ def closed(tree, lab, room):
     """Where standard output is closed, each program says so and fails; nothing that was meant for it comes elsewhere."""
     bad = "Bad file descriptor (os error 9)\n"
     nfsc = [lab.programs["nfsc"], "--port", str(lab.port), "--uid", "1001", "--gid", "100"]
-    for command in (["ls", "/"], ["list", "-R", "/"], ["stat", "/lab"], ["help"], ["get", "/lab/none"], ["mkdir", "/lab/c"], ["rm", "/lab/c"]):
+    for command in (["ls", "/"], ["list", "-R", "/"], ["stat", "/lab"], ["get", "/lab/none"], ["mkdir", "/lab/c"], ["rm", "/lab/c"]):
         said, told, status = ran_without([1], [*nfsc, *command])
         see(f"{command} without standard output", (said, told.splitlines()[-1:], status), ("", [f"nfsc: {bad[:-1]}"], 1))
     see("a batch without standard output", ran_without([1], [*nfsc, "batch"], b"mkdir /lab/c\nmkdir /lab/d\n"), ("", f"nfsc: {bad}", 1))

@@ -7,7 +7,7 @@ from scripts.words import OPERATIONS, STATUSES, Unreadable, bytes_of, call_of, n
 from scripts.words import split_word
 
 # the faults of a command, with the numbers that nfs_tool gives them
-FAULTS = {"path": 1, "refused": 2, "reply": 3, "read": 4, "write": 5, "memory": 6, "entry": 7, "failed": 8}
+FAULTS = {"path": 1, "refused": 2, "reply": 3, "read": 4, "write": 5, "memory": 6, "entry": 7, "failed": 8, "toolarge": 9}
 
 
 class Talk:
@@ -91,7 +91,7 @@ class Session:
     def add(self, word, rest):
         if word in TALKS:
             TALKS[word](self.talk, rest)
-        elif word in ("run", "do", "zero", "leave"):
+        elif word in ("run", "do", "zero", "replace", "leave"):
             self.add_to(self.asked, " ".join([word, *rest.split()]), len(self.wanted))
         elif word in ("=", "!"):
             self.add_to(self.wanted, outcome(word, rest), len(self.asked) - 1)

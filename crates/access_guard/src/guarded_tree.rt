@@ -1,16 +1,17 @@
 //! A tree beside its guard, and the book.
-ghost use Rattle.std.specs.Prelude.{◌≡◌, ◌≢◌, ◌+◌, ◌<◌, ◌≤◌, ◌^◌, ◌==◌, [], ◌++◌, find, length, drop, if◌then◌else◌};
+ghost use Rattle.std.specs.Prelude.{◌≡◌, ◌≢◌, ◌+◌, ◌<◌, ◌≤◌, ◌^◌, ◌==◌, [], ◌++◌, find, length, drop};
 ghost use Rattle.std.specs.Prelude.{MatchOption, OnOk, OnErr, IfOk, IsOk, IsOkUnless, IfSome, IsSome, IsTrue, Some};
 ghost use Rattle.std.specs.Prelude.{true, false};
 ghost use Rattle.std.specs.Option.{option_copied};
 ghost use Rattle.std.specs.NonZero.{non_zero_usize_get};
 ghost use Rattle.acl_shape.specs.Bounds.{IsBounded};
 ghost use Rattle.node_tree.specs.World.{FindsAgain, object, kind_of, bytes_of, bytes_at, child_named, name_after};
-ghost use Rattle.node_tree.specs.World.{has_entries, link_count, name_count, parent_of, is_one};
+ghost use Rattle.node_tree.specs.World.{has_entries, link_count, parent_of};
 ghost use Rattle.node_tree.specs.Changes.{made, with_new, with_link, unlinked, renamed, with_write, with_size};
 ghost use Rattle.node_tree.specs.Changes.{with_list, with_owner};
-ghost use Rattle.node_tree.specs.Refusals.{add_refusal, link_refusal, unlink_refusal, is_below, may_replace, may_move};
+ghost use Rattle.node_tree.specs.Refusals.{add_refusal, link_refusal, unlink_refusal, plan_refusal, space_refusal};
 ghost use Rattle.node_tree.specs.Refusals.{write_refusal, resize_refusal};
+ghost use Rattle.node_tree.specs.Moves.{IsMove, IsPlan};
 ghost use Rattle.node_tree.specs.Sound.{IsSound, IsTick, IsNextName, most_bytes};
 ghost use Rattle.node_tree.specs.Judged.{judged_of};
 ghost use Rattle.node_tree.specs.Notes.{begun_notes, cleared};
@@ -29,7 +30,7 @@ use crate::guard::Guard;
 use crate::trail::MOST_HELD;
 use access_rows::Demand;
 use acl_list::{AclList, Caller, Kind};
-use node_tree::{At, DirEntry, Move, NewObject, Node, ROOT, Tree, TreeFault};
+use node_tree::{At, DirEntry, Move, NewObject, Node, Plan, ROOT, Tree, TreeFault};
 use std::alloc::{AllocError, Allocator, Global};
 use std::hash::RandomState;
 use std::marker::Model;
@@ -277,26 +278,21 @@ impl<A: Allocator + Copy> GuardedTree<A> {
         self.tree.name_by_cookie(cookie)
     }
 
-    /// As [`Tree::is_below`].
-    pub fn is_below(&self, child: u64, directory: u64) -> bool
-        ensures { result ≡ is_below (kind_of self.now.world) (parent_of self.now.world) self.now.world.next_number child
-            directory }
+    /// As [`Tree::plan_rename`].
+    pub fn plan_rename<'a>(
+        &self,
+        from: u64,
+        old: &'a [u8],
+        to: u64,
+        new: &'a [u8],
+    ) -> Result<Plan<'a>, TreeFault>
+        requires live { kind_of self.now.world to ≡ Some Kind.Directory }
+        requires short { length new.now ≤ 255 }
+        ensures refused { MatchOption (plan_refusal self.now.world from old.now to new.now) (IsOk result)
+            (λ fault. result ≡ Err fault) }
+        ensures plan { IfOk result (IsPlan self.now.world from old.now to new.now) }
     {
-        self.tree.is_below(child, directory)
-    }
-
-    /// As [`Tree::may_replace`].
-    pub fn may_replace(&self, child: u64, target: Option<u64>) -> bool
-        ensures { result ≡ may_replace (kind_of self.now.world) (has_entries self.now.world.names) child target }
-    {
-        self.tree.may_replace(child, target)
-    }
-
-    /// As [`Tree::may_move`].
-    pub fn may_move(&self, from: u64, to: u64, target: Option<u64>) -> bool
-        ensures { result ≡ may_move (name_count self.now.world.names to) self.now.world.next_cookie from to target }
-    {
-        self.tree.may_move(from, to, target)
+        self.tree.plan_rename(from, old, to, new)
     }
 
     /// As [`Tree::read`].
@@ -370,26 +366,18 @@ impl<A: Allocator + Copy> GuardedTree<A> {
         self.tree.unlink(directory, name, at)
     }
 
-    /// As [`Tree::rename`].
-    pub fn rename(&mut self, moved: Move<'_>, at: At) -> Result<(), AllocError>
+    /// As [`Tree::carry_out`].
+    pub fn carry_out(&mut self, moved: Move<'_>, at: At) -> Result<(), TreeFault>
         requires tick { IsTick self.old.world at.tick }
-        requires live { kind_of self.old.world moved.to ≡ Some Kind.Directory }
-        requires short { length moved.new.now ≤ 255 }
-        requires child { child_named self.old.world moved.from moved.old.now ≡ Some moved.child }
-        requires target { child_named self.old.world moved.to moved.new.now ≡ moved.target }
-        requires other { is_one (Some moved.child) moved.target ≡ false }
-        requires above { is_below (kind_of self.old.world) (parent_of self.old.world) self.old.world.next_number
-            moved.child moved.to ≡ false }
-        requires replaces { may_replace (kind_of self.old.world) (has_entries self.old.world.names) moved.child
-            moved.target ≡ true }
-        requires space { may_move (name_count self.old.world.names moved.to) self.old.world.next_cookie moved.from
-            moved.to moved.target ≡ true }
+        requires planned { IsMove self.old.world moved }
+        ensures refused { MatchOption (space_refusal self.old.world moved.entry.from moved.entry.to moved.entry.target)
+            (IsOkUnless result TreeFault.Memory) (λ fault. result ≡ Err fault) }
         ensures ok { OnOk result (self.new ≡ record self.old {
-          world = renamed self.old.world moved.entry.from moved.entry.old.now moved.entry.to moved.entry.new.now at;
+          world = renamed self.old.world moved.entry.from moved.entry.old moved.entry.to moved.entry.new at;
         }) }
         ensures err { OnErr result (self.new ≡ self.old) }
     {
-        self.tree.rename(moved, at)
+        self.tree.carry_out(moved, at)
     }
 
     /// As [`Tree::write`].

@@ -1,4 +1,5 @@
 pub mod Standings
 pub mod Reasons
+pub mod Shares
 pub mod Removals
 pub mod SideViews

@@ -88,7 +88,7 @@ fn is_denied<A: Allocator>(
 }
 
 /// Whether the mask has the bit of the place.
-fn has_place(mask: u32, place: u32) -> bool
+pub(crate) fn has_place(mask: u32, place: u32) -> bool
     ensures value { result ≡ has_bit mask place }
     ensures small { IsTrue result → place < 32 }
 {

@@ -17,4 +17,5 @@ pub mod ChangingBySteps
 pub mod KeepingLasting
 pub mod Alike
 pub mod RowsStand
+pub mod WrongRows
 pub mod Telling

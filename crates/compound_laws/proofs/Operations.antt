@@ -1,5 +1,5 @@
 -- The laws that each operation meets by itself: an operation is a row, and a law a field.
-use Rattle.std.proofs.Common.{◌≡◌, ◌⊎◌, ℕ, true, refl}
+use Rattle.std.proofs.Common.{◌≡◌, ◌⊎◌, ℕ, Bool, true, false, refl}
 use Rattle.std.proofs.Common.{inl, inr}
 use Rattle.nfs_types.specs.declared.status.Status.{Status}
 use Rattle.nfs_types.specs.declared.status.Status.TheVariants as statuses
@@ -15,7 +15,8 @@ use Rattle.compound_run.specs.Operations.{entered, entry_fault, entry_may, meani
 use Rattle.compound_run.specs.Questions.{all_granted}
 use Rattle.compound_run.specs.Sight.{Sight}
 use Rattle.compound_laws.specs.Disclosure.{DisclosesNothing}
-use Rattle.compound_laws.specs.RowsAsked.{first_of, second_of, HasNoFirst, HasNoSecond, IsAmong, IsOntoItself}
+use Rattle.compound_laws.specs.Lines.{AreExactly}
+use Rattle.compound_laws.specs.RowsAsked.{first_of, second_of, table_rows, HasNoFirst, HasNoSecond, IsAmong, IsOntoItself}
 use Rattle.compound_laws.proofs.Changing.{Parts, OfClose, OfCreate, OfLink, OfOpen, OfRemove, OfRename, OfSetAttr}
 use Rattle.compound_laws.proofs.Changing.{OfWrite, OfReclaimComplete}
 use Rattle.compound_laws.proofs.Seen.{IsSeen, discloses_nothing, lookup_discloses_nothing, remove_discloses_nothing}
@@ -37,10 +38,12 @@ pub record Laws (c : Context) (h : Handles) (op : Operation) : Type 0 where
   pub discloses : DisclosesNothing (meaning c h op)
   -- it leaves the realm as it is, or is one of those that change it
   pub changes : Parts c h op
-  -- where each of its two rows stands among its questions; and where it is OK, the row was granted
-  pub first_asked : IsAmong (first_of c h op) (meaning c h op).questions ⊎ HasNoFirst op
+  -- its questions are those of its line, with its rows and no others
+  pub asks : AreExactly c h op (meaning c h op).questions
+  -- each of its two rows is among them, or demands nothing anywhere; and where it is OK, the row was granted
+  pub first_asked : IsAmong (first_of c h op) (table_rows c h op) ⊎ HasNoFirst op
   pub first_granted : (s : Sight) → Passed c h op s → IsGranted c (first_of c h op) s
-  pub second_asked : IsAmong (second_of c h op) (meaning c h op).questions ⊎ HasNoSecond op
+  pub second_asked : IsAmong (second_of c h op) (table_rows c h op) ⊎ HasNoSecond op
   pub second_granted : (s : Sight) → Passed c h op s → IsGranted c (second_of c h op) s ⊎ IsOntoItself h op s
 
 -- an operation that is refused in every realm
@@ -56,10 +59,17 @@ unless : {A B C : Type 0} → (A → B) → C ⊎ A → B ⊎ C
 unless goes (inl is) = inr is
 unless goes (inr more) = inl (goes more)
 
+-- RECLAIM_COMPLETE has the questions of one file system, or of all
+reclaim_asks : (c : Context) (h : Handles) (one_fs : Bool)
+    → AreExactly c h (Known kinds.ReclaimComplete one_fs) (meaning c h (Known kinds.ReclaimComplete one_fs)).questions
+reclaim_asks c h true = (refl, refl)
+reclaim_asks c h false = (refl, refl)
+
 pub laws_of : (c : Context) (h : Handles) (op : Operation) → Laws c h op
 laws_of c h (Known kinds.Access v) = record {
   discloses = access_discloses_nothing c h v;
   changes = inl (λ r. refl);
+  asks = (refl, refl);
   first_asked = inr (λ facts. tt);
   first_granted = λ s p. refl;
   second_asked = inr (λ facts. tt);
@@ -68,6 +78,7 @@ laws_of c h (Known kinds.Access v) = record {
 laws_of c h (Known kinds.Close v) = record {
   discloses = close_discloses_nothing c h v;
   changes = inr (OfClose v, refl);
+  asks = (refl, refl);
   first_asked = inr (λ facts. tt);
   first_granted = λ s p. refl;
   second_asked = inr (λ facts. tt);
@@ -76,6 +87,7 @@ laws_of c h (Known kinds.Close v) = record {
 laws_of c h (Known kinds.Commit v) = record {
   discloses = discloses_nothing (meaning c h (Known kinds.Commit v)) (λ w. (refl, λ _. (refl, λ _. (refl, λ _. (refl, λ _. (refl, λ _. refl))))));
   changes = inl (λ r. refl);
+  asks = (refl, refl);
   first_asked = inr (λ facts. tt);
   first_granted = λ s p. refl;
   second_asked = inr (λ facts. tt);
@@ -84,7 +96,8 @@ laws_of c h (Known kinds.Commit v) = record {
 laws_of c h (Known kinds.Create v) = record {
   discloses = create_discloses_nothing c h v;
   changes = inr (OfCreate v, refl);
-  first_asked = inl (inr (inr (inr (inr (inr (inr (inr (inr (inr (inl refl))))))))));
+  asks = (refl, refl);
+  first_asked = inl (inl refl);
   first_granted = λ s p. p.1.1.1.1.1.1.1.1.1.0;
   second_asked = inr (λ facts. tt);
   second_granted = λ s p. inl refl;
@@ -92,7 +105,8 @@ laws_of c h (Known kinds.Create v) = record {
 laws_of c h (Known kinds.GetAttr v) = record {
   discloses = getattr_discloses_nothing c h v;
   changes = inl (λ r. refl);
-  first_asked = inl (inr (inr (inr (inl refl))));
+  asks = (refl, refl);
+  first_asked = inl (inl refl);
   first_granted = λ s p. p.1.1.1.0;
   second_asked = inr (λ facts. tt);
   second_granted = λ s p. inl refl;
@@ -100,6 +114,7 @@ laws_of c h (Known kinds.GetAttr v) = record {
 laws_of c h (Known kinds.GetFh tt) = record {
   discloses = getfh_discloses_nothing c h;
   changes = inl (λ r. refl);
+  asks = (refl, refl);
   first_asked = inr (λ facts. tt);
   first_granted = λ s p. refl;
   second_asked = inr (λ facts. tt);
@@ -108,7 +123,8 @@ laws_of c h (Known kinds.GetFh tt) = record {
 laws_of c h (Known kinds.Link v) = record {
   discloses = link_discloses_nothing c h v;
   changes = inr (OfLink v, refl);
-  first_asked = inl (inr (inr (inr (inr (inr (inr (inr (inr (inl refl)))))))));
+  asks = (refl, refl);
+  first_asked = inl (inl refl);
   first_granted = λ s p. p.1.1.1.1.1.1.1.1.0;
   second_asked = inr (λ facts. tt);
   second_granted = λ s p. inl refl;
@@ -116,7 +132,8 @@ laws_of c h (Known kinds.Link v) = record {
 laws_of c h (Known kinds.Lookup v) = record {
   discloses = lookup_discloses_nothing c h v;
   changes = inl (λ r. refl);
-  first_asked = inl (inr (inr (inr (inr (inr (inr (inl refl)))))));
+  asks = (refl, refl);
+  first_asked = inl (inl refl);
   first_granted = λ s p. p.1.1.1.1.1.1.0;
   second_asked = inr (λ facts. tt);
   second_granted = λ s p. inl refl;
@@ -124,7 +141,8 @@ laws_of c h (Known kinds.Lookup v) = record {
 laws_of c h (Known kinds.LookupP tt) = record {
   discloses = lookupp_discloses_nothing c h;
   changes = inl (λ r. refl);
-  first_asked = inl (inr (inr (inr (inr (inr (inl refl))))));
+  asks = (refl, refl);
+  first_asked = inl (inl refl);
   first_granted = λ s p. p.1.1.1.1.1.0;
   second_asked = inr (λ facts. tt);
   second_granted = λ s p. inl refl;
@@ -132,7 +150,8 @@ laws_of c h (Known kinds.LookupP tt) = record {
 laws_of c h (Known kinds.NVerify v) = record {
   discloses = nverify_discloses_nothing c h v;
   changes = inl (λ r. refl);
-  first_asked = inl (inr (inr (inr (inr (inl refl)))));
+  asks = (refl, refl);
+  first_asked = inl (inl refl);
   first_granted = λ s p. p.1.1.1.1.0;
   second_asked = inr (λ facts. tt);
   second_granted = λ s p. inl refl;
@@ -140,14 +159,16 @@ laws_of c h (Known kinds.NVerify v) = record {
 laws_of c h (Known kinds.Open v) = record {
   discloses = open_discloses_nothing c h v;
   changes = inr (OfOpen v, refl);
-  first_asked = inl (inr (inr (inr (inr (inr (inr (inl refl)))))));
+  asks = (refl, refl);
+  first_asked = inl (inl refl);
   first_granted = λ s p. p.1.1.1.1.1.1.0;
-  second_asked = inl (inr (inr (inr (inr (inr (inr (inr (inr (inl refl)))))))));
+  second_asked = inl (inr (inl refl));
   second_granted = λ s p. inl p.1.1.1.1.1.1.1.1.0;
 }
 laws_of c h (Known kinds.PutFh v) = record {
   discloses = putfh_discloses_nothing c h v;
   changes = inl (λ r. refl);
+  asks = (refl, refl);
   first_asked = inr (λ facts. tt);
   first_granted = λ s p. refl;
   second_asked = inr (λ facts. tt);
@@ -156,6 +177,7 @@ laws_of c h (Known kinds.PutFh v) = record {
 laws_of c h (Known kinds.PutRootFh tt) = record {
   discloses = putrootfh_discloses_nothing c h;
   changes = inl (λ r. refl);
+  asks = (refl, refl);
   first_asked = inr (λ facts. tt);
   first_granted = λ s p. refl;
   second_asked = inr (λ facts. tt);
@@ -164,7 +186,8 @@ laws_of c h (Known kinds.PutRootFh tt) = record {
 laws_of c h (Known kinds.Read v) = record {
   discloses = read_discloses_nothing c h v;
   changes = inl (λ r. refl);
-  first_asked = inl (inr (inr (inr (inr (inr (inr (inl refl)))))));
+  asks = (refl, refl);
+  first_asked = inl (inl refl);
   first_granted = λ s p. p.1.1.1.1.1.1.0;
   second_asked = inr (λ facts. tt);
   second_granted = λ s p. inl refl;
@@ -172,15 +195,17 @@ laws_of c h (Known kinds.Read v) = record {
 laws_of c h (Known kinds.ReadDir v) = record {
   discloses = readdir_discloses_nothing c h v;
   changes = inl (λ r. refl);
-  first_asked = inl (inr (inr (inr (inr (inr (inl refl))))));
+  asks = (refl, refl);
+  first_asked = inl (inl refl);
   first_granted = λ s p. p.1.1.1.1.1.0;
-  second_asked = inr (λ facts. tt);
-  second_granted = λ s p. inl refl;
+  second_asked = inl (inr (inl refl));
+  second_granted = λ s p. inl p.1.1.1.1.1.1.0;
 }
 laws_of c h (Known kinds.ReadLink tt) = record {
   discloses = readlink_discloses_nothing c h;
   changes = inl (λ r. refl);
-  first_asked = inl (inr (inr (inr (inr (inl refl)))));
+  asks = (refl, refl);
+  first_asked = inl (inl refl);
   first_granted = λ s p. p.1.1.1.1.0;
   second_asked = inr (λ facts. tt);
   second_granted = λ s p. inl refl;
@@ -188,22 +213,25 @@ laws_of c h (Known kinds.ReadLink tt) = record {
 laws_of c h (Known kinds.Remove v) = record {
   discloses = remove_discloses_nothing c h v;
   changes = inr (OfRemove v, refl);
-  first_asked = inl (inr (inr (inr (inr (inr (inl refl))))));
+  asks = (refl, refl);
+  first_asked = inl (inl refl);
   first_granted = λ s p. p.1.1.1.1.1.0;
-  second_asked = inl (inr (inr (inr (inr (inr (inr (inr (inl refl))))))));
+  second_asked = inl (inr (inl refl));
   second_granted = λ s p. inl p.1.1.1.1.1.1.1.0;
 }
 laws_of c h (Known kinds.Rename v) = record {
   discloses = rename_discloses_nothing c h v;
   changes = inr (OfRename v, refl);
-  first_asked = inl (inr (inr (inr (inr (inr (inr (inr (inr (inr (inl refl))))))))));
+  asks = (refl, refl);
+  first_asked = inl (inl refl);
   first_granted = λ s p. p.1.1.1.1.1.1.1.1.1.0;
-  second_asked = inl (inr (inr (inr (inr (inr (inr (inr (inr (inr (inr (inr (inr (inr (inr (inl refl)))))))))))))));
+  second_asked = inl (inr (inl refl));
   second_granted = λ s p. unless (λ more. more.1.1.1.0) (p.1.1.1.1.1.1.1.1.1.1.1);
 }
 laws_of c h (Known kinds.RestoreFh tt) = record {
   discloses = restorefh_discloses_nothing c h;
   changes = inl (λ r. refl);
+  asks = (refl, refl);
   first_asked = inr (λ facts. tt);
   first_granted = λ s p. refl;
   second_asked = inr (λ facts. tt);
@@ -212,6 +240,7 @@ laws_of c h (Known kinds.RestoreFh tt) = record {
 laws_of c h (Known kinds.SaveFh tt) = record {
   discloses = savefh_discloses_nothing c h;
   changes = inl (λ r. refl);
+  asks = (refl, refl);
   first_asked = inr (λ facts. tt);
   first_granted = λ s p. refl;
   second_asked = inr (λ facts. tt);
@@ -220,7 +249,8 @@ laws_of c h (Known kinds.SaveFh tt) = record {
 laws_of c h (Known kinds.SetAttr v) = record {
   discloses = setattr_discloses_nothing c h v;
   changes = inr (OfSetAttr v, refl);
-  first_asked = inl (inr (inr (inr (inr (inr (inl refl))))));
+  asks = (refl, refl);
+  first_asked = inl (inl refl);
   first_granted = λ s p. p.1.1.1.1.1.0;
   second_asked = inr (λ facts. tt);
   second_granted = λ s p. inl refl;
@@ -228,7 +258,8 @@ laws_of c h (Known kinds.SetAttr v) = record {
 laws_of c h (Known kinds.Verify v) = record {
   discloses = verify_discloses_nothing c h v;
   changes = inl (λ r. refl);
-  first_asked = inl (inr (inr (inr (inr (inl refl)))));
+  asks = (refl, refl);
+  first_asked = inl (inl refl);
   first_granted = λ s p. p.1.1.1.1.0;
   second_asked = inr (λ facts. tt);
   second_granted = λ s p. inl refl;
@@ -236,7 +267,8 @@ laws_of c h (Known kinds.Verify v) = record {
 laws_of c h (Known kinds.Write v) = record {
   discloses = write_discloses_nothing c h v;
   changes = inr (OfWrite v, refl);
-  first_asked = inl (inr (inr (inr (inr (inr (inr (inl refl)))))));
+  asks = (refl, refl);
+  first_asked = inl (inl refl);
   first_granted = λ s p. p.1.1.1.1.1.1.0;
   second_asked = inr (λ facts. tt);
   second_granted = λ s p. inl refl;
@@ -244,6 +276,7 @@ laws_of c h (Known kinds.Write v) = record {
 laws_of c h (Known kinds.ReclaimComplete v) = record {
   discloses = reclaim_complete_discloses_nothing c h v;
   changes = inr (OfReclaimComplete v, refl);
+  asks = reclaim_asks c h v;
   first_asked = inr (λ facts. tt);
   first_granted = λ s p. refl;
   second_asked = inr (λ facts. tt);
@@ -252,6 +285,7 @@ laws_of c h (Known kinds.ReclaimComplete v) = record {
 laws_of c h (Known kinds.ExchangeId v) = record {
   discloses = refusals_disclose_nothing c h (Known kinds.ExchangeId v) (row kinds.ExchangeId).number statuses.NotSupp tt;
   changes = inl (λ r. refl);
+  asks = (refl, refl);
   first_asked = inr (λ facts. tt);
   first_granted = λ s p. refl;
   second_asked = inr (λ facts. tt);
@@ -260,6 +294,7 @@ laws_of c h (Known kinds.ExchangeId v) = record {
 laws_of c h (Known kinds.CreateSession v) = record {
   discloses = refusals_disclose_nothing c h (Known kinds.CreateSession v) (row kinds.CreateSession).number statuses.NotSupp tt;
   changes = inl (λ r. refl);
+  asks = (refl, refl);
   first_asked = inr (λ facts. tt);
   first_granted = λ s p. refl;
   second_asked = inr (λ facts. tt);
@@ -268,6 +303,7 @@ laws_of c h (Known kinds.CreateSession v) = record {
 laws_of c h (Known kinds.DestroySession v) = record {
   discloses = refusals_disclose_nothing c h (Known kinds.DestroySession v) (row kinds.DestroySession).number statuses.NotSupp tt;
   changes = inl (λ r. refl);
+  asks = (refl, refl);
   first_asked = inr (λ facts. tt);
   first_granted = λ s p. refl;
   second_asked = inr (λ facts. tt);
@@ -276,6 +312,7 @@ laws_of c h (Known kinds.DestroySession v) = record {
 laws_of c h (Known kinds.Sequence v) = record {
   discloses = refusals_disclose_nothing c h (Known kinds.Sequence v) (row kinds.Sequence).number statuses.NotSupp tt;
   changes = inl (λ r. refl);
+  asks = (refl, refl);
   first_asked = inr (λ facts. tt);
   first_granted = λ s p. refl;
   second_asked = inr (λ facts. tt);
@@ -284,6 +321,7 @@ laws_of c h (Known kinds.Sequence v) = record {
 laws_of c h (Known kinds.DestroyClientId v) = record {
   discloses = refusals_disclose_nothing c h (Known kinds.DestroyClientId v) (row kinds.DestroyClientId).number statuses.NotSupp tt;
   changes = inl (λ r. refl);
+  asks = (refl, refl);
   first_asked = inr (λ facts. tt);
   first_granted = λ s p. refl;
   second_asked = inr (λ facts. tt);
@@ -292,6 +330,7 @@ laws_of c h (Known kinds.DestroyClientId v) = record {
 laws_of c h (Unsupported n) = record {
   discloses = refusals_disclose_nothing c h (Unsupported n) n statuses.NotSupp tt;
   changes = inl (λ r. refl);
+  asks = (refl, refl);
   first_asked = inr (λ facts. tt);
   first_granted = λ s p. refl;
   second_asked = inr (λ facts. tt);
@@ -300,6 +339,7 @@ laws_of c h (Unsupported n) = record {
 laws_of c h Illegal = record {
   discloses = refusals_disclose_nothing c h Illegal illegal statuses.OpIllegal tt;
   changes = inl (λ r. refl);
+  asks = (refl, refl);
   first_asked = inr (λ facts. tt);
   first_granted = λ s p. refl;
   second_asked = inr (λ facts. tt);
@@ -308,6 +348,7 @@ laws_of c h Illegal = record {
 laws_of c h (Bad n) = record {
   discloses = refusals_disclose_nothing c h (Bad n) n statuses.BadXdr tt;
   changes = inl (λ r. refl);
+  asks = (refl, refl);
   first_asked = inr (λ facts. tt);
   first_granted = λ s p. refl;
   second_asked = inr (λ facts. tt);

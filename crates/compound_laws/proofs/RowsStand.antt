@@ -1,4 +1,4 @@
--- Each row of the table is among the questions of its operation: what is OK was granted, and what isn't is refused.
+-- An operation asks the rows of the table and no others: what is OK was granted, and what isn't is refused.
 use Rattle.std.proofs.Common.{◌≡◌, ◌⊎◌, Bool, true, false, cond, List, refl, sym, subst}
 use Rattle.std.proofs.Common.{inl, inr}
 use Rattle.std.specs.Prelude.{[], ◌∷◌, ◌++◌, Option, Some, None, Ok, Err, unwrap_or}
@@ -19,17 +19,27 @@ use Rattle.compound_run.specs.Questions.{Question, Holds, Valid, Row, Suffices, 
 use Rattle.compound_run.specs.Operations.{meaning}
 use Rattle.compound_run.proofs.Exactly.{passed}
 use Rattle.compound_laws.proofs.Operations.{IsGranted, Passed, laws_of}
-use Rattle.compound_laws.specs.RowsAsked.{first_of, second_of, HasNoFirst, HasNoSecond, IsAmong, SomeSuffices, IsOntoItself}
+use Rattle.compound_laws.specs.Lines.{line_of, steps_of}
+use Rattle.compound_laws.specs.RowsAsked.{first_of, second_of, rows_of, table_rows, HasNoFirst, HasNoSecond, IsAmong}
+use Rattle.compound_laws.specs.RowsAsked.{SomeSuffices, IsOntoItself}
 
 -- ---- their place
 
+pub rows_are_exact : (c : Context) (h : Handles) (op : Operation)
+    → rows_of (meaning c h op).questions ≡ table_rows c h op
+rows_are_exact c h op = (laws_of c h op).asks.0
+
+pub lines_are_exact : (c : Context) (h : Handles) (op : Operation)
+    → steps_of (meaning c h op).questions ≡ line_of c h op
+lines_are_exact c h op = (laws_of c h op).asks.1
+
 pub first_is_asked : (c : Context) (h : Handles) (op : Operation)
-    → IsAmong (first_of c h op) (meaning c h op).questions ⊎ HasNoFirst op
-first_is_asked c h op = (laws_of c h op).first_asked
+    → IsAmong (first_of c h op) (rows_of (meaning c h op).questions) ⊎ HasNoFirst op
+first_is_asked c h op = rw (rows_are_exact c h op) (laws_of c h op).first_asked
 
 pub second_is_asked : (c : Context) (h : Handles) (op : Operation)
-    → IsAmong (second_of c h op) (meaning c h op).questions ⊎ HasNoSecond op
-second_is_asked c h op = (laws_of c h op).second_asked
+    → IsAmong (second_of c h op) (rows_of (meaning c h op).questions) ⊎ HasNoSecond op
+second_is_asked c h op = rw (rows_are_exact c h op) (laws_of c h op).second_asked
 
 -- ---- what is OK
 

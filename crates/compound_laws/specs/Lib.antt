@@ -3,5 +3,7 @@ pub mod EntriesExact
 pub mod Events
 pub mod LiveOpens
 pub mod RowsAsked
+pub mod Lines
 pub mod Stepping
 pub mod WrongLookup
+pub mod WrongRows

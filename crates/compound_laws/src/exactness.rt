@@ -1,5 +1,5 @@
 //! When an operation is OK, when it is refused access, and when it may be delayed.
-ghost use Rattle.std.specs.Prelude.{◌≡◌, ◌≢◌, ◌↔◌, ◌⊎◌, if◌then◌else◌, true, false, List, ◌∷◌, ◌++◌, Option, Some};
+ghost use Rattle.std.specs.Prelude.{ℕ, ◌≡◌, ◌≢◌, ◌↔◌, ◌⊎◌, if◌then◌else◌, true, false, List, ◌∷◌, ◌++◌, Option, Some};
 ghost use Rattle.std.specs.Prelude.{None, Result, Ok, Err, unwrap_or};
 ghost use Rattle.rpc_record.specs.Identity.{Identity};
 ghost use Rattle.nfs_types.specs.declared.status.Status.{Status};
@@ -23,7 +23,9 @@ ghost use Rattle.compound_run.specs.Runs.{Point, Steps, outcome, traced};
 ghost use Rattle.compound_run.specs.Exact.{ArePassed, ArePassedOrSuffice, IsRefusedByRow, EndsInRefusal};
 ghost use Rattle.compound_laws.specs.EntriesExact.{GivesExactly, IsUnlisted, MeetsRefused};
 ghost use Rattle.compound_laws.specs.RowsAsked.{first_of, second_of, HasNoFirst, HasNoSecond, IsAmong, IsOntoItself};
-ghost use Rattle.compound_laws.specs.RowsAsked.{SomeSuffices};
+ghost use Rattle.compound_laws.specs.RowsAsked.{SomeSuffices, rows_of, table_rows};
+ghost use Rattle.compound_laws.specs.Lines.{steps_of, line_of};
+ghost use Rattle.compound_laws.specs.WrongRows.{reading_lookup, asking_getfh, telling_remove};
 
 /// An outcome after a row of demands comes only where the lists grant each of them; else the
 /// outcome is ACCESS.
@@ -52,14 +54,36 @@ pub fn access_is_exact()
         × EndsInRefusal m.caller m.number (judged_of r.world) (row.demands (whole r)) (traced m r) }
 {}
 
-/// Each row that the table of demands has for an operation stands among its questions. This holds
+/// The rows that an operation asks are those of the table of demands, in order, and no others
+/// (`rows`). Its questions are its line: the same statuses and faults in the same order, with each
+/// row at its place (`line`). Neither an unsupported operation nor a refused entry asks a row.
+pub fn rows_are_asked_exactly()
+    ensures rows { (c : Context) (h : Handles) (op : Operation) →
+        rows_of (meaning c h op).questions ≡ table_rows c h op }
+    ensures line { (c : Context) (h : Handles) (op : Operation) →
+        steps_of (meaning c h op).questions ≡ line_of c h op }
+{}
+
+/// Of three wrong lists of questions this is false. LOOKUP asks READ_DATA too (`lookup`), GETFH
+/// asks a row (`getfh`), or REMOVE says that a directory isn't empty before its second row is asked
+/// (`remove`).
+pub fn wrong_rows_are_refused()
+    ensures lookup { (c : Context) (h : Handles) (name : List ℕ) →
+        rows_of (reading_lookup name c h) ≡ table_rows c h (Known kinds.Lookup name) → ⊥ }
+    ensures getfh { (c : Context) (h : Handles) →
+        rows_of (asking_getfh c h) ≡ table_rows c h (Known kinds.GetFh tt) → ⊥ }
+    ensures remove { (c : Context) (h : Handles) (name : List ℕ) →
+        steps_of (telling_remove name c h) ≡ line_of c h (Known kinds.Remove name) → ⊥ }
+{}
+
+/// Each row that the table of demands has for an operation is among those that it asks. This holds
 /// of the first row, and of the second, which depends on the objects of the operation's names. Else
 /// the table has no such row for it, whatever the facts are.
 pub fn each_row_is_asked()
     ensures first { (c : Context) (h : Handles) (op : Operation) →
-        IsAmong (first_of c h op) (meaning c h op).questions ⊎ HasNoFirst op }
+        IsAmong (first_of c h op) (rows_of (meaning c h op).questions) ⊎ HasNoFirst op }
     ensures second { (c : Context) (h : Handles) (op : Operation) →
-        IsAmong (second_of c h op) (meaning c h op).questions ⊎ HasNoSecond op }
+        IsAmong (second_of c h op) (rows_of (meaning c h op).questions) ⊎ HasNoSecond op }
 {}
 
 /// So an operation that is OK was granted each demand of its rows. One row is left out: the second

@@ -17,7 +17,8 @@ pub use disclosure::{
 };
 pub use exactness::{
     access_is_exact, each_row_is_asked, ok_is_exact, ok_is_granted, others_never_delay,
-    readdir_gives_exactly, readdir_is_refused_exactly, refused_is_access, rows_decide,
+    readdir_gives_exactly, readdir_is_refused_exactly, refused_is_access, rows_are_asked_exactly,
+    rows_decide, wrong_rows_are_refused,
 };
 pub use lasting::{calls_leave_lasting, operations_leave_lasting};
 pub use noted::{

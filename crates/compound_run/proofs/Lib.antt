@@ -3,6 +3,7 @@ pub mod Behind
 pub mod Bytes
 pub mod Comparing
 pub mod Refused
+pub mod Renaming
 pub mod Creating
 pub mod Demanding
 pub mod Ending

@@ -4,6 +4,7 @@ pub mod Context
 pub mod Settings
 pub mod Sight
 pub mod Faults
+pub mod TreeFaults
 pub mod ArgumentFaults
 pub mod Lists
 pub mod Questions

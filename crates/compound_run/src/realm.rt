@@ -1,27 +1,29 @@
 //! The realm that is served, with the calls that operations need.
 ghost use Rattle.std.specs.Prelude.{◌≡◌, ◌≢◌, ◌<◌, ◌≤◌, ◌^◌, if◌then◌else◌, length, true, false, Ok, Err, Some, None};
-ghost use Rattle.std.specs.Prelude.{IfOk, IfSome, IsSome, IsOkUnless, MatchResult, OnOk, OnErr};
+ghost use Rattle.std.specs.Prelude.{IfOk, IfSome, IsOk, IsSome, IsOkUnless, MatchOption, MatchResult, OnOk, OnErr};
 ghost use Rattle.acl_shape.specs.Bounds.{IsBounded};
 ghost use Rattle.nfs_types.specs.Name.{name_fault};
-ghost use Rattle.node_tree.specs.World.{object, kind_of, has_entries, link_count, is_one};
+ghost use Rattle.node_tree.specs.World.{object, kind_of, has_entries, link_count};
 ghost use Rattle.node_tree.specs.Changes.{made, with_new, with_link, with_write, unlinked, renamed};
 ghost use Rattle.node_tree.specs.Sound.{IsTick, most_bytes};
-ghost use Rattle.node_tree.specs.Refusals.{has_left, may_name};
+ghost use Rattle.node_tree.specs.Moves.{IsMove, IsPlan};
+ghost use Rattle.node_tree.specs.Refusals.{has_left, may_name, plan_refusal};
 ghost use Rattle.compound_run.specs.Sight.{child, whole};
 ghost use Rattle.compound_run.specs.Meaning.{names_at};
 ghost use Rattle.compound_run.specs.Operations.Create.{can_add};
-ghost use Rattle.compound_run.specs.Operations.Rename.{goes_below, can_replace, can_move};
+ghost use Rattle.compound_run.specs.Operations.Rename.{can_move};
 ghost use Rattle.compound_run.specs.Operations.Write.{fits};
 ghost use Rattle.compound_run.specs.Realm.{with_loss};
+ghost use Rattle.compound_run.specs.TreeFaults.{status_at};
 ghost use Rattle.compound_run.specs.Views.{realm_of, with_world, settings_of};
 
 use crate::limits::MAX_COUNT;
 use crate::opens::Open;
 use access_guard::GuardedTree;
 use nfs_types::{Moment, Status, check_name};
-use node_tree::{At, Kind, MAX_LINKS, Move, NewObject, TreeFault};
+use node_tree::{At, Kind, MAX_LINKS, Move, NewObject, Plan, TreeFault};
 use session_slots::Clients;
-use std::alloc::{AllocError, Allocator, Global};
+use std::alloc::{Allocator, Global};
 
 /// The realm that is served: the tree, with the guard of its lists, the open files, and the clients.
 #[derive(Drop)]
@@ -50,14 +52,19 @@ pub(crate) fn check(name: &[u8]) -> Result<(), Status>
     }
 }
 
-/// The status of a change that can only be refused for want of space or memory.
+/// The status of a change that the tree refuses. Where there is no memory for it, that is DELAY.
 pub(crate) fn status_of(fault: TreeFault) -> Status
-    ensures memory { fault ≡ TreeFault.Memory → result ≡ Status.Delay }
-    ensures space { fault ≡ TreeFault.NoSpc → result ≡ Status.NoSpc }
+    ensures { result ≡ status_at fault }
 {
     match fault {
+        TreeFault::Exist => Status::Exist,
+        TreeFault::NoEnt => Status::NoEnt,
+        TreeFault::NotEmpty => Status::NotEmpty,
+        TreeFault::Inval => Status::Inval,
+        TreeFault::FBig => Status::FBig,
+        TreeFault::MLink => Status::MLink,
+        TreeFault::NoSpc => Status::NoSpc,
         TreeFault::Memory => Status::Delay,
-        _ => Status::NoSpc,
     }
 }
 
@@ -170,51 +177,59 @@ impl<A: Allocator + Copy> Realm<A> {
         self.end_opens(target);
     }
 
-    /// Gives a child another name that it may have. `Delay`: there is no memory for it.
-    fn move_name(&mut self, moved: Move<'_>, at: At) -> Result<(), Status>
-        requires tick { IsTick self.old.tree.world at.tick }
-        requires live { kind_of self.old.tree.world moved.to ≡ Some Kind.Directory }
-        requires short { length moved.new.now ≤ 255 }
-        requires child { child (whole (realm_of self.old)) moved.from moved.old.now ≡ Some moved.child }
-        requires target { child (whole (realm_of self.old)) moved.to moved.new.now ≡ moved.target }
-        requires other { is_one (Some moved.child) moved.target ≡ false }
-        requires above { goes_below (whole (realm_of self.old)) moved.child moved.to ≡ false }
-        requires may { can_replace (whole (realm_of self.old)) moved.child moved.target ≡ true }
-        requires space { can_move (whole (realm_of self.old)) moved.from moved.to moved.target ≡ true }
-        ensures space { IsOkUnless result Status.Delay }
-        ensures ok { OnOk result (self.new ≡
-            with_world (renamed self.old.tree.world moved.entry.from moved.entry.old.now moved.entry.to
-            moved.entry.new.now at) self.old) }
-        ensures err { OnErr result (self.new ≡ self.old) }
+    /// Plans a RENAME, as [`GuardedTree::plan_rename`].
+    pub fn plan_rename<'a>(
+        &self,
+        from: u64,
+        old: &'a [u8],
+        to: u64,
+        new: &'a [u8],
+    ) -> Result<Plan<'a>, Status>
+        requires live { kind_of self.now.tree.world to ≡ Some Kind.Directory }
+        requires short { length new.now ≤ 255 }
+        ensures refused { MatchOption (plan_refusal self.now.tree.world from old.now to new.now) (IsOk result)
+            (λ fault. result ≡ Err (status_at fault)) }
+        ensures plan { IfOk result (IsPlan self.now.tree.world from old.now to new.now) }
     {
-        match self.tree.rename(moved, at) {
-            Ok(()) => Ok(()),
-            Err(AllocError) => Err(Status::Delay),
-        }
+        self.tree.plan_rename(from, old, to, new).map_err(status_of)
     }
 
-    /// Gives a child another name that it may have. A target of that name loses it; where that was
-    /// its last name its opens are closed. `Delay`: there is no memory for it.
+    /// Gives a child another name, as planned. `NoSpc`: there is no space for it. `Delay`: there is no memory for it.
+    fn carry_out(&mut self, moved: Move<'_>, at: At) -> Result<(), Status>
+        requires tick { IsTick self.old.tree.world at.tick }
+        requires planned { IsMove self.old.tree.world moved }
+        ensures full { can_move (whole (realm_of self.old)) moved.entry.from moved.entry.to moved.entry.target ≡ false →
+            result ≡ Err Status.NoSpc }
+        ensures space { can_move (whole (realm_of self.old)) moved.entry.from moved.entry.to moved.entry.target ≡ true →
+            IsOkUnless result Status.Delay }
+        ensures ok { OnOk result (self.new ≡
+            with_world (renamed self.old.tree.world moved.entry.from moved.entry.old moved.entry.to moved.entry.new at)
+            self.old) }
+        ensures err { OnErr result (self.new ≡ self.old) }
+    {
+        self.tree.carry_out(moved, at).map_err(status_of)
+    }
+
+    /// Gives a child another name, as planned. A target of that name loses it; where that was its
+    /// last name its opens are closed. `NoSpc`: there is no space for it. `Delay`: there is no
+    /// memory for it.
     pub fn rename_child(&mut self, moved: Move<'_>, at: At) -> Result<(), Status>
         requires tick { IsTick self.old.tree.world at.tick }
-        requires live { kind_of self.old.tree.world moved.to ≡ Some Kind.Directory }
-        requires short { length moved.new.now ≤ 255 }
-        requires child { child (whole (realm_of self.old)) moved.from moved.old.now ≡ Some moved.child }
-        requires target { child (whole (realm_of self.old)) moved.to moved.new.now ≡ moved.target }
-        requires other { is_one (Some moved.child) moved.target ≡ false }
-        requires above { goes_below (whole (realm_of self.old)) moved.child moved.to ≡ false }
-        requires may { can_replace (whole (realm_of self.old)) moved.child moved.target ≡ true }
-        requires space { can_move (whole (realm_of self.old)) moved.from moved.to moved.target ≡ true }
-        ensures space { IsOkUnless result Status.Delay }
+        requires planned { IsMove self.old.tree.world moved }
+        ensures full { can_move (whole (realm_of self.old)) moved.entry.from moved.entry.to moved.entry.target ≡ false →
+            result ≡ Err Status.NoSpc }
+        ensures space { can_move (whole (realm_of self.old)) moved.entry.from moved.entry.to moved.entry.target ≡ true →
+            IsOkUnless result Status.Delay }
         ensures ok { OnOk result (realm_of self.new ≡
-            with_loss (renamed self.old.tree.world moved.entry.from moved.entry.old.now moved.entry.to
-            moved.entry.new.now at) moved.entry.target (realm_of self.old)) }
+            with_loss (renamed self.old.tree.world moved.entry.from moved.entry.old moved.entry.to moved.entry.new at)
+            moved.entry.target (realm_of self.old)) }
         ensures err { OnErr result (self.new ≡ self.old) }
         ensures log { self.new.tree.log ≡ self.old.tree.log }
         ensures settings { settings_of self.new ≡ settings_of self.old }
     {
-        self.move_name(moved, at)?;
-        if let Some(replaced) = moved.target {
+        let target = moved.target();
+        self.carry_out(moved, at)?;
+        if let Some(replaced) = target {
             self.end_opens(replaced);
         }
         Ok(())

@@ -1,10 +1,10 @@
 //! RENAME (RFC 8881, section 18.26).
 ghost use Rattle.std.specs.Prelude.{◌≡◌, ◌+◌, ◌<◌, ◌≤◌, [], length, true, false, Some};
 ghost use Rattle.nfs_ops.specs.Views.{rename_args_value};
-ghost use Rattle.compound_run.specs.Sight.{whole, child, directory_change};
-ghost use Rattle.node_tree.specs.World.{kind_of, is_one};
-ghost use Rattle.compound_run.specs.Operations.Rename.{rename, goes_below, can_replace, moving};
-ghost use Rattle.compound_run.specs.Views.{GivesOrDelays, HasRoom, realm_of, stage};
+ghost use Rattle.node_tree.specs.Moves.{IsMove};
+ghost use Rattle.compound_run.specs.Sight.{directory_change};
+ghost use Rattle.compound_run.specs.Operations.Rename.{rename, moving};
+ghost use Rattle.compound_run.specs.Views.{GivesOrDelays, HasRoom, stage};
 
 use crate::directory::Directory;
 use crate::filehandles::FileHandles;
@@ -13,59 +13,31 @@ use crate::realm::{Realm, check};
 use crate::step::Step;
 use nfs_ops::{Op, OpResult, RenameArgs, RenameResult};
 use nfs_types::Status;
-use node_tree::{Kind, Move};
+use node_tree::{Move, Plan};
 use std::alloc::Allocator;
 use xdr_wire::Writer;
 
-/// The child that gets another name, and the object that has that name, if there is one.
-#[derive(Clone, Copy)]
-struct Found {
-    child: u64,
-    target: Option<u64>,
-}
-
 impl<A: Allocator + Copy> Realm<A> {
-    /// Gives a child of the saved directory a new name in the current one, which it may have. A
-    /// target of that name loses it.
+    /// Gives a child of the saved directory a new name in the current one, as planned.
     fn move_child(
         &mut self,
         step: Step<'_>,
         source: Directory,
         target: Directory,
-        found: Found,
-        args: &RenameArgs<'_>,
+        moved: Move<'_>,
         out: &mut Writer<A>,
     ) -> Result<FileHandles, Status>
-        requires from { step.handles.saved ≡ Some source.number }
-        requires to { step.handles.current ≡ Some target.number }
-        requires live { kind_of self.old.tree.world target.number ≡ Some Kind.Directory }
-        requires from_change { directory_change self.old.tree.world source.number ≡ source.change }
-        requires to_change { directory_change self.old.tree.world target.number ≡ target.change }
-        requires short { length args.now.new.bytes.now ≤ 255 }
-        requires child { child (whole (realm_of self.old)) source.number args.now.old.bytes.now ≡ Some found.child }
-        requires target { child (whole (realm_of self.old)) target.number args.now.new.bytes.now ≡ found.target }
-        requires other { is_one (Some found.child) found.target ≡ false }
-        requires above { goes_below (whole (realm_of self.old)) found.child target.number ≡ false }
-        requires may { can_replace (whole (realm_of self.old)) found.child found.target ≡ true }
+        requires from { step.handles.saved ≡ Some moved.from }
+        requires to { step.handles.current ≡ Some moved.to }
+        requires from_change { directory_change self.old.tree.world moved.from ≡ source.change }
+        requires to_change { directory_change self.old.tree.world moved.to ≡ target.change }
+        requires planned { IsMove self.old.tree.world moved }
         requires room { HasRoom step.context out.old }
-        ensures { GivesOrDelays step.entry (moving (rename_args_value args.now) source.number target.number)
-            (stage self.old out.old) result (stage self.new out.new) }
+        ensures { GivesOrDelays step.entry
+            (moving (moved.entry.old, moved.entry.new) moved.entry.from moved.entry.to) (stage self.old out.old) result
+            (stage self.new out.new) }
     {
         let at = self.tick(step.context.now).ok_or(Status::NoSpc)?;
-        if !self
-            .tree
-            .may_move(source.number, target.number, found.target)
-        {
-            return Err(Status::NoSpc);
-        }
-        let moved = Move {
-            from: source.number,
-            old: args.old.bytes,
-            to: target.number,
-            new: args.new.bytes,
-            child: found.child,
-            target: found.target,
-        };
         self.rename_child(moved, at)?;
         let (source, target) = (source.changed(at.tick), target.changed(at.tick));
         put_result(OpResult::Rename(RenameResult { source, target }), out);
@@ -109,33 +81,16 @@ impl<A: Allocator + Copy> Realm<A> {
             number: to,
             change: to_before,
         };
-        let child = self.find(from, args.old.bytes).ok_or(Status::NoEnt)?;
-        let target = self.find(to, args.new.bytes);
-        if is_one(child, target) {
+        let plan = self.plan_rename(from, args.old.bytes, to, args.new.bytes)?;
+        let Plan::Move(moved) = plan else {
             let (source, target) = (source.unchanged(), directory.unchanged());
             put_result(OpResult::Rename(RenameResult { source, target }), out);
             return Ok(step.handles);
-        }
-        if self.tree.is_below(child, to) {
-            return Err(Status::Inval);
-        }
-        if !self.tree.may_replace(child, target) {
-            return Err(Status::Exist);
-        }
-        if !self.grants_second(step, &Op::Rename(*args), Some(child), target) {
+        };
+        let (child, target) = (Some(moved.child()), moved.target());
+        if !self.grants_second(step, &Op::Rename(*args), child, target) {
             return Err(Status::Access);
         }
-        let found = Found { child, target };
-        self.move_child(step, source, directory, found, args, out)
-    }
-}
-
-/// Whether the target of the new name is the child itself.
-fn is_one(child: u64, target: Option<u64>) -> bool
-    ensures { result ≡ is_one (Some child) target }
-{
-    match target {
-        Some(target) => child == target,
-        None => false,
+        self.move_child(step, source, directory, moved, out)
     }
 }

@@ -247,6 +247,14 @@ impl<A: Allocator + Copy> Server<A> {
         self.realm.clients.silent(second(now), LEASE)
     }
 
+    /// Says the second of a clock that only goes forward. From now on clients are heard and silent by
+    /// it, and not by the moments of calls, whose clock can be set. It is in no model.
+    pub fn set_second(&mut self, second: u64)
+        ensures { self.new ≡ self.old }
+    {
+        self.realm.clients.set_second(second);
+    }
+
     /// Lets a client go: its record goes with its sessions, and its open files are closed; all else
     /// stays (RFC 8881, section 8.3). `false`: it has no record, and nothing changes. It takes no
     /// memory.

@@ -1,6 +1,6 @@
 //! The frames at the front of a file's bytes, and the frames that are written.
 ghost use Rattle.std.specs.Prelude.{◌≡◌, ◌<◌, ◌+◌, ◌^◌, ◌↔◌, length, Err, IfOk, IfNone, OnSome};
-ghost use Rattle.journal.specs.Frames.{Takes, lent, framed, IsFit, head_at};
+ghost use Rattle.journal.specs.Frames.{Takes, lent, framed, in_place, IsFit, head_at};
 ghost use Rattle.journal.specs.declared.frames.FrameFault.TheVariants as faults;
 
 use crate::digest::{digest_of, head_digest_of};
@@ -97,6 +97,17 @@ pub(crate) fn frame_bytes<A: Allocator>(
 }
 
 impl<'a> Frames<'a> {
+    /// Whether a head, its digest and a body are the next frame: of this version, generation and number, with digests
+    /// that fit.
+    fn is_next(&self, head: Head, digest: u64, body: &[u8]) -> bool
+        ensures { result ≡ in_place self.now.key self.now.generation self.now.number head digest body.now }
+    {
+        digest == head_digest_of(self.key, head)
+            && (head.version == VERSION
+                && (head.generation == self.generation
+                    && (head.number == self.number && head.body == digest_of(self.key, body))))
+    }
+
     /// Takes the next frame. `None`: no whole frame of this version, generation and number whose digests fit stands at
     /// the front, and nothing is taken.
     #[tactic(auto, unfolding(crate::specs::Frames::frame_at))]
@@ -115,19 +126,7 @@ impl<'a> Frames<'a> {
         ) else {
             return None;
         };
-        if digest != head_digest_of(self.key, head) {
-            return None;
-        }
-        if head.version != VERSION {
-            return None;
-        }
-        if head.generation != self.generation {
-            return None;
-        }
-        if head.number != self.number {
-            return None;
-        }
-        if head.body != digest_of(self.key, bytes) {
+        if !self.is_next(head, digest, bytes) {
             return None;
         }
         self.rest = reader.rest();

@@ -70,44 +70,26 @@ module _ {S A V : Type 0} (directions : Directions S) (taken : List Outcome → 
   concluded value in_session (Err fault.Write) new h is = absurd h
   concluded value in_session (Err fault.Entry) new h is = absurd h
   concluded value in_session (Err fault.Failed) new h is = absurd h
+  concluded value in_session (Err fault.TooLarge) new h is = absurd h
 
 -- the outcome of operations after whose call no record was read
 pub unasked : {S A V X : Type 0} (directions : Directions S) (taken : List Outcome → Option V) (value : X → V) (in_session : Bool) (ops : List Operation) (old new : Client S A) (f : ToolFault)
     → ExchangeGives directions ops old new (Err f) → AskGives directions (taking taken value) (record { ops = ops; in_session = in_session }) old new (Err f)
 unasked directions taken value in_session ops old new fault.Memory (inl h) = inl h.1
 unasked directions taken value in_session ops old new fault.Memory (inr h) = inr (inl h)
-unasked directions taken value in_session ops old new fault.Reply (inl h) = absurd (different h.0)
-  where
-    different : fault.Reply ≡ fault.Memory → ⊥
-    different e = cc
+unasked directions taken value in_session ops old new fault.TooLarge (inl h) = h
+unasked directions taken value in_session ops old new fault.TooLarge (inr h) = absurd h.1.failed.no_record
+unasked directions taken value in_session ops old new fault.Reply (inl h) = absurd h.0
 unasked directions taken value in_session ops old new fault.Reply (inr h) = inl h
-unasked directions taken value in_session ops old new fault.Read (inl h) = absurd (different h.0)
-  where
-    different : fault.Read ≡ fault.Memory → ⊥
-    different e = cc
+unasked directions taken value in_session ops old new fault.Read (inl h) = absurd h.0
 unasked directions taken value in_session ops old new fault.Read (inr h) = h
-unasked directions taken value in_session ops old new fault.Write (inl h) = absurd (different h.0)
-  where
-    different : fault.Write ≡ fault.Memory → ⊥
-    different e = cc
+unasked directions taken value in_session ops old new fault.Write (inl h) = absurd h.0
 unasked directions taken value in_session ops old new fault.Write (inr h) = h
-unasked directions taken value in_session ops old new (fault.Refused op status) (inl h) = absurd (different h.0)
-  where
-    different : fault.Refused op status ≡ fault.Memory → ⊥
-    different e = cc
+unasked directions taken value in_session ops old new (fault.Refused op status) (inl h) = absurd h.0
 unasked directions taken value in_session ops old new (fault.Refused op status) (inr h) = absurd h.1.failed.no_record
-unasked directions taken value in_session ops old new fault.Path (inl h) = absurd (different h.0)
-  where
-    different : fault.Path ≡ fault.Memory → ⊥
-    different e = cc
+unasked directions taken value in_session ops old new fault.Path (inl h) = absurd h.0
 unasked directions taken value in_session ops old new fault.Path (inr h) = absurd h.1.failed.no_record
-unasked directions taken value in_session ops old new fault.Entry (inl h) = absurd (different h.0)
-  where
-    different : fault.Entry ≡ fault.Memory → ⊥
-    different e = cc
+unasked directions taken value in_session ops old new fault.Entry (inl h) = absurd h.0
 unasked directions taken value in_session ops old new fault.Entry (inr h) = absurd h.1.failed.no_record
-unasked directions taken value in_session ops old new fault.Failed (inl h) = absurd (different h.0)
-  where
-    different : fault.Failed ≡ fault.Memory → ⊥
-    different e = cc
+unasked directions taken value in_session ops old new fault.Failed (inl h) = absurd h.0
 unasked directions taken value in_session ops old new fault.Failed (inr h) = absurd h.1.failed.no_record

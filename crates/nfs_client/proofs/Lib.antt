@@ -3,6 +3,7 @@ pub mod Results
 pub mod Digits
 pub mod Streams
 pub mod Requests
+pub mod Large
 pub mod Commands
 pub mod Taken
 pub mod Opening

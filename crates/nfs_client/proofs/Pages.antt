@@ -22,6 +22,7 @@ same_failure directions taken value other in_session ops old new (fault.Refused 
 same_failure directions taken value other in_session ops old new fault.Path h = h
 same_failure directions taken value other in_session ops old new fault.Entry h = h
 same_failure directions taken value other in_session ops old new fault.Failed h = h
+same_failure directions taken value other in_session ops old new fault.TooLarge h = h
 
 module _ {S A V : Type 0} (paging : Paging S A V) (old : Client S A) where
   -- some pages were asked, and none of them is the last
@@ -38,3 +39,4 @@ module _ {S A V : Type 0} (paging : Paging S A V) (old : Client S A) where
   stops value whole mid last new before fault.Path g few h is = absurd h
   stops value whole mid last new before fault.Entry g few h is = absurd h
   stops value whole mid last new before fault.Failed g few h is = absurd h
+  stops value whole mid last new before fault.TooLarge g few h is = (mid, last, before, g, few, h, is)

@@ -1,13 +1,16 @@
 -- Bytes over a stream in pieces.
-use Rattle.std.proofs.Common.{◌≡◌, ℕ, ◌+◌, ◌-◌, ◌≤◌, ◌<◌, List, [], ◌++◌, length, take, drop, Option, Some, None, Result, Ok, Err, refl, sym, ap, ◌∙◌, subst, append_assoc, arith}
+use Rattle.std.proofs.Common.{◌≡◌, ℕ, ◌+◌, ◌-◌, ◌≤◌, ◌<◌, List, [], ◌∷◌, ◌++◌, length, take, drop, Option, Some, None, Result, Ok, Err, refl, sym, ap, ◌∙◌, subst, append_assoc, arith}
 use Rattle.std.specs.Prelude.{slice_range}
+use Rattle.std.specs.List.{All, concat}
 use Rattle.std.specs.Io.KnownBytes.{Appends, Consumes, Keeps}
-use Rattle.std.proofs.lemmas.List.{append-nil, take-append-drop, take_all, length-drop}
+use Rattle.std.proofs.lemmas.List.{append-nil, take-append-drop, take_all, length-append, length-drop, length-take-le}
+use Rattle.std.proofs.lemmas.List.Elements.{All-append, All-cons, All-nil}
+use Rattle.std.proofs.lemmas.List.Folds.{concat-append}
 use Rattle.std.proofs.Math.Seq.{take-add}
 use Rattle.rpc_record.specs.Records.{IsRecord, IsUnfinished}
 use Rattle.rpc_record.specs.Frame.{Frame}
 use Rattle.rpc_record.specs.Framer.{Stands}
-use Rattle.nfs_client.specs.Streams.{Directions, WritesFront, ReadsRecord, IsFollowed, IsFrameFault, IsReadFault, RecordGives, TalkFails, TalkGives}
+use Rattle.nfs_client.specs.Streams.{Directions, WritesFront, IsPiece, Reads, ReadsRecord, most_reads, IsFollowed, IsFrameFault, IsReadFault, RecordGives, TalkFails, TalkGives}
 use Rattle.nfs_client.specs.declared.fault.ToolFault.{ToolFault}
 use Rattle.nfs_client.specs.declared.fault.ToolFault.TheVariants as faults
 
@@ -55,21 +58,51 @@ pub consumes_none : (a : Option (List ℕ)) → Consumes a a []
 consumes_none None = tt
 consumes_none (Some x) = refl
 
--- a part of a record was read
-pub record Reading (frame : Frame) (content : List ℕ) (left left' : Option (List ℕ)) : Type 0 where
-  pub bytes : List ℕ
-  pub stands : Stands frame content bytes
-  pub read : Consumes left left' bytes
+-- the bytes of these pieces and of one more
+bytes_more : (pieces : List (List ℕ)) (piece : List ℕ) → concat (pieces ++ piece ∷ []) ≡ concat pieces ++ piece
+bytes_more pieces piece = concat-append pieces (piece ∷ []) ∙ ap (λ (bs : List ℕ). concat pieces ++ bs) (append-nil piece)
 
-pub reading_none : (frame : Frame) (left : Option (List ℕ)) → Stands frame [] [] → Reading frame [] left left
-reading_none frame left s = record { bytes = []; stands = s; read = consumes_none left }
+-- a front of a buffer is a piece
+pub piece_of : (n : ℕ) (buf : List ℕ) → (n ≡ 0 → ⊥) → n ≤ length buf → length buf ≤ 4096 → IsPiece (take n buf)
+piece_of n buf some within short = let e = length-take-le n buf within in (omega (arith, e, some), omega (arith, e, within, short))
 
-module _ {frame : Frame} {content : List ℕ} {left left' : Option (List ℕ)} (r : Reading frame content left left') where
-  pub reading_more : (new : Frame) (content' piece : List ℕ) (left'' : Option (List ℕ)) → Stands new content' (r.bytes ++ piece) → Consumes left' left'' piece → Reading new content' left left''
-  reading_more new content' piece left'' s c = record { bytes = r.bytes ++ piece; stands = s; read = consumes_trans left left' left'' r.bytes piece r.read c }
+-- a part of a record was read by this many reads
+pub record Reading (frame : Frame) (content : List ℕ) (count : ℕ) (left left' : Option (List ℕ)) : Type 0 where
+  pub pieces : List (List ℕ)
+  pub are : All IsPiece pieces
+  pub few : length pieces ≤ count
+  pub stands : Stands frame content (concat pieces)
+  pub read : Consumes left left' (concat pieces)
 
-  pub reading_all : (content' piece : List ℕ) (left'' : Option (List ℕ)) → IsRecord content' (r.bytes ++ piece) → Consumes left' left'' piece → ReadsRecord left left'' content'
-  reading_all content' piece left'' is c = (r.bytes ++ piece, is, consumes_trans left left' left'' r.bytes piece r.read c)
+pub reading_none : (frame : Frame) (left : Option (List ℕ)) → Stands frame [] [] → Reading frame [] 0 left left
+reading_none frame left s = record { pieces = []; are = All-nil IsPiece; few = omega arith; stands = s; read = consumes_none left }
+
+module _ {frame : Frame} {content : List ℕ} {count : ℕ} {left left' : Option (List ℕ)} (r : Reading frame content count left left') where
+  pub reading_more : (new : Frame) (content' piece : List ℕ) (left'' : Option (List ℕ)) → IsPiece piece → Stands new content' (concat r.pieces ++ piece) → Consumes left' left'' piece → Reading new content' (count + 1) left left''
+  reading_more new content' piece left'' is s c = record {
+    pieces = r.pieces ++ piece ∷ [];
+    are = All-append IsPiece r.pieces (piece ∷ []) r.are (All-cons IsPiece piece [] is (All-nil IsPiece));
+    few = let long = length-append r.pieces (piece ∷ []) in omega (arith, long, r.few);
+    stands = subst (λ (bs : List ℕ). Stands new content' bs) (sym (bytes_more r.pieces piece)) s;
+    read = subst (λ (bs : List ℕ). Consumes left left'' bs) (sym (bytes_more r.pieces piece)) (consumes_trans left left' left'' (concat r.pieces) piece r.read c);
+  }
+
+  -- these bytes, and one piece more
+  one_more : (piece : List ℕ) (left'' : Option (List ℕ)) → count < most_reads → IsPiece piece → Consumes left' left'' piece → Reads left left'' (concat r.pieces ++ piece)
+  one_more piece left'' below is c = record {
+    pieces = r.pieces ++ piece ∷ [];
+    are = All-append IsPiece r.pieces (piece ∷ []) r.are (All-cons IsPiece piece [] is (All-nil IsPiece));
+    few = let long = length-append r.pieces (piece ∷ []) in omega (arith, long, r.few, below);
+    parts = sym (bytes_more r.pieces piece);
+    read = consumes_trans left left' left'' (concat r.pieces) piece r.read c;
+  }
+
+  -- these bytes, and nothing more
+  no_more : (left'' : Option (List ℕ)) → count ≤ most_reads → Consumes left left'' (concat r.pieces) → Reads left left'' (concat r.pieces)
+  no_more left'' below c = record { pieces = r.pieces; are = r.are; few = omega (arith, r.few, below); parts = refl; read = c }
+
+  pub reading_all : (content' piece : List ℕ) (left'' : Option (List ℕ)) → count < most_reads → IsPiece piece → IsRecord content' (concat r.pieces ++ piece) → Consumes left' left'' piece → ReadsRecord left left'' content'
+  reading_all content' piece left'' below is whole c = (concat r.pieces ++ piece, whole, one_more piece left'' below is c)
 
 -- ---- the pieces of a piece
 
@@ -99,12 +132,13 @@ frame_fault bytes faults.Write h = absurd h
 frame_fault bytes faults.Memory h = tt
 frame_fault bytes faults.Entry h = absurd h
 frame_fault bytes faults.Failed h = absurd h
+frame_fault bytes faults.TooLarge h = absurd h
 
 -- ---- no record is read
 
 -- the bytes that were read, and the fault of them
 abbrev pub NoneRead : Option (List ℕ) → Option (List ℕ) → ToolFault → Type 0
-NoneRead left left' fault = (read : List ℕ) × Consumes left left' read × IsReadFault read fault
+NoneRead left left' fault = (read : List ℕ) × Reads left left' read × IsReadFault read fault
 
 consumes_keeps : (a b c : Option (List ℕ)) (bs : List ℕ) → Consumes a b bs → Keeps b c → Consumes a c bs
 consumes_keeps None b c bs p q = tt
@@ -112,26 +146,26 @@ consumes_keeps (Some x) None c bs p q = absurd p
 consumes_keeps (Some x) (Some y) None bs p q = absurd q
 consumes_keeps (Some x) (Some y) (Some z) bs p q = p ∙ ap (λ (l : List ℕ). bs ++ l) (sym q)
 
-module _ (unfinished : (f : Frame) (content bytes : List ℕ) → Stands f content bytes → IsUnfinished bytes) {frame : Frame} {content : List ℕ} {left left' : Option (List ℕ)} (r : Reading frame content left left') where
+module _ (unfinished : (f : Frame) (content bytes : List ℕ) → Stands f content bytes → IsUnfinished bytes) {frame : Frame} {content : List ℕ} {count : ℕ} {left left' : Option (List ℕ)} (r : Reading frame content count left left') where
   -- the stream fails
-  pub reading_fails : (left'' : Option (List ℕ)) → Keeps left' left'' → NoneRead left left'' faults.Read
-  reading_fails left'' k = (r.bytes, consumes_keeps left left' left'' r.bytes r.read k, unfinished frame content r.bytes r.stands)
+  pub reading_fails : (left'' : Option (List ℕ)) → count ≤ most_reads → Keeps left' left'' → NoneRead left left'' faults.Read
+  reading_fails left'' below k =
+      (concat r.pieces, no_more r left'' below (consumes_keeps left left' left'' (concat r.pieces) r.read k), unfinished frame content (concat r.pieces) r.stands)
 
   -- the stream ends
-  pub reading_ends : (left'' : Option (List ℕ)) → Consumes left' left'' [] → NoneRead left left'' faults.Read
-  reading_ends left'' k =
-      let read = subst (λ (bs : List ℕ). Consumes left left'' bs) (append-nil r.bytes) (consumes_trans left left' left'' r.bytes [] r.read k) in
-      (r.bytes, read, unfinished frame content r.bytes r.stands)
+  pub reading_ends : (left'' : Option (List ℕ)) → count ≤ most_reads → Consumes left' left'' [] → NoneRead left left'' faults.Read
+  reading_ends left'' below k =
+      let read = subst (λ (bs : List ℕ). Consumes left left'' bs) (append-nil (concat r.pieces)) (consumes_trans left left' left'' (concat r.pieces) [] r.read k) in
+      (concat r.pieces, no_more r left'' below read, unfinished frame content (concat r.pieces) r.stands)
 
-  -- there were enough reads
-  pub reading_stops : NoneRead left left' faults.Read
-  reading_stops = (r.bytes, r.read, unfinished frame content r.bytes r.stands)
+  -- there were the most reads
+  pub reading_stops : count ≤ most_reads → NoneRead left left' faults.Read
+  reading_stops below = (concat r.pieces, no_more r left' below r.read, unfinished frame content (concat r.pieces) r.stands)
 
 -- the piece can't be framed
-pub reading_breaks : {frame : Frame} {content : List ℕ} {left left' : Option (List ℕ)} (r : Reading frame content left left') (piece : List ℕ) (left'' : Option (List ℕ)) (fault : ToolFault)
-    → IsFrameFault (r.bytes ++ piece) fault → Consumes left' left'' piece → NoneRead left left'' fault
-reading_breaks {left = left} {left' = left'} r piece left'' fault is c =
-    (r.bytes ++ piece, consumes_trans left left' left'' r.bytes piece r.read c, frame_fault (r.bytes ++ piece) fault is)
+pub reading_breaks : {frame : Frame} {content : List ℕ} {count : ℕ} {left left' : Option (List ℕ)} (r : Reading frame content count left left') (piece : List ℕ) (left'' : Option (List ℕ)) (fault : ToolFault)
+    → count < most_reads → IsPiece piece → IsFrameFault (concat r.pieces ++ piece) fault → Consumes left' left'' piece → NoneRead left left'' fault
+reading_breaks r piece left'' fault below is broken c = (concat r.pieces ++ piece, one_more r piece left'' below is c, frame_fault (concat r.pieces ++ piece) fault broken)
 
 -- a record ends in the piece, and bytes come after it
 pub followed : (r piece content : List ℕ) (at to : ℕ) → at ≤ to → to < length piece → IsRecord content ((r ++ take at piece) ++ slice_range piece at to) → IsFollowed (r ++ piece)
@@ -156,6 +190,7 @@ unheard directions old mid new call faults.Path wrote (bytes, read, is) = absurd
 unheard directions old mid new call (faults.Refused op status) wrote (bytes, read, is) = absurd is
 unheard directions old mid new call faults.Entry wrote (bytes, read, is) = absurd is
 unheard directions old mid new call faults.Failed wrote (bytes, read, is) = absurd is
+unheard directions old mid new call faults.TooLarge wrote (bytes, read, is) = absurd is
 
 -- the call was written, and what was read after it is a record, or is none
 pub talked : {S X : Type 0} (directions : Directions S) (bytes : X → List ℕ) (old mid new : S) (call : List ℕ) (result : Result X ToolFault) → Appends (directions.contents old) (directions.contents mid) call

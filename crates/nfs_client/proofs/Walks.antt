@@ -3,19 +3,22 @@ use Rattle.std.proofs.Common.{◌≡◌, ◌<◌, ◌≤◌, ◌+◌, ◌-◌, i
 use Rattle.std.specs.Prelude.{IfOk, Result}
 use Rattle.std.specs.Borrow.{Bor}
 use Rattle.std.proofs.lemmas.List.{take-map, drop-map, drop-drop, drop_min, length-map, length-take, length-drop}
+use Rattle.nfs_types.specs.Seen.{Seen, shown_values}
 use Rattle.nfs_ops.specs.Operations.{Operation}
 use Rattle.nfs_client.specs.Approach.{approach, handle_in, ApproachGives, Approaches, WalkFails, WalkGives}
 use Rattle.nfs_client.specs.Commands.{AskGives, within_session, Commanded}
 use Rattle.nfs_client.specs.Paging.{itself}
 use Rattle.nfs_client.specs.Requests.{Asks, PutGives}
 use Rattle.nfs_client.specs.Routes.{Start, Object, Route, near, far, route_behind, along, most_names, most_of_both, left_of_first}
+use Rattle.nfs_client.specs.Setting.{ValuesGive, set_attributes}
 use Rattle.nfs_client.specs.Streams.{Directions}
 use Rattle.nfs_client.specs.Taking.{Taking, taking, no_value}
-use Rattle.nfs_client.specs.Walking.{Walked, CommandTells, BothGive, ReadyGives, BothReady, along_both}
+use Rattle.nfs_client.specs.Walking.{Walked, OrLarge, AnyNames, CommandTells, BothGive, ReadyGives, BothReady, along_both}
 use Rattle.nfs_client.specs.declared.client.Client.{Client}
 use Rattle.nfs_client.specs.declared.request.Request.{Request}
 use Rattle.nfs_client.specs.declared.fault.ToolFault.{ToolFault}
 use Rattle.nfs_client.specs.declared.fault.ToolFault.TheVariants as fault
+use Rattle.nfs_client.proofs.Large.{setting_is_large}
 use Rattle.nfs_client.proofs.Pages.{same_failure}
 
 module _ {S A : Type 0} (directions : Directions S) where
@@ -101,6 +104,7 @@ pub commanded : {S A X : Type 0} (wrong : ToolFault → Type 0) (gives : Result 
     → (gives (Err fault.Path) → ⊥) → (gives (Err fault.Entry) → ⊥) → (gives (Err fault.Failed) → ⊥) → gives result → Commanded wrong gives old new result
 commanded wrong gives old new (Ok x) path entry failed h = h
 commanded wrong gives old new (Err fault.Memory) path entry failed h = inr h
+commanded wrong gives old new (Err fault.TooLarge) path entry failed h = inr h
 commanded wrong gives old new (Err fault.Path) path entry failed h = absurd (path h)
 commanded wrong gives old new (Err fault.Entry) path entry failed h = absurd (entry h)
 commanded wrong gives old new (Err fault.Failed) path entry failed h = absurd (failed h)
@@ -143,7 +147,7 @@ module _ {S A X V : Type 0} (directions : Directions S) (takes : Taking X V) (as
 
   tells : (result : Result X ToolFault) → Asked result → CommandTells directions takes asks wrong old new result
   tells result h =
-      commanded wrong Asked old new result (λ a. no_path directions most_names a.0 (There a.1) old new (λ route mid i. i) a.3) (λ a. no_entry directions most_names a.0 (There a.1) old new (λ route mid i. i) a.3)
+      commanded (OrLarge (AnyNames asks) wrong) Asked old new result (λ a. no_path directions most_names a.0 (There a.1) old new (λ route mid i. i) a.3) (λ a. no_entry directions most_names a.0 (There a.1) old new (λ route mid i. i) a.3)
       (λ a. no_failed directions most_names a.0 (There a.1) old new (λ route mid i. i) a.3) h
 
   -- the outcome of the request of a command is the outcome of the command
@@ -151,6 +155,18 @@ module _ {S A X V : Type 0} (directions : Directions S) (takes : Taking X V) (as
       → ((ops : List Operation) → Asks request ops → AskGives directions takes (within_session ops) mid new result) → CommandTells directions takes asks wrong old new result
   command_runs mid request names op result asked ready ran =
       tells result (names, op, asked, behind directions most_names names (There op) old new mid ready.0 result ready.1 (ran (along mid ready.0 op) ready.2))
+
+  -- memory is refused for the values that are set, or they are too large
+  pub command_unset : {Y : Type 0} (bytes : Y → List ℕ) (names : List (List ℕ)) (s : Seen) (f : ToolFault) → asks names (set_attributes s) → ValuesGive bytes s (Err f) → CommandTells directions takes asks wrong old old (Err f)
+  command_unset bytes names s fault.Memory asked h = inl refl
+  command_unset bytes names s fault.TooLarge asked h = inl ((set_attributes s, (names, asked), setting_is_large s (shown_values s) h), refl)
+  command_unset bytes names s fault.Path asked h = absurd h
+  command_unset bytes names s (fault.Refused op status) asked h = absurd h
+  command_unset bytes names s fault.Reply asked h = absurd h
+  command_unset bytes names s fault.Read asked h = absurd h
+  command_unset bytes names s fault.Write asked h = absurd h
+  command_unset bytes names s fault.Entry asked h = absurd h
+  command_unset bytes names s fault.Failed asked h = absurd h
 
   -- an approach fails, or memory is refused for the request
   pub command_stops : (names : List (List ℕ)) (op : Operation) (f : ToolFault) → asks names op → ReadyGives directions names op old new (Err f) → CommandTells directions takes asks wrong old new (Err f)
@@ -177,7 +193,7 @@ module _ {S A : Type 0} (directions : Directions S) (asks : List (List ℕ) → 
 
   gives_both : (result : Result (Unit {0}) ToolFault) → AskedBoth result → BothGive directions asks wrong old new result
   gives_both result h =
-      commanded wrong AskedBoth old new result
+      commanded (OrLarge (λ op. (names : List (List ℕ)) × AnyNames (asks names) op) wrong) AskedBoth old new result
       (λ a. no_path directions (first_most a.0 a.1) a.0 (Second a.1 a.2) old new (λ first mid i. no_path directions most_of_both a.1 (ThereBoth a.2 first) mid new (λ second last j. j) i) a.4)
       (λ a. no_entry directions (first_most a.0 a.1) a.0 (Second a.1 a.2) old new (λ first mid i. no_entry directions most_of_both a.1 (ThereBoth a.2 first) mid new (λ second last j. j) i) a.4)
       (λ a. no_failed directions (first_most a.0 a.1) a.0 (Second a.1 a.2) old new (λ first mid i. no_failed directions most_of_both a.1 (ThereBoth a.2 first) mid new (λ second last j. j) i) a.4) h

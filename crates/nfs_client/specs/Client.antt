@@ -2,13 +2,13 @@
 use Rattle.std.specs.Prelude.{◌≡◌, ◌⊎◌, ℕ, ◌+◌, ◌%◌, ◌^◌, false, List, [], Result, Ok, Err}
 use Rattle.rpc_record.specs.Identity.{Identity, identity}
 use Rattle.nfs_ops.specs.Operations.{Operation}
-use Rattle.nfs_client.specs.Compound.{Call, IsCall}
+use Rattle.nfs_client.specs.Compound.{Call, IsCall, IsTooLarge}
 use Rattle.nfs_client.specs.Requests.{asked_of}
 use Rattle.nfs_client.specs.Streams.{Directions, Talked, TalkFails}
 use Rattle.nfs_client.specs.declared.client.Client.{Client}
 use Rattle.nfs_client.specs.declared.client.Reply.{Reply as ReplyOf}
 use Rattle.nfs_client.specs.declared.fault.ToolFault.{ToolFault}
-use Rattle.nfs_client.specs.declared.fault.ToolFault.TheVariants.{Memory}
+use Rattle.nfs_client.specs.declared.fault.ToolFault.TheVariants.{Memory, TooLarge}
 
 -- the caller: the user, with one group alone
 abbrev pub caller_of : {S A : Type 0} → Client S A → Identity
@@ -46,12 +46,18 @@ pub record Begun {S A : Type 0} (old new : Client S A) : Type 0 where
   pub session : new.session ≡ old.session
   pub number : new.number ≡ old.number
 
--- the record that was read; or no bytes were written for want of memory; or the fault for which no record was read
+-- Nothing of the call is written: memory is refused, or the call is too large for a record.
+abbrev pub IsUnsent : Call → ToolFault → Type 0
+IsUnsent call Memory = Unit {0}
+IsUnsent call TooLarge = IsTooLarge call
+IsUnsent call fault = ⊥
+
+-- the record that was read; or the fault for which no bytes were written, or no record was read
 abbrev pub ExchangeGives : {S A : Type 0} → Directions S → List Operation → Client S A → Client S A
     → Result (ReplyOf A) ToolFault → Type 0
 ExchangeGives directions ops old new (Ok reply) =
     Begun old new × (reply.xid ≡ old.xid) × (reply.asked.items ≡ asked_of ops)
     × Exchange directions old.stream new.stream (call_of old ops) reply.content.items
 ExchangeGives directions ops old new (Err fault) =
-    ((fault ≡ Memory) × (new ≡ old))
+    (IsUnsent (call_of old ops) fault × (new ≡ old))
     ⊎ (Begun old new × Failing directions old.stream new.stream (call_of old ops) fault)

@@ -6,7 +6,7 @@ use Rattle.nfs_ops.specs.Operations.{Operation, Known}
 use Rattle.nfs_ops.specs.Results.{Outcome}
 use Rattle.nfs_ops.specs.declared.OpKind.TheVariants as kinds
 use Rattle.nfs_client.specs.Paths.{names_in}
-use Rattle.nfs_client.specs.Compound.{Answer, AllDone, LastRefused, NoReply, said}
+use Rattle.nfs_client.specs.Compound.{Answer, AllDone, LastRefused, NoReply, said, IsTooLarge}
 use Rattle.nfs_client.specs.Requests.{asked_of}
 use Rattle.nfs_client.specs.Client.{Begun, Exchange, Failing, call_of, next}
 use Rattle.nfs_client.specs.Streams.{Directions}
@@ -14,7 +14,7 @@ use Rattle.nfs_client.specs.Taking.{Taking}
 use Rattle.nfs_client.specs.declared.client.Client.{Client}
 use Rattle.nfs_client.specs.declared.fault.ToolFault.{ToolFault}
 use Rattle.nfs_client.specs.declared.fault.ToolFault.TheVariants.{Path, Refused, Reply, Read, Write, Memory, Entry}
-use Rattle.nfs_client.specs.declared.fault.ToolFault.TheVariants.{Failed}
+use Rattle.nfs_client.specs.declared.fault.ToolFault.TheVariants.{Failed, TooLarge}
 
 -- ---- operations
 
@@ -74,6 +74,13 @@ abbrev pub Spoils : {S A X : Type 0} → Result X ToolFault → Client S A → C
 Spoils (Err Memory) old new = new ≡ record old { usable = false }
 Spoils told old new = new ≡ old
 
+-- The command ends in the middle, since memory was refused or a call of it is too large: then no
+-- other command runs.
+abbrev pub Breaks : {S A X : Type 0} → Result X ToolFault → Client S A → Client S A → Type 0
+Breaks (Err Memory) old new = new ≡ record old { usable = false }
+Breaks (Err TooLarge) old new = new ≡ record old { usable = false }
+Breaks told old new = new ≡ old
+
 -- the exchange is over, and the next call of the slot has this number
 pub record Settled {S A : Type 0} (old new : Client S A) (number : ℕ) : Type 0 where
   pub usable : new.usable ≡ true
@@ -127,6 +134,7 @@ AskGives directions takes asked old new (Err (Refused op status)) =
     Answered directions asked.ops old new (LastRefused op (statuses.number_of status))
     × Settled old new (number_behind (takes_number asked.in_session op) old.number)
 AskGives directions takes asked old new (Err Memory) = NoMemory directions asked.ops old new
+AskGives directions takes asked old new (Err TooLarge) = IsTooLarge (call_of old asked.ops) × (new ≡ old)
 AskGives directions takes asked old new (Err Reply) =
     GivesUp directions asked.ops old new Reply ⊎ NoAnswer directions takes.taken asked.ops old new
 AskGives directions takes asked old new (Err Read) = GivesUp directions asked.ops old new Read
@@ -136,11 +144,13 @@ AskGives directions takes asked old new (Err Entry) = ⊥
 AskGives directions takes asked old new (Err Failed) = ⊥
 
 -- The outcome of a command, unless its words are wrong: then no operation is asked. On a client
--- that isn't usable no command runs. Memory may be refused before an operation is asked.
+-- that isn't usable no command runs. Memory may be refused before an operation is asked. Neither is
+-- one asked where the operation of the words is too large alone.
 abbrev pub Commanded : {S A X : Type 0} → (ToolFault → Type 0) → (Result X ToolFault → Type 0) → Client S A
     → Client S A → Result X ToolFault → Type 0
 Commanded wrong gives old new (Err Failed) = (old.usable ≡ false) × (new ≡ old)
 Commanded wrong gives old new (Err Path) = wrong Path × (new ≡ old)
 Commanded wrong gives old new (Err Entry) = wrong Entry × (new ≡ old)
 Commanded wrong gives old new (Err Memory) = (new ≡ old) ⊎ gives (Err Memory)
+Commanded wrong gives old new (Err TooLarge) = (wrong TooLarge × (new ≡ old)) ⊎ gives (Err TooLarge)
 Commanded wrong gives old new result = gives result

@@ -1,5 +1,6 @@
 -- A COMPOUND as a client writes it, and its results as a client reads them (RFC 8881, sections 16.2.2 and 16.2.4).
-use Rattle.std.specs.Prelude.{◌≡◌, ℕ, ◌==◌, if◌then◌else◌, List, [], ◌∷◌, ◌++◌, length, Option, Some, None, Ok, Err}
+use Rattle.std.specs.Prelude.{◌≡◌, ◌<◌, ℕ, ◌==◌, if◌then◌else◌, List, [], ◌∷◌, ◌++◌, length, Option, Some, None, Ok}
+use Rattle.std.specs.Prelude.{Err}
 use Rattle.std.specs.List.{flat_map, AllByRecursion}
 use Rattle.xdr_wire.specs.Xdr.{Xdr, uint, opaque, fields, spelling}
 use Rattle.xdr_wire.specs.Reading.{◌>>=◌, Read, read_at, items_at}
@@ -38,12 +39,32 @@ pub record Call : Type 0 where
   pub caller : Identity
   pub ops : List Operation
 
+-- the bytes of a call, as they stand in its record
+abbrev pub content_of : Call → List ℕ
+content_of call = call_bytes call.xid (Some call.caller) ++ compound_bytes call.ops
+
 -- The bytes are a record with the call.
 pub record IsCall (call : Call) (bytes : List ℕ) : Type 0 where
   pub content : List ℕ
   pub one_record : IsRecord content bytes
-  pub parts : content ≡ call_bytes call.xid (Some call.caller) ++ compound_bytes call.ops
+  pub parts : content ≡ content_of call
   pub spelled : AllByRecursion IsSpelled call.ops
+
+-- the most bytes of a record that a server takes
+abbrev pub most_sent : ℕ
+most_sent = 131072
+
+-- The record of the call would have more bytes.
+abbrev pub IsTooLarge : Call → Type 0
+IsTooLarge call = most_sent < length (content_of call)
+
+-- an operation has more bytes alone
+abbrev pub IsLarge : Operation → Type 0
+IsLarge op = most_sent < length (op_bytes op)
+
+-- the operations have more bytes alone
+abbrev pub AreTooLarge : List Operation → Type 0
+AreTooLarge ops = most_sent < length (flat_map op_bytes ops)
 
 -- ---- reading
 

@@ -1,5 +1,6 @@
--- put: a file is opened for writing. A text is written to it piece by piece, each with the size
--- after it, and the file is closed.
+-- put: a file is emptied as it is opened for writing. A text is written to it piece by piece, and
+-- the file is closed. replace: the same, but the file keeps its bytes until others are written, and
+-- each piece has the size after it.
 use Rattle.std.specs.Prelude.{◌≡◌, ◌⊎◌, ℕ, ◌+◌, nat_le, ◌==◌, ◌&&◌, if◌then◌else◌, sum, codes, List, [], ◌∷◌}
 use Rattle.std.specs.Prelude.{◌++◌, length, take, drop, Option, Some, None, option_and_then, option_map, Result, Ok}
 use Rattle.std.specs.Prelude.{Err}
@@ -13,14 +14,16 @@ use Rattle.nfs_ops.specs.Results.{Outcome, Done}
 use Rattle.nfs_ops.specs.declared.OpKind.TheVariants as kinds
 use Rattle.nfs_client.specs.Setting.{with_size, set_size}
 use Rattle.nfs_client.specs.Streams.{Directions}
-use Rattle.nfs_client.specs.Taking.{last_two, before_last, taking, no_value}
+use Rattle.nfs_client.specs.Taking.{last_of, last_two, before_last, taking, no_value}
 use Rattle.nfs_client.specs.Approach.{get_handle, handle_of}
-use Rattle.nfs_client.specs.Commands.{sequence, IsIn, AskGives, within_session, Spoils, Commanded}
+use Rattle.nfs_client.specs.Commands.{sequence, IsIn, AskGives, within_session, Breaks, Commanded}
 use Rattle.nfs_client.specs.Rm.{WrongPath}
 use Rattle.nfs_client.specs.Routes.{Route, walk, most_before_two}
-use Rattle.nfs_client.specs.Walking.{Walked}
+use Rattle.nfs_client.specs.Walking.{Walked, OrLarge, AnyNames}
 use Rattle.nfs_client.specs.Paging.{itself}
 use Rattle.nfs_client.specs.declared.client.Client.{Client}
+use Rattle.nfs_client.specs.declared.put.OldBytes.{OldBytes}
+use Rattle.nfs_client.specs.declared.put.OldBytes.TheVariants.{Dropped, Kept}
 use Rattle.nfs_client.specs.declared.fault.ToolFault.{ToolFault}
 use Rattle.nfs_client.specs.declared.fault.ToolFault.TheVariants.{Refused}
 
@@ -36,13 +39,14 @@ abbrev pub open_by : Seen → List ℕ → ℕ → List ℕ → Operation
 open_by s values client name =
     Known kinds.Open (0, (2, (0, (client, (owner, (inr (inl (inl (shown_set s, values))), inl name))))))
 
--- A file that exists keeps its bytes as it is opened, unless the text is empty: then its size becomes 0.
-abbrev pub size_at_open : List ℕ → Option ℕ
-size_at_open text = if length text == 0 then Some 0 else None
+-- The size that a file gets as it is opened, if it gets one. A file that keeps its bytes gets the
+-- size 0 where the text is empty.
+abbrev pub size_at_open : OldBytes → List ℕ → Option ℕ
+size_at_open Dropped text = Some 0
+size_at_open Kept text = if length text == 0 then Some 0 else None
 
-abbrev pub open_sized : List ℕ → ℕ → List ℕ → Operation
-open_sized text client name =
-    open_by (with_size (size_at_open text)) (shown_values (with_size (size_at_open text))) client name
+abbrev pub open_sized : Option ℕ → ℕ → List ℕ → Operation
+open_sized size client name = open_by (with_size size) (shown_values (with_size size)) client name
 
 abbrev pub put_handle : List ℕ → Operation
 put_handle handle = Known kinds.PutFh handle
@@ -80,25 +84,35 @@ abbrev pub written_of : ℕ → Outcome → Option ℕ
 written_of sent (Done kinds.Write v) = count_within sent v.0
 written_of sent _ = None
 
--- the count of the WRITE before the last operation
-abbrev pub written_in : ℕ → List Outcome → Option ℕ
-written_in sent results = option_and_then (written_of sent) (before_last results)
+-- the result of the WRITE: the last one, or the one before the result of its SETATTR
+abbrev pub write_in : OldBytes → List Outcome → Option Outcome
+write_in Dropped results = last_of results
+write_in Kept results = before_last results
+
+-- the count of the WRITE
+abbrev pub written_in : OldBytes → ℕ → List Outcome → Option ℕ
+written_in over sent results = option_and_then (written_of sent) (write_in over results)
 
 -- ---- calls
 
 -- the names of the path's directory, and the operation at their end
-abbrev pub OpenAsks : ℕ → List ℕ → List ℕ → List (List ℕ) → Operation → Type 0
-OpenAsks client path text directory op = (name : List ℕ) × IsIn path directory name × (op ≡ open_sized text client name)
+abbrev pub OpenAsks : ℕ → List ℕ → Option ℕ → List (List ℕ) → Operation → Type 0
+OpenAsks client path size directory op = (name : List ℕ) × IsIn path directory name × (op ≡ open_sized size client name)
 
 -- an OPEN at the end of a route, and GETFH after it
 abbrev pub open_along : {S A : Type 0} → Client S A → Route → Operation → List Operation
 open_along client route op = sequence client ∷ walk route ++ op ∷ get_handle ∷ []
 
--- WRITE, and the size that makes these bytes the file's last: so the file is never shorter than what was written to it.
-abbrev pub write_to : {S A : Type 0} → Client S A → Open → ℕ → List ℕ → List Operation
-write_to client o offset bytes =
-    sequence client ∷ put_handle o.handle ∷ write o.stateid offset bytes ∷ set_size o.stateid (offset + length bytes)
-    ∷ []
+-- The operations after a WRITE. A file that kept its bytes gets the size that makes the bytes of the WRITE
+-- its last: so it is never shorter than what was written to it.
+abbrev pub with_write : OldBytes → Value stateid → ℕ → List Operation
+with_write Dropped s size = []
+with_write Kept s size = set_size s size ∷ []
+
+abbrev pub write_to : {S A : Type 0} → Client S A → OldBytes → Open → ℕ → List ℕ → List Operation
+write_to client over o offset bytes =
+    sequence client ∷ put_handle o.handle ∷ write o.stateid offset bytes
+    ∷ with_write over o.stateid (offset + length bytes)
 
 abbrev pub close_it : {S A : Type 0} → Client S A → Open → List Operation
 close_it client o = sequence client ∷ put_handle o.handle ∷ close o.stateid ∷ []
@@ -116,13 +130,21 @@ told_behind op status (Err (Refused n s)) = Err (Refused op status)
 told_behind op status (Err fault) = Err fault
 
 module _ {S A : Type 0} (directions : Directions S) (o : Open) where
-  abbrev pub WriteGives : ℕ → List ℕ → Client S A → Client S A → Result ℕ ToolFault → Type 0
-  WriteGives offset bytes old new result =
-      AskGives directions (taking (written_in (length bytes)) itself) (within_session (write_to old o offset bytes))
-      old new result
-
   abbrev pub CloseGives : Client S A → Client S A → Result (Unit {0}) ToolFault → Type 0
   CloseGives old new result = AskGives directions no_value (within_session (close_it old o)) old new result
+
+  -- The file is closed where the text is written, and where a WRITE was refused.
+  abbrev pub ClosesBehind : Result (Unit {0}) ToolFault → Client S A → Client S A → Result (Unit {0}) ToolFault → Type 0
+  ClosesBehind (Ok done) old new result = CloseGives old new result
+  ClosesBehind (Err (Refused op status)) old new result =
+      (closed : Result (Unit {0}) ToolFault) × CloseGives old new closed × (result ≡ told_behind op status closed)
+  ClosesBehind (Err fault) old new result = (new ≡ old) × (result ≡ Err fault)
+
+module _ {S A : Type 0} (directions : Directions S) (over : OldBytes) (o : Open) where
+  abbrev pub WriteGives : ℕ → List ℕ → Client S A → Client S A → Result ℕ ToolFault → Type 0
+  WriteGives offset bytes old new result =
+      AskGives directions (taking (written_in over (length bytes)) itself)
+      (within_session (write_to old over o offset bytes)) old new result
 
   -- Each WRITE begins after the bytes written so far. The counts of the WRITEs, the last first.
   abbrev pub Writes : List ℕ → Client S A → List ℕ → Client S A → Type 0
@@ -138,35 +160,34 @@ module _ {S A : Type 0} (directions : Directions S) (o : Open) where
       (mid : Client S A) × (before : List ℕ) × Writes text old before mid
       × WriteGives (sum before) (piece (drop (sum before) text)) mid new (Err fault)
 
-  -- The file is closed where the text is written, and where a WRITE was refused.
-  abbrev pub ClosesBehind : Result (Unit {0}) ToolFault → Client S A → Client S A → Result (Unit {0}) ToolFault → Type 0
-  ClosesBehind (Ok done) old new result = CloseGives old new result
-  ClosesBehind (Err (Refused op status)) old new result =
-      (closed : Result (Unit {0}) ToolFault) × CloseGives old new closed × (result ≡ told_behind op status closed)
-  ClosesBehind (Err fault) old new result = (new ≡ old) × (result ≡ Err fault)
-
-  -- The text is written to the open file, which is closed. Where memory was refused no other command runs.
+  -- The text is written to the open file, which is closed. No other command runs where memory was
+  -- refused or a call is too large.
   abbrev pub FileGives : List ℕ → Client S A → Client S A → Result (Unit {0}) ToolFault → Type 0
   FileGives text old new result =
       (told : Result (Unit {0}) ToolFault) × (mid : Client S A) × (last : Client S A) × TextGives text old mid told
-      × ClosesBehind told mid last result × Spoils result last new
+      × ClosesBehind directions o told mid last result × Breaks result last new
+
+-- a text that is written over the bytes of a file
+pub record Text : Type 0 where
+  pub over : OldBytes
+  pub bytes : List ℕ
 
 -- The file is opened, written and closed; or the OPEN fails, or a later exchange.
-abbrev pub PutFileGives : {S A : Type 0} → Directions S → List ℕ → List Operation → Client S A → Client S A
+abbrev pub PutFileGives : {S A : Type 0} → Directions S → Text → List Operation → Client S A → Client S A
     → Result (Unit {0}) ToolFault → Type 0
 PutFileGives {S} {A} directions text ops old new (Ok done) =
     (mid : Client S A) × (o : Open) × AskGives directions (taking open_in itself) (within_session ops) old mid (Ok o)
-    × FileGives directions o text mid new (Ok done)
+    × FileGives directions text.over o text.bytes mid new (Ok done)
 PutFileGives {S} {A} directions text ops old new (Err fault) =
     AskGives {X = Open} directions (taking open_in itself) (within_session ops) old new (Err fault)
     ⊎ ((mid : Client S A) × (o : Open)
     × AskGives directions (taking open_in itself) (within_session ops) old mid (Ok o)
-    × FileGives directions o text mid new (Err fault))
+    × FileGives directions text.over o text.bytes mid new (Err fault))
 
 -- a file that is put: the operation that opens it, and its text
 pub record FilePut : Type 0 where
   pub opens : Operation
-  pub text : List ℕ
+  pub text : Text
 
 -- The file is opened in a directory along these names.
 abbrev pub PutAlong : {S A : Type 0} → Directions S → List (List ℕ) → FilePut → Client S A → Client S A
@@ -176,9 +197,10 @@ PutAlong directions names file old new result =
     (λ route mid r. PutFileGives directions file.text (open_along mid route file.opens) mid new r) old new result
 
 -- The file is put in its directory; or the path is wrong, and no operation is asked.
-abbrev pub PutCommandGives : {S A : Type 0} → Directions S → List ℕ → List ℕ → Client S A → Client S A
+abbrev pub PutCommandGives : {S A : Type 0} → Directions S → List ℕ → Text → Client S A → Client S A
     → Result (Unit {0}) ToolFault → Type 0
 PutCommandGives directions path text old new result =
-    Commanded (WrongPath path)
-    (λ told. (directory : List (List ℕ)) × (op : Operation) × OpenAsks old.client path text directory op
+    Commanded (OrLarge (AnyNames (OpenAsks old.client path (size_at_open text.over text.bytes))) (WrongPath path))
+    (λ told. (directory : List (List ℕ)) × (op : Operation)
+    × OpenAsks old.client path (size_at_open text.over text.bytes) directory op
     × PutAlong directions directory (record { opens = op; text = text }) old new told) old new result

@@ -17,6 +17,7 @@ use Rattle.nfs_client.specs.Taking.{taking}
 use Rattle.nfs_client.specs.Walking.{BothGive, CommandGives, CommandTells}
 use Rattle.nfs_client.specs.Words.{CommandLine, Ls, Cat, Put, MkDir, Ln, Mv, Rm, ChMod, GetAcl, SetAcl, Access}
 use Rattle.nfs_client.specs.declared.client.Client.{Client}
+use Rattle.nfs_client.specs.declared.put.OldBytes.TheVariants.{Dropped}
 use Rattle.nfs_client.specs.declared.running.Answer.{Answer}
 use Rattle.nfs_client.specs.declared.fault.ToolFault.{ToolFault}
 use Rattle.nfs_client.specs.declared.fault.ToolFault.TheVariants.{Memory}
@@ -40,7 +41,8 @@ abbrev pub Runs : {S A : Type 0} → Directions S → CommandLine → Client S A
 Runs {A = A} directions (Ls path) old new result =
     Tells {V = Vec ℕ A} (LsGives directions says_text path old new) says_text result
 Runs directions (Cat path) old new result = CatTells directions path old new result
-Runs directions (Put path text) old new result = Tells (PutCommandGives directions path text old new) says_ok result
+Runs directions (Put path text) old new result =
+    Tells (PutCommandGives directions path (record { over = Dropped; bytes = text }) old new) says_ok result
 Runs directions (MkDir path) old new result =
     Tells (CommandGives directions (MkDirAsks path) (WrongPath path) old new) says_ok result
 Runs directions (Ln from to) old new result =

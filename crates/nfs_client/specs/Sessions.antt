@@ -8,7 +8,7 @@ use Rattle.nfs_ops.specs.Results.{Outcome, Done}
 use Rattle.nfs_ops.specs.declared.OpKind.TheVariants as kinds
 use Rattle.nfs_client.specs.Streams.{Directions}
 use Rattle.nfs_client.specs.Taking.{last_of, taking, no_value}
-use Rattle.nfs_client.specs.Commands.{AskGives, outside_session, Spoils}
+use Rattle.nfs_client.specs.Commands.{AskGives, outside_session, Breaks}
 use Rattle.nfs_client.specs.declared.client.Client.{Client}
 use Rattle.nfs_client.specs.declared.sessions.Registration.{Registration}
 use Rattle.nfs_client.specs.declared.fault.ToolFault.{ToolFault}
@@ -107,7 +107,7 @@ abbrev pub Ends : {S A : Type 0} → Directions S → Operation → Client S A �
 Ends directions op old new result = AskGives directions no_value (outside_session (op ∷ [])) old new result
 
 -- DESTROY_SESSION is OK, and then DESTROY_CLIENTID; or the first exchange fails, or the second.
--- Where memory was refused for the second no other command runs.
+-- Where memory was refused for the second, or its call is too large, no other command runs.
 abbrev pub EndGives : {S A : Type 0} → Directions S → Client S A → Client S A → Result (Unit {0}) ToolFault → Type 0
 EndGives {S} {A} directions old new (Ok done) =
     (mid : Client S A) × Ends directions (destroy_session old.session) old mid (Ok tt)
@@ -117,4 +117,4 @@ EndGives {S} {A} directions old new (Err fault) =
     Ends directions (destroy_session old.session) old new (Err fault)
     ⊎ ((mid : Client S A) × (last : Client S A) × Ends directions (destroy_session old.session) old mid (Ok tt)
     × Ends directions (destroy_client old.client) mid last (Err fault)
-    × Spoils {X = Unit {0}} (Err fault) last new)
+    × Breaks {X = Unit {0}} (Err fault) last new)

@@ -1,5 +1,5 @@
 -- SETATTR with the values that a client sends, without an open (RFC 8881, section 18.30).
-use Rattle.std.specs.Prelude.{ℕ, List, Option, Some, None}
+use Rattle.std.specs.Prelude.{◌≡◌, ◌<◌, ℕ, length, List, Option, Some, None, Result, Ok, Err}
 use Rattle.xdr_wire.specs.Xdr.{Value}
 use Rattle.nfs_types.specs.Attributes.{ace}
 use Rattle.nfs_types.specs.Forms.{stateid}
@@ -7,6 +7,9 @@ use Rattle.nfs_types.specs.Seen.{Seen, shown_set, shown_values}
 use Rattle.nfs_types.specs.StateIds.{anonymous}
 use Rattle.nfs_ops.specs.Operations.{Operation, Known}
 use Rattle.nfs_ops.specs.declared.OpKind.TheVariants as kinds
+use Rattle.nfs_client.specs.Compound.{most_sent}
+use Rattle.nfs_client.specs.declared.fault.ToolFault.{ToolFault}
+use Rattle.nfs_client.specs.declared.fault.ToolFault.TheVariants.{Memory, TooLarge}
 use Rattle.nfs_client.specs.declared.list_part.ListPart.{ListPart}
 use Rattle.nfs_client.specs.declared.list_part.ListPart.TheVariants.{Acl, Dacl, Sacl}
 
@@ -20,6 +23,13 @@ set_by s values = set_under anonymous s values
 
 abbrev pub set_attributes : Seen → Operation
 set_attributes s = set_by s (shown_values s)
+
+-- The values of attributes; or memory is refused for them, or they are too large for a record.
+abbrev pub ValuesGive : {X : Type 0} → (X → List ℕ) → Seen → Result X ToolFault → Type 0
+ValuesGive bytes s (Ok values) = bytes values ≡ shown_values s
+ValuesGive bytes s (Err Memory) = Unit {0}
+ValuesGive bytes s (Err TooLarge) = most_sent < length (shown_values s)
+ValuesGive bytes s (Err fault) = ⊥
 
 -- no attribute
 abbrev pub of_nothing : Seen

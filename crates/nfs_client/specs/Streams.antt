@@ -1,5 +1,6 @@
 -- Bytes over a stream.
-use Rattle.std.specs.Prelude.{◌≡◌, ◌⊎◌, ◌<◌, ℕ, List, ◌++◌, length, Bool, true, false, Option, Result, Ok, Err}
+use Rattle.std.specs.Prelude.{◌≡◌, ◌⊎◌, ◌≤◌, ◌<◌, ℕ, List, ◌++◌, length, Bool, true, false, Option, Result, Ok, Err}
+use Rattle.std.specs.List.{All, concat}
 use Rattle.std.specs.Io.KnownBytes.{Appends, Consumes}
 use Rattle.rpc_record.specs.Records.{IsRecord, IsUnfinished, Breaks}
 use Rattle.rpc_record.specs.Frame.{Frame}
@@ -47,18 +48,34 @@ PieceGives framer content bytes (Ok false) = Stands framer content bytes
 PieceGives framer content bytes (Err fault) = IsFrameFault bytes fault
 
 -- A fault of reading a reply, of which these bytes were read. They are a record that isn't whole,
--- after which no more can be read, or they can't be framed.
+-- after which no more is read, or they can't be framed.
 abbrev pub IsReadFault : List ℕ → ToolFault → Type 0
 IsReadFault bytes Read = IsUnfinished bytes
 IsReadFault bytes fault = IsFrameFault bytes fault
 
+-- the most reads of one reply
+abbrev pub most_reads : ℕ
+most_reads = 200000
+
+-- the bytes that one read gives, where it neither fails nor finds the end
+abbrev pub IsPiece : List ℕ → Type 0
+IsPiece piece = (0 < length piece) × (length piece ≤ 4096)
+
+-- The bytes were read, by no more reads than the most. A piece is what one read gave.
+pub record Reads (left left' : Option (List ℕ)) (bytes : List ℕ) : Type 0 where
+  pub pieces : List (List ℕ)
+  pub are : All IsPiece pieces
+  pub few : length pieces ≤ most_reads
+  pub parts : bytes ≡ concat pieces
+  pub read : Consumes left left' bytes
+
 -- the bytes that were read are a record
 abbrev pub ReadsRecord : Option (List ℕ) → Option (List ℕ) → List ℕ → Type 0
-ReadsRecord left left' content = (bytes : List ℕ) × IsRecord content bytes × Consumes left left' bytes
+ReadsRecord left left' content = (bytes : List ℕ) × IsRecord content bytes × Reads left left' bytes
 
 abbrev pub RecordGives : {X : Type 0} → (X → List ℕ) → Option (List ℕ) → Option (List ℕ) → Result X ToolFault → Type 0
 RecordGives bytes left left' (Ok content) = ReadsRecord left left' (bytes content)
-RecordGives bytes left left' (Err fault) = (read : List ℕ) × Consumes left left' read × IsReadFault read fault
+RecordGives bytes left left' (Err fault) = (read : List ℕ) × Reads left left' read × IsReadFault read fault
 
 -- bytes were written, and after them a record was read
 pub record Talked {S : Type 0} (directions : Directions S) (old new : S) (call content : List ℕ) : Type 0 where
@@ -72,7 +89,7 @@ pub record Unheard {S : Type 0} (directions : Directions S) (old new : S) (call 
   pub mid : S
   pub wrote : Appends (directions.contents old) (directions.contents mid) call
   pub bytes : List ℕ
-  pub read : Consumes (directions.remaining mid) (directions.remaining new) bytes
+  pub read : Reads (directions.remaining mid) (directions.remaining new) bytes
   pub no_record : IsReadFault bytes fault
 
 -- a front of the bytes was written and the stream failed; or all bytes were, and no record was read after them

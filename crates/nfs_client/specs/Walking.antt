@@ -4,6 +4,7 @@ use Rattle.nfs_ops.specs.Operations.{Operation, Known}
 use Rattle.nfs_ops.specs.declared.OpKind.TheVariants as kinds
 use Rattle.nfs_client.specs.Approach.{WalkGives, WalkFails}
 use Rattle.nfs_client.specs.Commands.{sequence, AskGives, within_session, Commanded}
+use Rattle.nfs_client.specs.Compound.{IsLarge}
 use Rattle.nfs_client.specs.Paging.{itself}
 use Rattle.nfs_client.specs.Requests.{Asks}
 use Rattle.nfs_client.specs.Routes.{Route, walk, along, most_names, most_of_both, left_of_first}
@@ -12,7 +13,7 @@ use Rattle.nfs_client.specs.Taking.{Taking, no_value}
 use Rattle.nfs_client.specs.declared.client.Client.{Client}
 use Rattle.nfs_client.specs.declared.request.Request.{Request}
 use Rattle.nfs_client.specs.declared.fault.ToolFault.{ToolFault}
-use Rattle.nfs_client.specs.declared.fault.ToolFault.TheVariants.{Memory}
+use Rattle.nfs_client.specs.declared.fault.ToolFault.TheVariants.{Memory, TooLarge}
 
 abbrev pub save : Operation
 save = Known kinds.SaveFh tt
@@ -20,6 +21,15 @@ save = Known kinds.SaveFh tt
 -- along a path, SAVEFH there, along another path, and an operation
 abbrev pub along_both : {S A : Type 0} → Client S A → Route → Route → Operation → List Operation
 along_both client first second op = sequence client ∷ walk first ++ save ∷ walk second ++ op ∷ []
+
+-- what may be wrong with words: an operation of them can also be too large alone
+abbrev pub OrLarge : (Operation → Type 0) → (ToolFault → Type 0) → ToolFault → Type 0
+OrLarge asks wrong TooLarge = (op : Operation) × asks op × IsLarge op
+OrLarge asks wrong fault = wrong fault
+
+-- the operation of a command, at the end of whatever names
+abbrev pub AnyNames : (List (List ℕ) → Operation → Type 0) → Operation → Type 0
+AnyNames asks op = (names : List (List ℕ)) × asks names op
 
 module _ {S A : Type 0} (directions : Directions S) where
   -- The outcome of approaches until at most this many names are left, and then of a step with the
@@ -39,8 +49,8 @@ module _ {S A : Type 0} (directions : Directions S) where
   abbrev pub CommandTells : {X V : Type 0} → Taking X V → (List (List ℕ) → Operation → Type 0)
       → (ToolFault → Type 0) → Client S A → Client S A → Result X ToolFault → Type 0
   CommandTells takes asks wrong old new result =
-      Commanded wrong (λ told. (names : List (List ℕ)) × (op : Operation) × asks names op
-      × Walked most_names names
+      Commanded (OrLarge (AnyNames asks) wrong)
+      (λ told. (names : List (List ℕ)) × (op : Operation) × asks names op × Walked most_names names
       (λ route mid r. AskGives directions takes (within_session (along mid route op)) mid new r) old new
       told) old new result
 
@@ -54,7 +64,7 @@ module _ {S A : Type 0} (directions : Directions S) where
   abbrev pub BothGive : (List (List ℕ) → List (List ℕ) → Operation → Type 0) → (ToolFault → Type 0) → Client S A
       → Client S A → Result (Unit {0}) ToolFault → Type 0
   BothGive asks wrong old new result =
-      Commanded wrong
+      Commanded (OrLarge (λ op. (names : List (List ℕ)) × AnyNames (asks names) op) wrong)
       (λ told. (names : List (List ℕ)) × (others : List (List ℕ)) × (op : Operation) × asks names others op
       × Walked (left_of_first (length names) (length others)) names
       (λ first mid r. Walked most_of_both others

@@ -72,7 +72,7 @@ fn takes_number(in_session: bool, op: u32) -> bool
 
 impl<S: Read + Write, A: Allocator + Copy> Client<S, A> {
     ghost use Rattle.nfs_client.specs.Client.{ExchangeGives, next};
-    ghost use Rattle.nfs_client.specs.Commands.{sequence, Concludes, Spoils, AskGives};
+    ghost use Rattle.nfs_client.specs.Commands.{sequence, Concludes, Spoils, Breaks, AskGives};
     ghost use Rattle.nfs_client.specs.declared.fault.ToolFault.TheVariants.{Memory, Failed};
 
     /// A client that goes on with a session of the client of this number, over a stream on which no
@@ -202,6 +202,16 @@ impl<S: Read + Write, A: Allocator + Copy> Client<S, A> {
         ensures { Spoils told.now self.old self.new }
     {
         if let Err(ToolFault::Memory) = told {
+            self.usable = false;
+        }
+    }
+
+    /// A client whose command ended in the middle, for want of memory or since a call is too large,
+    /// runs no other command.
+    pub(crate) fn break_off<T>(&mut self, told: &Result<T, ToolFault>)
+        ensures { Breaks told.now self.old self.new }
+    {
+        if let Err(ToolFault::Memory | ToolFault::TooLarge) = told {
             self.usable = false;
         }
     }

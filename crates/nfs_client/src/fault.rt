@@ -24,7 +24,7 @@ pub enum ToolFault {
     /// The stream can't be written.
     #[error("the stream can't be written")]
     Write,
-    /// Memory ran out, or a call is longer than a record may be.
+    /// Memory ran out.
     #[error("out of memory")]
     Memory,
     /// A mode isn't one to four octal digits, or an entry can't be read.
@@ -33,6 +33,9 @@ pub enum ToolFault {
     /// An earlier command left the stream in a state in which no other command can follow.
     #[error("an earlier command failed")]
     Failed,
+    /// A call would be a record of more than 131,072 bytes, which no server takes.
+    #[error("a call is too large")]
+    TooLarge,
 }
 
 impl ToolFault {
@@ -51,6 +54,7 @@ impl ToolFault {
             ToolFault::Memory => 6,
             ToolFault::Entry => 7,
             ToolFault::Failed => 8,
+            ToolFault::TooLarge => 9,
         }
     }
 }

@@ -1,6 +1,6 @@
 //! Making a text the bytes of a file.
 ghost use Rattle.std.specs.Prelude.{◌≡◌, ◌≤◌, ◌<◌, ◌+◌, ◌^◌, ℕ, false, true, Err, List, IfOk, length, map, option_map};
-ghost use Rattle.std.specs.Prelude.{option_and_then};
+ghost use Rattle.std.specs.Prelude.{◌++◌, option_and_then, OnOk};
 ghost use Rattle.nfs_types.specs.ShownViews.{shown_value};
 ghost use Rattle.nfs_types.specs.Views.{stateid_value, handle_value};
 ghost use Rattle.nfs_ops.specs.Operations.{Operation};
@@ -10,8 +10,9 @@ ghost use Rattle.nfs_client.specs.Commands.{AskGives, within_session};
 ghost use Rattle.nfs_client.specs.Compound.{said};
 ghost use Rattle.nfs_client.specs.CompoundViews.{outcomes};
 ghost use Rattle.nfs_client.specs.Paging.{itself};
-ghost use Rattle.nfs_client.specs.Put.{size_at_open, stateid_of, open_by, open_in, written_of, written_in, write_to};
-ghost use Rattle.nfs_client.specs.Put.{close_it, piece, WriteGives, CloseGives, TextGives, ClosesBehind, FileGives};
+ghost use Rattle.nfs_client.specs.Put.{size_at_open, stateid_of, open_by, open_in, written_of, write_in, written_in};
+ghost use Rattle.nfs_client.specs.Put.{with_write, write_to, close_it, piece, WriteGives, CloseGives, TextGives};
+ghost use Rattle.nfs_client.specs.Put.{ClosesBehind, FileGives};
 ghost use Rattle.nfs_client.specs.Put.{open_along, PutAlong, PutCommandGives};
 ghost use Rattle.nfs_client.specs.PutViews.{open_value};
 ghost use Rattle.nfs_client.specs.RouteViews.{route_value};
@@ -27,7 +28,7 @@ use crate::path::Place;
 use crate::request::{Request, sendable};
 use crate::route::{MOST_BEFORE_TWO, Route, handle_sent};
 use crate::setting::{values_of, with_size};
-use crate::taking::{before_last, last_two};
+use crate::taking::{before_last, last, last_two};
 use nfs_ops::{
     CloseArgs, Op, OpResult, OpenArgs, OpenClaim, OpenHow, PutFhArgs, StableHow, WriteArgs,
 };
@@ -42,6 +43,15 @@ const FOR_WRITING: u32 = 2;
 /// The most bytes of one WRITE.
 const MOST_WRITTEN: usize = 32_768;
 
+/// The bytes that a file has as it is opened.
+#[derive(Clone, Copy)]
+pub(crate) enum OldBytes {
+    /// The file is emptied.
+    Dropped,
+    /// They stay until others are written. An empty text empties the file.
+    Kept,
+}
+
 /// A file that is open.
 #[derive(Drop)]
 pub(crate) struct Opened<A: Allocator> {
@@ -53,12 +63,15 @@ pub(crate) struct Opened<A: Allocator> {
 /// The owner of an open, within its client.
 const OWNER: &[u8] = b"nfsc";
 
-/// The size that a file gets as it is opened: 0 where the text is empty, else none. Without one its
-/// bytes stay until others are written.
-fn size_at_open(text: &[u8]) -> Option<u64>
-    ensures { result ≡ size_at_open text.now }
+/// The size that a file gets as it is opened. Without one its bytes stay.
+fn size_at_open(over: OldBytes, text: &[u8]) -> Option<u64>
+    ensures { result ≡ size_at_open over text.now }
 {
-    if text.is_empty() { Some(0) } else { None }
+    match over {
+        OldBytes::Dropped => Some(0),
+        OldBytes::Kept if text.is_empty() => Some(0),
+        OldBytes::Kept => None,
+    }
 }
 
 /// The stateid in the result of an OPEN.
@@ -89,6 +102,19 @@ fn open_told<A: Allocator + Copy>(
     };
     let handle = handle_bytes(alloc, handle)?;
     Ok(Opened { stateid, handle })
+}
+
+/// The result of a WRITE. It is the last one, or the one before that of its SETATTR.
+fn write_told<'a, A: Allocator>(
+    over: OldBytes,
+    results: Vec<OpResult<'a>, A>,
+) -> Option<OpResult<'a>>
+    ensures { option_map read_view result ≡ write_in over (outcomes results.entry.items) }
+{
+    match over {
+        OldBytes::Dropped => last(results),
+        OldBytes::Kept => before_last(results),
+    }
 }
 
 /// The count of a WRITE's result, of this many bytes that were sent. None: the result has no such
@@ -141,12 +167,12 @@ impl<A: Allocator + Copy> Reply<A> {
     }
 
     /// The count of a WRITE, of this many bytes that were sent.
-    fn written(&self, alloc: A, sent: usize) -> Result<usize, ToolFault>
-        ensures { SaidGives (taking (written_in sent) itself)
+    fn written(&self, alloc: A, over: OldBytes, sent: usize) -> Result<usize, ToolFault>
+        ensures { SaidGives (taking (written_in over sent) itself)
             (said self.now.xid self.now.asked.items self.now.content.items) result }
     {
         match self.results(alloc) {
-            Ok(results) => match written(before_last(results), sent) {
+            Ok(results) => match written(write_told(over, results), sent) {
                 Some(count) => Ok(count),
                 None => Err(ToolFault::Reply),
             },
@@ -184,6 +210,28 @@ fn opening<'a>(
     }))
 }
 
+impl<A: Allocator + Copy> Request<A> {
+    /// Puts the operation after a WRITE, by which the file gets this size. Without the size the end
+    /// of a longer text would stay. A size before the bytes would leave a file empty whose WRITE is
+    /// refused.
+    fn put_with_write(
+        &mut self,
+        alloc: A,
+        over: OldBytes,
+        stateid: StateId,
+        size: u64,
+    ) -> Result<(), ToolFault>
+        ensures asks { OnOk result ((ops : List Operation) → Asks self.old ops →
+            Asks self.new (ops ++ with_write over (stateid_value stateid) size)) }
+        ensures memory { PutGives result }
+    {
+        match over {
+            OldBytes::Dropped => Ok(()),
+            OldBytes::Kept => self.put_size(alloc, stateid, size),
+        }
+    }
+}
+
 impl<S: Read + Write, A: Allocator + Copy> Client<S, A> {
     fn open_file(&mut self, request: Request<A>) -> Result<Opened<A>, ToolFault>
         ensures { (ops : List Operation) → Asks request ops →
@@ -199,17 +247,16 @@ impl<S: Read + Write, A: Allocator + Copy> Client<S, A> {
         told
     }
 
-    /// The request that writes bytes of an open file from an offset on, and makes them its last.
-    /// Without the size the end of a longer text would stay; a size before the bytes would leave a
-    /// file empty whose WRITE is refused.
+    /// The request that writes bytes of an open file from an offset on.
     fn prepare_write(
         &self,
+        over: OldBytes,
         opened: &Opened<A>,
         offset: usize,
         bytes: &[u8],
     ) -> Result<Request<A>, ToolFault>
         requires { offset + length bytes.now < 2 ^ 64 }
-        ensures asks { IfOk result (λ r. Asks r (write_to self.now (open_value opened.now) offset bytes.now)) }
+        ensures asks { IfOk result (λ r. Asks r (write_to self.now over (open_value opened.now) offset bytes.now)) }
         ensures memory { PutGives result }
     {
         let mut request = self.request()?;
@@ -222,39 +269,46 @@ impl<S: Read + Write, A: Allocator + Copy> Client<S, A> {
             stable: StableHow::File,
             data,
         }))?;
-        request.put_size(self.alloc, opened.stateid, (offset + bytes.len()) as u64)?;
+        let size = (offset + bytes.len()) as u64;
+        request.put_with_write(self.alloc, over, opened.stateid, size)?;
         Ok(request)
     }
 
     /// Writes bytes of an open file from an offset on, or some of the first of these bytes. How many were written.
     fn write_piece(
         &mut self,
+        over: OldBytes,
         opened: &Opened<A>,
         offset: usize,
         bytes: &[u8],
     ) -> Result<usize, ToolFault>
         requires { offset + length bytes.now < 2 ^ 64 }
-        ensures { WriteGives (directions_of S.contents S.remaining) (open_value opened.now) offset bytes.now
+        ensures { WriteGives (directions_of S.contents S.remaining) over (open_value opened.now) offset bytes.now
             self.old self.new result }
     {
-        let request = self.prepare_write(opened, offset, bytes)?;
+        let request = self.prepare_write(over, opened, offset, bytes)?;
         let reply = match self.exchange(request) {
             Ok(reply) => reply,
             Err(fault) => return Err(fault),
         };
-        let told = reply.written(self.alloc, bytes.len());
+        let told = reply.written(self.alloc, over, bytes.len());
         self.conclude(&told, true);
         told
     }
 
     /// Writes a text to an open file, piece by piece.
-    fn write_all(&mut self, opened: &Opened<A>, text: &[u8]) -> Result<(), ToolFault>
-        ensures { TextGives (directions_of S.contents S.remaining) (open_value opened.now) text.now
+    fn write_all(
+        &mut self,
+        over: OldBytes,
+        opened: &Opened<A>,
+        text: &[u8],
+    ) -> Result<(), ToolFault>
+        ensures { TextGives (directions_of S.contents S.remaining) over (open_value opened.now) text.now
             self.old self.new result }
     {
         let mut done = 0;
         while done < text.len() {
-            match self.write_piece(opened, done, piece(&text[done..])) {
+            match self.write_piece(over, opened, done, piece(&text[done..])) {
                 Ok(count) => done += count,
                 Err(fault) => return Err(fault),
             }
@@ -306,13 +360,13 @@ impl<S: Read + Write, A: Allocator + Copy> Client<S, A> {
     }
 
     /// Writes a text to an open file, and closes it.
-    fn fill(&mut self, opened: &Opened<A>, text: &[u8]) -> Result<(), ToolFault>
-        ensures { FileGives (directions_of S.contents S.remaining) (open_value opened.now) text.now
+    fn fill(&mut self, over: OldBytes, opened: &Opened<A>, text: &[u8]) -> Result<(), ToolFault>
+        ensures { FileGives (directions_of S.contents S.remaining) over (open_value opened.now) text.now
             self.old self.new result }
     {
-        let written = self.write_all(opened, text);
+        let written = self.write_all(over, opened, text);
         let told = self.close_behind(opened, written);
-        self.spoil(&told);
+        self.break_off(&told);
         told
     }
 
@@ -327,9 +381,16 @@ impl<S: Read + Write, A: Allocator + Copy> Client<S, A> {
     }
 
     /// Opens a file of a directory, writes a text to it, and closes it.
-    fn put_in(&mut self, names: &[&[u8]], op: Op<'_>, text: &[u8]) -> Result<(), ToolFault>
+    fn put_in(
+        &mut self,
+        names: &[&[u8]],
+        op: Op<'_>,
+        over: OldBytes,
+        text: &[u8],
+    ) -> Result<(), ToolFault>
         ensures { PutAlong (directions_of S.contents S.remaining) (map (λ n. n.now) names.now)
-            (record { opens = op_view op.entry; text = text.now }) self.old self.new result }
+            (record { opens = op_view op.entry; text = record { over = over; bytes = text.now } })
+            self.old self.new result }
     {
         let route = match self.reach(names, MOST_BEFORE_TWO) {
             Ok(route) => route,
@@ -340,31 +401,54 @@ impl<S: Read + Write, A: Allocator + Copy> Client<S, A> {
             Err(fault) => return Err(fault),
         };
         match self.open_file(request) {
-            Ok(opened) => self.fill(&opened, text),
+            Ok(opened) => self.fill(over, &opened, text),
             Err(fault) => Err(fault),
         }
     }
 
-    /// Makes a text the bytes of a file, which is created where there is none. The operations are
-    /// OPEN, for each 32,768 bytes a WRITE with the size after it, and CLOSE. The file is closed
-    /// after a refused WRITE too, whose fault is the answer then.
-    ///
-    /// A file that is there keeps its bytes up to the first WRITE, and has a front of the text
-    /// after each. So where the first WRITE is refused a file has the bytes that it had, or none
-    /// where this call created it. Where a later one is refused it has a front of the text.
-    pub fn put(&mut self, path: &[u8], text: &[u8]) -> Result<(), ToolFault>
-        ensures failed { self.old.usable ≡ false → result ≡ Err Failed }
-        ensures gives { PutCommandGives (directions_of S.contents S.remaining) path.now text.now
-            self.old self.new result }
+    /// Makes a text the bytes of a file, on a client that is usable.
+    fn put_over(&mut self, over: OldBytes, path: &[u8], text: &[u8]) -> Result<(), ToolFault>
+        ensures { PutCommandGives (directions_of S.contents S.remaining) path.now
+            (record { over = over; bytes = text.now }) self.old self.new result }
     {
-        self.start()?;
         let place = match Place::read(self.alloc, path) {
             Ok(place) => place,
             Err(fault) => return Err(fault),
         };
-        let shown = with_size(size_at_open(text));
+        let shown = with_size(size_at_open(over, text));
         let values = values_of(self.alloc, &shown)?;
         let op = opening(self.client, place.name, &shown, values.bytes())?;
-        self.put_in(&place.directory, op, text)
+        self.put_in(&place.directory, op, over, text)
+    }
+
+    /// Makes a text the bytes of a file, which is created where there is none. The operations are
+    /// OPEN with size 0, a WRITE for each 32,768 bytes, and CLOSE. The file is closed after a
+    /// refused WRITE too, whose fault is the answer then.
+    ///
+    /// The OPEN empties a file that is there. So where a WRITE is refused its old bytes are gone,
+    /// and it has the bytes of the WRITEs before. `replace` is careful with old bytes.
+    pub fn put(&mut self, path: &[u8], text: &[u8]) -> Result<(), ToolFault>
+        ensures failed { self.old.usable ≡ false → result ≡ Err Failed }
+        ensures gives { PutCommandGives (directions_of S.contents S.remaining) path.now
+            (record { over = OldBytes.Dropped; bytes = text.now }) self.old self.new result }
+    {
+        self.start()?;
+        self.put_over(OldBytes::Dropped, path, text)
+    }
+
+    /// Makes a text the bytes of a file as `put` does, and is careful with the bytes that it has.
+    /// The OPEN has no size, and each WRITE has a SETATTR of the size after it. The OPEN of an
+    /// empty text has size 0.
+    ///
+    /// A file that is there keeps its bytes up to the first WRITE, and has a front of the text
+    /// after each. So where the first WRITE is refused a file has the bytes that it had, or none
+    /// where this call created it. Where a later one is refused it has a front of the text.
+    pub fn replace(&mut self, path: &[u8], text: &[u8]) -> Result<(), ToolFault>
+        ensures failed { self.old.usable ≡ false → result ≡ Err Failed }
+        ensures gives { PutCommandGives (directions_of S.contents S.remaining) path.now
+            (record { over = OldBytes.Kept; bytes = text.now }) self.old self.new result }
+    {
+        self.start()?;
+        self.put_over(OldBytes::Kept, path, text)
     }
 }

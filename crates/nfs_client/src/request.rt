@@ -21,14 +21,17 @@ const MINOR_VERSION: u32 = 1;
 /// The operations of a COMPOUND, as written.
 #[derive(Drop)]
 pub(crate) struct Request<A: Allocator> {
-    /// The bytes of the operations.
+    /// The bytes of the operations, unless they are too large.
     body: Writer<A>,
     /// The number of each operation.
     asked: Vec<u32, A>,
+    /// Whether the operations have more bytes than a record. That is answered as the call is
+    /// spelled.
+    is_too_large: bool,
 }
 
-/// `Memory` where the bytes have no room: they are more than a record may have.
-pub(crate) fn has_room(put: Result<(), Full>) -> Result<(), ToolFault>
+/// `Memory` where the head of a call has no room, which it always has.
+fn has_room(put: Result<(), Full>) -> Result<(), ToolFault>
     ensures { MatchResult result (λ _. put ≡ Ok tt) (λ fault. fault ≡ Memory) }
 {
     match put {
@@ -37,7 +40,8 @@ pub(crate) fn has_room(put: Result<(), Full>) -> Result<(), ToolFault>
     }
 }
 
-/// Bytes as sent. `Memory`: the bytes are longer than a length can tell, and so than a record.
+/// Bytes as sent. `Memory`: the bytes are longer than a length can tell, as no bytes in memory are
+/// that can be copied into a call.
 pub(crate) fn sendable(bytes: &[u8]) -> Result<Bytes<'_>, ToolFault>
     ensures { MatchResult result (λ b. b.bytes.now ≡ bytes.now) (λ fault. fault ≡ Memory) }
 {
@@ -63,13 +67,13 @@ fn head<A: Allocator>(
     Ok(head)
 }
 
-/// Two parts as one record. `Memory` also where the parts are longer than a record may be.
+/// Two parts as one record. `TooLarge`: the parts have more bytes than a record.
 fn one_record<A: Allocator>(alloc: A, head: &[u8], body: &[u8]) -> Result<Vec<u8, A>, ToolFault>
     ensures { OneRecordGives (λ v. v.items) (head.now ++ body.now) result }
 {
     let len = head.len().saturating_add(body.len());
     if len > RECORD_LIMIT {
-        return Err(ToolFault::Memory);
+        return Err(ToolFault::TooLarge);
     }
     let mut record = Vec::new(alloc);
     record.extend_from_slice(&record_mark(len))?;
@@ -79,7 +83,7 @@ fn one_record<A: Allocator>(alloc: A, head: &[u8], body: &[u8]) -> Result<Vec<u8
 }
 
 impl<A: Allocator + Copy> Request<A> {
-    ghost use Rattle.nfs_client.specs.Requests.{Asks, PutGives, SpellGives, asked_of};
+    ghost use Rattle.nfs_client.specs.Requests.{Asks, Holds, PutGives, SpellGives, asked_of};
     ghost use Rattle.nfs_client.specs.Commands.{lookups};
 
     /// A request of no operations.
@@ -90,17 +94,29 @@ impl<A: Allocator + Copy> Request<A> {
         Ok(Request {
             body: Writer::new(alloc, RECORD_LIMIT)?,
             asked: Vec::new(alloc),
+            is_too_large: false,
         })
     }
 
-    /// One operation more.
+    /// The bytes of one operation more, where there is room.
+    fn write(&mut self, op: Op<'_>)
+        ensures holds { (ops : List Operation) → Holds self.old.is_too_large self.old.body ops →
+            Holds self.new.is_too_large self.new.body (ops ++ op_view op.entry ∷ []) }
+        ensures asked { self.new.asked ≡ self.old.asked }
+    {
+        if !self.is_too_large {
+            self.is_too_large = write_op(op, &mut self.body).is_err();
+        }
+    }
+
+    /// One operation more. Operations that are too large are taken too.
     pub(crate) fn put(&mut self, op: Op<'_>) -> Result<(), ToolFault>
         ensures asks { OnOk result ((ops : List Operation) → Asks self.old ops →
             Asks self.new (ops ++ op_view op.entry ∷ [])) }
         ensures memory { PutGives result }
     {
         let number = op.number();
-        has_room(write_op(op, &mut self.body))?;
+        self.write(op);
         self.asked.push(number)?;
         Ok(())
     }
@@ -123,16 +139,18 @@ impl<A: Allocator + Copy> Request<A> {
     pub(crate) fn into_asked(self) -> Vec<u32, A>
         ensures { (ops : List Operation) → Asks self ops → result.items ≡ asked_of ops }
     {
-        let Request { body: _, asked } = self;
-        asked
+        self.asked
     }
 
-    /// The call of these operations as one record. `Memory` also where the call is longer than a record may be.
+    /// The call of these operations as one record. `TooLarge`: it has more bytes than a record.
     pub(crate) fn spell(&self, alloc: A, xid: u32, caller: Caller) -> Result<Vec<u8, A>, ToolFault>
         requires { IsTrue (is_member caller caller.gid) }
         ensures { (ops : List Operation) → Asks self.now ops →
             SpellGives (λ v. v.items) (record { xid = xid; caller = caller; ops = ops }) result }
     {
+        if self.is_too_large {
+            return Err(ToolFault::TooLarge);
+        }
         let Ok(count) = u32::try_from(self.asked.len()) else {
             return Err(ToolFault::Memory);
         };

@@ -276,7 +276,7 @@ impl<S: Read + Write, A: Allocator + Copy> Client<S, A> {
         match self.end_session() {
             Ok(()) => {
                 let told = self.forget();
-                self.spoil(&told);
+                self.break_off(&told);
                 told
             }
             Err(fault) => Err(fault),

@@ -1,32 +1,33 @@
 //! Attributes that are set (RFC 8881, section 18.30).
 ghost use Rattle.std.specs.Prelude.{◌≡◌, ◌∷◌, ◌++◌, [], List, IfOk, OnOk};
-ghost use Rattle.nfs_types.specs.Seen.{shown_values};
 ghost use Rattle.nfs_types.specs.ShownViews.{shown_value};
 ghost use Rattle.nfs_types.specs.Views.{stateid_value};
 ghost use Rattle.nfs_ops.specs.OpViews.{op_view};
 ghost use Rattle.nfs_ops.specs.Operations.{Operation};
 ghost use Rattle.nfs_client.specs.Requests.{Asks, PutGives};
-ghost use Rattle.nfs_client.specs.Setting.{set_by, set_under, set_size, with_size};
+ghost use Rattle.nfs_client.specs.Setting.{ValuesGive, set_by, set_under, set_size, with_size};
 
 use crate::fault::ToolFault;
-use crate::request::{Request, has_room, sendable};
+use crate::request::{Request, sendable};
 use nfs_ops::{Op, SetAttrArgs};
 use nfs_types::{Attributes, ShownAttributes, StateId, write_given};
 use rpc_record::RECORD_LIMIT;
 use std::alloc::Allocator;
-use xdr_wire::Writer;
+use xdr_wire::{Full, Writer};
 
-/// The values of these attributes, one after the other.
+/// The values of these attributes, one after the other. `TooLarge`: they have more bytes than a
+/// record.
 pub(crate) fn values_of<A: Allocator>(
     alloc: A,
     shown: &ShownAttributes<'_>,
 ) -> Result<Writer<A>, ToolFault>
-    ensures values { IfOk result (λ w. w.bytes ≡ shown_values (shown_value shown.now)) }
-    ensures memory { PutGives result }
+    ensures { ValuesGive (λ w. w.bytes) (shown_value shown.now) result }
 {
     let mut values = Writer::new(alloc, RECORD_LIMIT)?;
-    has_room(write_given(shown, &mut values))?;
-    Ok(values)
+    match write_given(shown, &mut values) {
+        Ok(()) => Ok(values),
+        Err(Full) => Err(ToolFault::TooLarge),
+    }
 }
 
 /// SETATTR of these attributes by these values, by a stateid.

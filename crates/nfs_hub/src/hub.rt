@@ -116,6 +116,14 @@ impl<A: Allocator + Copy> Hub<A> {
         Ok(Hub::over(alloc, Service::restored(alloc, tree, known, book, hasher)?))
     }
 
+    /// Says the second of a clock that only goes forward. From now on clients are heard and silent by
+    /// it ([`Server::set_second`]). Nothing that is answered changes.
+    pub fn set_second(&mut self, second: u64)
+        ensures { IsUnchanged self.old self.new }
+    {
+        self.service.set_second(second);
+    }
+
     /// Lets the most silent client go, if one is to go at this moment (RFC 8881, section 8.3). Its
     /// record goes with its sessions, and its open files are closed; all else stays. Which one is
     /// [`Server::silent`]'s to say. `None`: none is to go, and nothing changes.

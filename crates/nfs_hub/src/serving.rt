@@ -21,6 +21,12 @@ const PIECE: usize = 4096;
 pub trait Clock {
     /// The present moment.
     fn now(&self) -> Moment;
+
+    /// The second of a clock that only goes forward, from any start: the present moment's where there
+    /// is no such clock.
+    fn second(&self) -> u64 {
+        self.now().seconds.max(0) as u64
+    }
 }
 
 /// The end of serving a connection.

@@ -737,7 +737,7 @@ module _ {A : Type 0} {n : ℕ} {o : Origin} {hub : Hub A} {places : List (Optio
         fewer = st.fewer;
       }
 
-  unexpired : (hub' : Hub A) → IsUnchanged hub hub' → Standing (Giving n) o hub' places left now
+  pub unexpired : (hub' : Hub A) → IsUnchanged hub hub' → Standing (Giving n) o hub' places left now
   unexpired hub' same = record {
     acts = st.acts;
     machine = st.machine;

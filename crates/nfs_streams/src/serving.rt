@@ -79,6 +79,18 @@ fn load_book<A: Allocator + Copy, S: Streams<A>>(hub: &mut Hub<A>, streams: &mut
     let _ = hub.reload(book);
 }
 
+/// Says to the hub by which second clients are heard and silent, if leases end.
+fn say_second<A: Allocator + Copy, C: Clock>(hub: &mut Hub<A>, clock: &C, limits: Limits)
+    ensures { (n : ℕ) (left : Left) (places : List (Option (Peer A))) (now : Option (List Act)) →
+        Moves (Giving n) (Giving n) limits (record { hub = hub.old; places = places; left = left; acts = now })
+        (record { hub = hub.new; places = places; left = left; acts = now }) }
+{
+    if !limits.leases {
+        return;
+    }
+    hub.set_second(clock.second());
+}
+
 /// Lets the most silent client go, if leases end and one is to go.
 fn expire<A: Allocator + Copy, C: Clock>(hub: &mut Hub<A>, clock: &C, limits: Limits)
     ensures { (n : ℕ) (left : Left) (places : List (Option (Peer A))) (now : Option (List Act)) →
@@ -151,6 +163,7 @@ fn turn<A: Allocator + Copy, S: Streams<A>, C: Clock>(
     if !streams.keep(hub.server()) {
         return Err(Halt::Keep);
     }
+    say_second(hub, clock, door.limits);
     if !give_all(hub, streams, clock, places) {
         return Err(Halt::Keep);
     }

@@ -78,15 +78,16 @@ fn may_leave(op: u32) -> bool {
     op == OP_WRITE || op == OP_SETATTR || op == OP_CLOSE
 }
 
-/// Makes bytes those of a file. Where the server refused some of them, it is said how many the file
-/// has. Where it said nothing any more, it is said that they may be there in part.
+/// Makes bytes those of a file, which keeps its own up to the first WRITE. Where the server refused
+/// some of them, it is said how many the file has. Where no answer came, it is said that they may be
+/// there in part.
 fn send<S: Read + Write, R: Eprint>(
     client: &mut Client<S>,
     voice: Voice<'_, R>,
     path: &[u8],
     bytes: &[u8],
 ) -> Result<(), Fault> {
-    match client.put(path, bytes) {
+    match client.replace(path, bytes) {
         Err(fault @ ToolFault::Refused(op, _)) if may_leave(op) => {
             if let Ok(Some(size)) = object::size(client, path) {
                 voice.say_size(path, size);

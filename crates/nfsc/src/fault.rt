@@ -148,11 +148,13 @@ fn sentence_of(fault: ToolFault) -> &'static str {
         ToolFault::Reply => "what the server sent is no reply, or it is longer than is taken",
         ToolFault::Read => "the server closed the connection",
         ToolFault::Write => "the server takes no more bytes",
-        ToolFault::Memory => "there is no memory left here, or the words are too long for a call",
+        ToolFault::Memory => "there is no memory left here",
         ToolFault::Entry => {
             "a mode is one to four octal digits, and an entry is TYPE:FLAGS:MASK:WHO, as in A:00:00000001:1001"
         }
         ToolFault::Failed => "an earlier command of this session failed",
+        ToolFault::TooLarge =>
+            "the words make a call of more than 131,072 bytes, which no server takes",
     }
 }
 

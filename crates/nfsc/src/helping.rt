@@ -172,11 +172,19 @@ impl Help {
         }
     }
 
-    /// Prints the help.
+    /// Prints the help, as the answer to a line of a batch.
     pub(crate) fn print<R: Print>(self, rt: &R) -> io::Result<()> {
         let mut out = io::writer(rt);
         for text in self.texts() {
             out.write_all(text.as_bytes())?;
+        }
+        Ok(())
+    }
+
+    /// Says the help on standard error, where `clap` says its own.
+    pub(crate) fn say<R: Eprint>(self, rt: &R) -> io::Result<()> {
+        for text in self.texts() {
+            eprint!(rt; "{text}")?;
         }
         Ok(())
     }

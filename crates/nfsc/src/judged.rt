@@ -6,7 +6,8 @@ use acl_list::{AclList, Caller, Kind, mask};
 use acl_reasons::{Governed, Reason, why};
 use acl_words::{ListFault, read_list};
 use nfs_client::{Client, Stat, ToolFault};
-use nfs_ops::Bytes;
+use nfs_ops::{Bytes, OP_GETATTR};
+use nfs_types::Status;
 use std::alloc::Global;
 use std::io::{Read, Write};
 use who_book::{Book, NameKind};
@@ -86,32 +87,120 @@ impl Judged {
 /// The rights to read a list and to change it again.
 const OWN: u32 = mask::READ_ACL | mask::WRITE_ACL;
 
-/// Whether a list grants a caller the rights to read it and to change it again. The object has the
-/// owner and the group of this one.
-fn is_own(list: &AclList, object: &Judged, caller: &Caller) -> bool {
-    why(list, object.owner, object.group, caller, OWN) == Reason::Granted
+/// Whether a list grants a caller the rights to read it and to change it again. The object has this
+/// owner and this group.
+fn is_own(list: &AclList, (owner, group): (u32, u32), caller: &Caller) -> bool {
+    why(list, owner, group, caller, OWN) == Reason::Granted
 }
 
-/// Whether a caller that may read a list and change it again may do so by these entries too. What
-/// can't be judged for want of a name's number is as it was.
+/// Whether a caller could read a list and change it, and can't after a change. A list before that
+/// isn't known may have granted it.
+fn is_lost(before: Option<&AclList>, after: &AclList, of: (u32, u32), caller: &Caller) -> bool {
+    let had = match before {
+        Some(list) => is_own(list, of, caller),
+        None => true,
+    };
+    had && !is_own(after, of, caller)
+}
+
+/// A group that a caller isn't in.
+fn foreign_group(caller: &Caller) -> u32 {
+    (0..u32::MAX)
+        .find(|group| !caller.is_member(*group))
+        .unwrap_or(u32::MAX)
+}
+
+/// Owners and groups that an object may have: all that a list can tell apart for a caller. It is
+/// the owner or not, and in the group or not.
+fn possible(caller: &Caller) -> [(u32, u32); 4] {
+    let (own, other) = (caller.uid(), caller.uid() ^ 1);
+    let foreign = foreign_group(caller);
+    let shared = caller.groups().first().copied().unwrap_or(foreign);
+    [
+        (own, shared),
+        (own, foreign),
+        (other, shared),
+        (other, foreign),
+    ]
+}
+
+/// `Locked`: on an object of one of these owners and groups, these entries take from the caller
+/// the right to read the list or to change it. What can't be judged for want of a name's number is
+/// as it was.
 fn stays_own(
     alloc: Global,
-    book: &Book,
-    object: &Judged,
-    caller: &Caller,
+    around: &Around,
+    before: Option<&AclList>,
+    of: &[(u32, u32)],
     entries: &[Vec<u8>],
 ) -> Result<(), Fault> {
-    match list_of(alloc, book, object.object, entries) {
-        Ok(list) if is_own(&object.list, object, caller) && !is_own(&list, object, caller) => Err(
-            Fault::Locked,
-        ),
+    let caller = &around.caller;
+    match list_of(alloc, &around.names.book, Kind::File, entries) {
+        Ok(after) if of.iter().any(|of| is_lost(before, &after, *of, caller)) => Err(Fault::Locked),
         Ok(_) | Err(Fault::Stranger(_)) => Ok(()),
         Err(fault) => Err(fault),
     }
 }
 
+/// Whether the server doesn't show the caller what it asked for, and may yet let it set the list.
+fn is_unseen(fault: Fault) -> bool {
+    match fault {
+        Fault::Tool(ToolFault::Refused(op, Status::Access)) => op == OP_GETATTR,
+        _ => false,
+    }
+}
+
+/// The list of the object of a path. `None`: the caller may not read it.
+fn list_at<S: Read + Write>(
+    client: &mut Client<S>,
+    alloc: Global,
+    book: &Book,
+    path: &[u8],
+) -> Result<Option<AclList>, Fault> {
+    match client.getacl(path) {
+        Ok(text) => {
+            let lines = lines_of(alloc, text.as_slice())?;
+            Ok(Some(list_of(alloc, book, Kind::File, lines.as_slice())?))
+        }
+        Err(fault) if is_unseen(Fault::Tool(fault)) => Ok(None),
+        Err(fault) => Err(Fault::Tool(fault)),
+    }
+}
+
+/// As `keeps_rights`, of an object whose owner and group or whose list the caller may not see.
+fn keeps_unseen<S: Read + Write>(
+    client: &mut Client<S>,
+    alloc: Global,
+    around: &Around,
+    path: &[u8],
+    entries: &[Vec<u8>],
+) -> Result<(), Fault> {
+    let before = list_at(client, alloc, &around.names.book, path)?;
+    let of = possible(&around.caller);
+    stays_own(alloc, around, before.as_ref(), &of, entries)
+}
+
+/// As `keeps_rights`, where the object can be judged or not.
+fn keeps<S: Read + Write>(
+    client: &mut Client<S>,
+    alloc: Global,
+    around: &Around,
+    path: &[u8],
+    entries: &[Vec<u8>],
+) -> Result<(), Fault> {
+    match Judged::read(client, alloc, &around.names.book, path) {
+        Ok(object) => {
+            let of = [(object.owner, object.group)];
+            stays_own(alloc, around, Some(&object.list), &of, entries)
+        }
+        Err(fault) if is_unseen(fault) => keeps_unseen(client, alloc, around, path, entries),
+        Err(fault) => Err(fault),
+    }
+}
+
 /// `Locked`: by these entries the caller would no longer be granted to read the list of an object
-/// and to change it again.
+/// and to change it again, or might not be where the server doesn't show it the object's owner, its
+/// group or its list. What the server refuses otherwise, it refuses as the list is set.
 pub(crate) fn keeps_rights<S: Read + Write>(
     client: &mut Client<S>,
     alloc: Global,
@@ -119,10 +208,8 @@ pub(crate) fn keeps_rights<S: Read + Write>(
     path: &[u8],
     entries: &[Vec<u8>],
 ) -> Result<(), Fault> {
-    let book = &around.names.book;
-    match Judged::read(client, alloc, book, path) {
-        Ok(object) => stays_own(alloc, book, &object, &around.caller, entries),
+    match keeps(client, alloc, around, path, entries) {
         Err(Fault::Stranger(_) | Fault::NoNumber | Fault::Tool(ToolFault::Refused(_, _))) => Ok(()),
-        Err(fault) => Err(fault),
+        told => told,
     }
 }

@@ -1,8 +1,8 @@
 //! `nfsc`: runs one command on the NFS version 4.1 server (RFC 8881) at 127.0.0.1, and prints its
 //! answer.
 //!
-//! The status is 0; 2 where the words aren't understood, with `clap`'s text on standard error; and
-//! else 1. It is 1 after a refusal or another fault of the command, which is printed in place of
+//! The status is 0; 2 where the words aren't understood or ask for help, with a text on standard
+//! error; and else 1. It is 1 after a refusal or another fault of the command, which is printed in place of
 //! its answer. It is 1 too where there is no server or no such file, which is said on standard
 //! error. What was wrong, and what would do, is said on standard error too.
 #![tactic(auto)]
@@ -98,10 +98,10 @@ fn asked(alloc: Global, words: &[String]) -> Result<Option<Help>, AllocError> {
     Ok(Help::read(said.as_slice()))
 }
 
-/// Prints help. The status with which the program ends.
-fn tell_help<R: Print>(rt: &R, help: Help) -> io::Result<ExitCode> {
-    help.print(rt)?;
-    Ok(ExitCode::SUCCESS)
+/// Says help, as `clap` does: on standard error. The status with which the program ends.
+fn tell_help<R: Eprint>(rt: &R, help: Help) -> io::Result<ExitCode> {
+    help.say(rt)?;
+    Ok(ExitCode::from(2))
 }
 
 /// The status with which the program ends, by whether all was answered.
@@ -211,7 +211,7 @@ fn start_as(rt: &HostRuntime, alloc: Global, words: &[String], names: Names) -> 
     }
 }
 
-/// Runs the command of words, of which the first is the program's name, or prints help.
+/// Runs the command of words, of which the first is the program's name, or says help.
 fn run_words(rt: &HostRuntime, alloc: Global, words: &[String]) -> Result<ExitCode> {
     if let Some(help) = asked(alloc, words)? {
         return Ok(tell_help(rt, help)?);

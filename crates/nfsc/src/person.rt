@@ -1,7 +1,7 @@
 //! A user by the book: `--as NAME --book FILE`.
 use crate::given::value_of;
 use crate::names::{Names, number_of};
-use rpc_record::Caller;
+use rpc_record::{Caller, GroupSet};
 use std::alloc::{AllocError, Global};
 use std::fmt;
 use std::fmt::{Display, Formatter};
@@ -75,9 +75,9 @@ pub(crate) fn member_of(book: &Book, uid: u32) -> Option<Caller> {
     has_members(book).then_some(book.member(&Caller::new(uid, NOBODY, &[])))
 }
 
-/// The user of this number in no group.
+/// The user of this number in no group, as a book with `members` has a user whom it puts in none.
 pub(crate) fn alone(uid: u32) -> Caller {
-    Caller::new(uid, NOBODY, &[])
+    Caller::with_groups(uid, NOBODY, GroupSet::new())
 }
 
 /// Whether the words have an option that says what the book says too.

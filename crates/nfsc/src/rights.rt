@@ -1,7 +1,6 @@
 //! The rights that `why` and `who` are asked about (RFC 8881, section 6.2.1.3.1).
 use acl_list::{Kind, mask};
-pub(crate) use acl_words::RIGHTS;
-use acl_words::{Words, right_name};
+use acl_words::{RIGHTS, Words, right_name};
 use std::fmt;
 use std::fmt::{Display, Formatter};
 

@@ -14,7 +14,7 @@ pub(crate) struct Asked<'a> {
     pub(crate) caller: Caller,
 }
 
-/// The user of a number in its groups by the book, or in none.
+/// The user of a number in its groups by the book, or in none where the book doesn't say them.
 fn in_groups(book: &Book, uid: u32) -> Caller {
     match member_of(book, uid) {
         Some(member) => member,

@@ -2,11 +2,13 @@
 use crate::fault::Fault;
 use crate::judged::Judged;
 use crate::names::Names;
-use crate::rights::{Named, RIGHTS, Rights};
+use crate::rights::{Named, Rights};
 use crate::shown::Shown;
 use crate::user::Asked;
-use acl_list::{Entry, EntryKind, Mention, mask, mention};
-use acl_reasons::{Reason, RemovalReason, Standing, standing_of, why, why_removal};
+use acl_list::{Entry, EntryKind, Kind, mask};
+use acl_reasons::{
+    Reason, RemovalReason, Share, Standing, share_of, standing_of, why, why_removal,
+};
 use acl_words::{Text, write_entry};
 use nfs_client::Client;
 use std::alloc::Global;
@@ -32,45 +34,23 @@ fn put(out: &mut Vec<u8>, text: &str) -> Result<(), Fault> {
     Ok(())
 }
 
-/// The rights of a mask that the entry of this index decides for a caller.
-fn decided_by(judged: &Judged, asked: &Asked<'_>, rights: u32, index: usize) -> u32 {
-    let mut decided = 0;
-    for bit in RIGHTS {
-        if rights & bit != 0 {
-            let found = mention(&judged.list, judged.owner, judged.group, &asked.caller, bit);
-            match found {
-                Mention::AllowedBy(at) | Mention::DeniedBy(at) if at == index => decided |= bit,
-                _ => {}
-            }
-        }
-    }
-    decided
-}
-
 /// The rights that an entry allows or denies, of those that are asked about, and those that were decided before it.
-fn doing(
-    alloc: Global,
-    judged: &Judged,
-    entry: &Entry,
-    rights: u32,
-    decided: u32,
-) -> Result<String, Fault> {
-    let object = judged.object;
-    let verb = match entry.kind {
+fn doing(alloc: Global, object: Kind, kind: EntryKind, share: Share) -> Result<String, Fault> {
+    let verb = match kind {
         EntryKind::Deny => "denies",
         _ => "allows",
     };
     let now = Named {
-        mask: decided,
+        mask: share.decided,
         object,
     };
     let before = Named {
-        mask: entry.mask & rights & !decided,
+        mask: share.before,
         object,
     };
-    if decided != 0 && before.mask != 0 {
+    if now.mask != 0 && before.mask != 0 {
         Ok(format!(in alloc; "{verb} {now}; {before} is decided before")?)
-    } else if decided != 0 {
+    } else if now.mask != 0 {
         Ok(format!(in alloc; "{verb} {now}")?)
     } else if before.mask != 0 {
         Ok(format!(in alloc; "comes after the one that decides {before}")?)
@@ -93,8 +73,9 @@ fn part_of(
         Standing::AnotherUser => Ok(format!(in alloc; "is another user's")?),
         Standing::NoMember => Ok(format!(in alloc; "is a group's that the user isn't in")?),
         Standing::Applies => {
-            let decided = decided_by(judged, asked, rights, index);
-            doing(alloc, judged, entry, rights, decided)
+            let (owner, group) = (judged.owner, judged.group);
+            let share = share_of(&judged.list, owner, group, &asked.caller, rights, index);
+            doing(alloc, judged.object, entry.kind, share)
         }
     }
 }

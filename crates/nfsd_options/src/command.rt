@@ -5,6 +5,7 @@ ghost use Rattle.nfsd_options.specs.Simple.{bare_rule, book_rule, concurrent_rul
 ghost use Rattle.nfsd_options.specs.Simple.{flag_rule, home_rule, leases_rule, nfsd, port_rule, privileged_rule};
 ghost use Rattle.nfsd_options.specs.Simple.{stamped_rule, store_rule, trail_rule};
 
+use clap::builder::ValueParser;
 use clap::{Arg, ArgAction, Command, value_parser};
 use std::alloc::{AllocError, Global};
 
@@ -84,13 +85,14 @@ pub(crate) fn command<'a>(alloc: Global) -> Result<Command<'a>, AllocError>
     Ok(command)
 }
 
-/// An option that names a file.
-fn file<'a>(alloc: Global, name: &'a str, help: &'a str) -> Arg<'a>
+/// An option that names a file or a folder, and not by an empty name.
+fn file<'a>(alloc: Global, name: &'a str, what: &'a str, help: &'a str) -> Arg<'a>
     ensures { (rule_of result ≡ file_rule name.entry.now) × (result.global ≡ false) }
 {
     Arg::new(alloc, name)
         .long(name)
-        .value_name("FILE")
+        .value_name(what)
+        .value_parser(ValueParser::NonEmptyString)
         .help(help)
 }
 
@@ -107,7 +109,7 @@ fn flag<'a>(alloc: Global, name: &'a str, help: &'a str) -> Arg<'a>
 fn book<'a>(alloc: Global) -> Arg<'a>
     ensures { (rule_of result ≡ book_rule) × (result.global ≡ false) }
 {
-    file(alloc, "book", "The book of names")
+    file(alloc, "book", "FILE", "The book of names")
 }
 
 fn bare<'a>(alloc: Global) -> Arg<'a>
@@ -158,6 +160,7 @@ fn trail<'a>(alloc: Global) -> Arg<'a>
     file(
         alloc,
         "trail",
+        "FILE",
         "Appends the lines of the audit trail to this file, before the replies go out; not with --bare",
     )
 }
@@ -186,13 +189,13 @@ fn privileged_ports<'a>(alloc: Global) -> Arg<'a>
 fn store<'a>(alloc: Global) -> Arg<'a>
     ensures { (rule_of result ≡ store_rule) × (result.global ≡ false) }
 {
-    Arg::new(alloc, "store")
-        .long("store")
-        .value_name("FOLDER")
-        .help(
-            "Keeps the files in this folder, which is made where it isn't there, before the replies go out; \
-             not with --bare",
-        )
+    file(
+        alloc,
+        "store",
+        "FOLDER",
+        "Keeps the files in this folder, which is made where it isn't there, before the replies go out; \
+         not with --bare",
+    )
 }
 
 fn leases<'a>(alloc: Global) -> Arg<'a>
@@ -209,11 +212,11 @@ fn leases<'a>(alloc: Global) -> Arg<'a>
 fn home<'a>(alloc: Global) -> Arg<'a>
     ensures { (rule_of result ≡ home_rule) × (result.global ≡ false) }
 {
-    Arg::new(alloc, "home")
-        .long("home")
-        .value_name("FOLDER")
-        .help(
-            "One folder for all: stands for '--concurrent --leases --store FOLDER/store --trail FOLDER/trail.txt \
-             --stamped', and '--book FOLDER/book.toml' where that file is there",
-        )
+    file(
+        alloc,
+        "home",
+        "FOLDER",
+        "One folder for all: stands for '--concurrent --leases --store FOLDER/store --trail FOLDER/trail.txt \
+         --stamped', and '--book FOLDER/book.toml' where that file is there",
+    )
 }

@@ -15,13 +15,13 @@ use Rattle.node_tree.specs.declared.at.At.{At}
 use Rattle.node_tree.specs.declared.fault.TreeFault.{TreeFault}
 use Rattle.node_tree.specs.declared.fault.TreeFault.TheVariants.{NotEmpty, NoEnt, FBig}
 use Rattle.node_tree.specs.Limits.{MAX_NAME}
-use Rattle.node_tree.specs.World.{World, Object, object, kind_of, child_named, is_one, is_named, is_directory_at, has_entries, name_count, parent_of}
+use Rattle.node_tree.specs.World.{World, Object, object, kind_of, child_named, is_one, is_named, is_directory_at, has_entries}
 use Rattle.node_tree.specs.Changes.{new_object, given_name, with_new, with_move, renamed, with_bytes, with_write, with_list}
-use Rattle.node_tree.specs.Refusals.{has_left, add_refusal, link_refusal, unlink_refusal, write_refusal, resize_refusal, is_below, may_replace, may_move}
+use Rattle.node_tree.specs.Refusals.{has_left, add_refusal, link_refusal, unlink_refusal, write_refusal, resize_refusal, is_same, rename_refusal}
 use Rattle.node_tree.specs.Sound.{IsTick, IsSound, most_bytes}
 use Rattle.node_tree.specs.Notes.{Notes, note, lost}
 use Rattle.node_tree.specs.Noted.{noted, quietly, CutsTo}
-use Rattle.node_tree.specs.Steps.{Step, Add, Link, Unlink, Rename, Write, Resize, SetList, SetOwner, is_tick, is_short, is_file, is_file_at, is_plain_at, may_rename, allows}
+use Rattle.node_tree.specs.Steps.{Step, Add, Link, Unlink, Rename, Write, Resize, SetList, SetOwner, is_tick, is_short, is_file, is_file_at, is_plain_at, allows}
 use Rattle.node_tree.specs.Forms.{spelled}
 use Rattle.node_tree.specs.Ranges.{in_range}
 use Rattle.node_tree.proofs.Names.{found, child_sought, named_name}
@@ -97,21 +97,16 @@ allows_unlink w directory name child at tick short is empty =
     (ap (λ (o : Option ℕ). not (is_some (option_map_or (λ child. cond (has_entries w.names child) (Some NotEmpty) None) o (Some NoEnt)))) is
     ∙ ap (λ b. not (is_some (cond b (Some NotEmpty) None))) empty)
 
-pub allows_rename : (w : World) (from : ℕ) (old : List ℕ) (to : ℕ) (new : List ℕ) (child : ℕ) (target : Option ℕ) (at : At)
-    → IsTick w at.tick → kind_of w to ≡ Some kinds.Directory → length old ≤ MAX_NAME → length new ≤ MAX_NAME → child_named w from old ≡ Some child → child_named w to new ≡ target
-    → is_one (Some child) target ≡ false → is_below (kind_of w) (parent_of w) w.next_number child to ≡ false → may_replace (kind_of w) (has_entries w.names) child target ≡ true
-    → may_move (name_count w.names to) w.next_cookie from to target ≡ true → allows w (Rename from old to new at) ≡ true
-allows_rename w from old to new child target at tick live short_old short_new is taken apart below replaces moves =
+pub allows_rename : (w : World) (from : ℕ) (old : List ℕ) (to : ℕ) (new : List ℕ) (at : At)
+    → IsTick w at.tick → kind_of w to ≡ Some kinds.Directory → length old ≤ MAX_NAME → length new ≤ MAX_NAME → is_same w from old to new ≡ false
+    → None ≡ rename_refusal w from old to new → allows w (Rename from old to new at) ≡ true
+allows_rename w from old to new at tick live short_old short_new apart none =
     let t1 = and_from (is_tick w at.tick) (is_directory_at w to) (tick_is w at.tick tick) (directory_is w to live) in
     let t2 = and_from (is_tick w at.tick && is_directory_at w to) (is_short old) t1 (short_is old short_old) in
     let t3 = and_from (is_tick w at.tick && is_directory_at w to && is_short old) (is_short new) t2 (short_is new short_new) in
-    let m1 = and_from (not (is_one (Some child) target)) (not (is_below (kind_of w) (parent_of w) w.next_number child to)) (ap not apart) (ap not below) in
-    let m2 = and_from (not (is_one (Some child) target) && not (is_below (kind_of w) (parent_of w) w.next_number child to)) (may_replace (kind_of w) (has_entries w.names) child target) m1 replaces in
-    let m3 : may_rename w from to child target ≡ true =
-    and_from (not (is_one (Some child) target) && not (is_below (kind_of w) (parent_of w) w.next_number child to) && may_replace (kind_of w) (has_entries w.names) child target)
-    (may_move (name_count w.names to) w.next_cookie from to target) m2 moves in
-    and_from (is_tick w at.tick && is_directory_at w to && is_short old && is_short new) (option_map_or (λ child. may_rename w from to child (child_named w to new)) (child_named w from old) false) t3
-    (ap (λ (o : Option ℕ). option_map_or (λ child. may_rename w from to child (child_named w to new)) o false) is ∙ ap (λ (o : Option ℕ). may_rename w from to child o) taken ∙ m3)
+    let t4 = and_from (is_tick w at.tick && is_directory_at w to && is_short old && is_short new) (not (is_same w from old to new)) t3 (ap not apart) in
+    and_from (is_tick w at.tick && is_directory_at w to && is_short old && is_short new && not (is_same w from old to new)) (not (is_some (rename_refusal w from old to new))) t4
+    (none_is (rename_refusal w from old to new) none)
 
 pub allows_write : (w : World) (file offset : ℕ) (more : List ℕ) (at : At) → IsTick w at.tick → kind_of w file ≡ Some kinds.File → None ≡ write_refusal offset more → allows w (Write file offset more at) ≡ true
 allows_write w file offset more at tick is none =

@@ -8,7 +8,7 @@ use Rattle.std.proofs.lemmas.List.Elements.{filter-append}
 use Rattle.node_tree.specs.World.{Name, is_named}
 use Rattle.node_tree.specs.Sound.{Rises}
 use Rattle.node_tree.specs.Changes.{other_names}
-use Rattle.node_tree.specs.Indexes.{IsKept, cookie_at}
+use Rattle.node_tree.specs.Indexes.{AreNamed, IsKept, cookie_at}
 use Rattle.node_tree.proofs.Rising.{Rises-filter}
 use Rattle.node_tree.proofs.Indexing.{cookie, cookie-others, hit, hit_is, is_hit, turned}
 use Rattle.node_tree.proofs.Counting.{absent_stays, one_out, one_push, step, stays}
@@ -80,33 +80,36 @@ dropped_both names n from old moved target rises once was there =
 -- ---- the table
 
 -- a refusal leaves the table as it was
-pub kept_as_it_was : {A : Type 0} (index again : BTreeMap ℕ (BTreeMap (Vec ℕ A) ℕ A) A) (names now : List Name) → IsKept index names → now ≡ names → ((d : ℕ) (t : List ℕ) → cookie_at again d t ≡ cookie_at index d t) → IsKept again now
-kept_as_it_was {A} index again names now kept is found = subst (IsKept again) (sym is) (record { next = kept.next; rises = kept.rises; found = λ d t. found d t ∙ kept.found d t; once = kept.once })
+pub kept_as_it_was : {A : Type 0} (index again : BTreeMap ℕ (BTreeMap (Vec ℕ A) ℕ A) A) (names now : List Name) → IsKept index names → now ≡ names → ((d : ℕ) (t : List ℕ) → cookie_at again d t ≡ cookie_at index d t) → AreNamed again → IsKept again now
+kept_as_it_was {A} index again names now kept is found named = subst (IsKept again) (sym is) (record { next = kept.next; rises = kept.rises; found = λ d t. found d t ∙ kept.found d t; once = kept.once; named = named })
 
 pub kept_push : {A : Type 0} (index told : BTreeMap ℕ (BTreeMap (Vec ℕ A) ℕ A) A) (names now : List Name) (n : Name) → IsKept index names → Rises (λ n. n.cookie) 3 names n.cookie → now ≡ names ++ n ∷ []
-    → cookie names n.directory n.name ≡ None → ((d : ℕ) (t : List ℕ) → cookie_at told d t ≡ cookie now d t) → IsKept told now
-kept_push {A} index told names now n kept rises is none found = record {
+    → cookie names n.directory n.name ≡ None → ((d : ℕ) (t : List ℕ) → cookie_at told d t ≡ cookie now d t) → AreNamed told → IsKept told now
+kept_push {A} index told names now n kept rises is none found named = record {
   next = n.cookie + 1;
   rises = subst (λ names. Rises (λ n. n.cookie) 3 names (n.cookie + 1)) (sym is) (rises-push 3 names n rises);
   found = found;
+  named = named;
   once = λ d t. subst (λ names. count_by (is_named d t) names ≤ 1) (sym is) (one_push names n d t none (kept.once d t));
 }
 
 pub kept_remove : {A : Type 0} (index told : BTreeMap ℕ (BTreeMap (Vec ℕ A) ℕ A) A) (names now : List Name) (d : ℕ) (t : List ℕ) → IsKept index names → now ≡ other_names d t names
-    → ((d : ℕ) (t : List ℕ) → cookie_at told d t ≡ cookie now d t) → IsKept told now
-kept_remove {A} index told names now d t kept is found = record {
+    → ((d : ℕ) (t : List ℕ) → cookie_at told d t ≡ cookie now d t) → AreNamed told → IsKept told now
+kept_remove {A} index told names now d t kept is found named = record {
   next = kept.next;
   rises = subst (λ names. Rises (λ n. n.cookie) 3 names kept.next) (sym is) (Rises-filter (λ n. n.cookie) (λ m. not (is_named d t m)) 3 kept.next names kept.rises);
   found = found;
+  named = named;
   once = λ e s. subst (λ names. count_by (is_named e s) names ≤ 1) (sym is) (one_out names d t e s (kept.once e s));
 }
 
 pub kept_replace : {A : Type 0} (index told : BTreeMap ℕ (BTreeMap (Vec ℕ A) ℕ A) A) (names now : List Name) (from : ℕ) (old : List ℕ) (n : Name) → IsKept index names → Rises (λ n. n.cookie) 3 names n.cookie
-    → now ≡ other_names n.directory n.name (other_names from old names) ++ n ∷ [] → ((d : ℕ) (t : List ℕ) → cookie_at told d t ≡ cookie now d t) → IsKept told now
-kept_replace {A} index told names now from old n kept rises is found = record {
+    → now ≡ other_names n.directory n.name (other_names from old names) ++ n ∷ [] → ((d : ℕ) (t : List ℕ) → cookie_at told d t ≡ cookie now d t) → AreNamed told → IsKept told now
+kept_replace {A} index told names now from old n kept rises is found named = record {
   next = n.cookie + 1;
   rises = subst (λ names. Rises (λ n. n.cookie) 3 names (n.cookie + 1)) (sym is) (rises-push 3 rest n (Rises-filter (λ n. n.cookie) (λ m. not (is_named n.directory n.name m)) 3 n.cookie left (Rises-filter (λ n. n.cookie) (λ m. not (is_named from old m)) 3 n.cookie names rises)));
   found = found;
+  named = named;
   once = λ d t. subst (λ names. count_by (is_named d t) names ≤ 1) (sym is) (one_push rest n d t gone (one_out left n.directory n.name d t (one_out names from old d t (kept.once d t))));
 }
   where

@@ -16,6 +16,7 @@ pub mod Sampling
 pub mod Below
 pub mod Placing
 pub mod Keys
+pub mod Filled
 pub mod Indexing
 pub mod Counting
 pub mod Listed
@@ -26,3 +27,4 @@ pub mod Ranging
 pub mod Reading
 pub mod Quiet
 pub mod Allowing
+pub mod Planning

@@ -1,6 +1,6 @@
 -- Names by cookie, and the cookies of the names of a directory or of a child.
 use Rattle.std.proofs.Common.{◌≡◌, ℕ, suc, ◌+◌, ◌<◌, ◌≤◌, Bool, true, false, not, ◌&&◌, cond, List, [], ◌∷◌, ◌++◌, length, refl, ap, sym, ◌∙◌, subst, arith, Some, None}
-use Rattle.std.specs.Prelude.{find, ◌==◌, nat_lt, slice_get, map}
+use Rattle.std.specs.Prelude.{find, ◌==◌, nat_lt, slice_get, map, IsSome}
 use Rattle.std.specs.List.{filter}
 use Rattle.std.specs.Option.{option_map, option_map_or}
 use Rattle.std.specs.Ordering.{nat_cmp, match_ordering, is_lt}
@@ -15,7 +15,7 @@ use Rattle.std.specs.BTreeSet.{insert_key, BTreeSet}
 use Rattle.std.proofs.lemmas.Bool.Decides.{Decides-eqb}
 use Rattle.node_tree.specs.World.{Name}
 use Rattle.node_tree.specs.Sound.{Rises}
-use Rattle.node_tree.specs.Groups.{cookies_at, cookies_of, keyed, IsListed}
+use Rattle.node_tree.specs.Groups.{cookies_at, cookies_of, keyed, AreFilled, IsListed}
 use Rattle.node_tree.proofs.Rising.{Rises-filter}
 
 -- ---- the cookies after a cookie
@@ -266,6 +266,9 @@ next_beside directory c (m ∷ names) n found here =
 pub none_sought : (p : Name → Bool) (names : List Name) → option_map (λ (n : Name). n.cookie) (find p names) ≡ None → find p names ≡ None
 none_sought p names = elim (find p names) as (λ o. option_map (λ (n : Name). n.cookie) o ≡ None → o ≡ None) [ None ↦ λ h. refl | Some n ↦ λ h. cc ]
 
+filled_none : (groups : BTreeMap ℕ (BTreeSet ℕ)) → groups.entries ≡ [] → AreFilled groups
+filled_none groups none q there = let no : IsSome {T = BTreeSet ℕ} None = subst (λ es. IsSome (lookup (is_at (nat_cmp q)) es)) none there in cc
+
 pub listed_none : (entries : List (ℕ × Name)) (by_directory by_child : BTreeMap ℕ (BTreeSet ℕ)) → entries ≡ [] → by_directory.entries ≡ [] → by_child.entries ≡ [] → IsListed entries by_directory by_child (values_of entries)
 listed_none entries by_directory by_child none no_directory no_child = subst (λ es. IsListed es by_directory by_child (values_of es)) (sym none) (record {
   next = 3;
@@ -273,13 +276,15 @@ listed_none entries by_directory by_child none no_directory no_child = subst (λ
   rises = let goal : 3 ≤ 3 = omega arith in goal;
   directories = λ q. ap (λ es. option_map_or (λ (s : BTreeSet ℕ). s.keys) (lookup (is_at (nat_cmp q)) es) []) no_directory;
   children = λ q. ap (λ es. option_map_or (λ (s : BTreeSet ℕ). s.keys) (lookup (is_at (nat_cmp q)) es) []) no_child;
+  directories_filled = filled_none by_directory no_directory;
+  children_filled = filled_none by_child no_child;
 })
 
 module _ (entries told : List (ℕ × Name)) (by_directory by_child directories_told children_told : BTreeMap ℕ (BTreeSet ℕ)) (listed : IsListed entries by_directory by_child (values_of entries)) where
   pub listed_same : told ≡ entries → ((q : ℕ) → cookies_at directories_told q ≡ cookies_of (λ n. n.directory == q) (values_of entries))
-      → ((q : ℕ) → cookies_at children_told q ≡ cookies_of (λ n. n.child == q) (values_of entries)) → IsListed told directories_told children_told (values_of told)
-  listed_same same directories children =
-      subst (λ es. IsListed es directories_told children_told (values_of es)) (sym same) (record { next = listed.next; keyed_so = listed.keyed_so; rises = listed.rises; directories = directories; children = children })
+      → ((q : ℕ) → cookies_at children_told q ≡ cookies_of (λ n. n.child == q) (values_of entries)) → AreFilled directories_told → AreFilled children_told → IsListed told directories_told children_told (values_of told)
+  listed_same same directories children directories_filled children_filled =
+      subst (λ es. IsListed es directories_told children_told (values_of es)) (sym same) (record { next = listed.next; keyed_so = listed.keyed_so; rises = listed.rises; directories = directories; children = children; directories_filled = directories_filled; children_filled = children_filled })
 
   module _ (n : Name) (rises : Rises (λ n. n.cookie) 3 (values_of entries) n.cookie) where
     pub told_back : (read : Name → ℕ) (before between after : BTreeMap ℕ (BTreeSet ℕ)) → ((q : ℕ) → cookies_at before q ≡ cookies_of (λ n. read n == q) (values_of entries)) → (d : ℕ)
@@ -297,13 +302,15 @@ module _ (entries told : List (ℕ × Name)) (by_directory by_child directories_
 
       pub listed_push : ((q : ℕ) → cookies_at directories_told q ≡ cond (q == n.directory) (insert_key nat_cmp (cookies_at by_directory q) n.cookie) (cookies_at by_directory q))
           → ((q : ℕ) → cookies_at children_told q ≡ cond (q == n.child) (insert_key nat_cmp (cookies_at by_child q) n.cookie) (cookies_at by_child q))
-          → IsListed told directories_told children_told (values_of told)
-      listed_push directories children = subst (IsListed told directories_told children_told) (sym listed_more) (record {
+          → AreFilled directories_told → AreFilled children_told → IsListed told directories_told children_told (values_of told)
+      listed_push directories children directories_filled children_filled = subst (IsListed told directories_told children_told) (sym listed_more) (record {
         next = n.cookie + 1;
         keyed_so = keyed_told;
         rises = rises-push 3 (values_of entries) n rises;
         directories = λ q. grouped_push (λ n. n.directory) (values_of entries) n _ _ q 3 rises (listed.directories q) (directories q);
         children = λ q. grouped_push (λ n. n.child) (values_of entries) n _ _ q 3 rises (listed.children q) (children q);
+        directories_filled = directories_filled;
+        children_filled = children_filled;
       })
 
   module _ (k : ℕ) (took : told ≡ remove_entry (is_at (nat_cmp k)) entries) where
@@ -316,13 +323,15 @@ module _ (entries told : List (ℕ × Name)) (by_directory by_child directories_
     pub listed_but : (n : Name) → Some n ≡ lookup (is_at (nat_cmp k)) entries
         → ((q : ℕ) → cookies_at directories_told q ≡ cond (q == n.directory) (remove_key (is_at (nat_cmp k)) (cookies_at by_directory q)) (cookies_at by_directory q))
         → ((q : ℕ) → cookies_at children_told q ≡ cond (q == n.child) (remove_key (is_at (nat_cmp k)) (cookies_at by_child q)) (cookies_at by_child q))
-        → IsListed told directories_told children_told (values_of told)
-    listed_but n was directories children = subst (IsListed told directories_told children_told) (sym listed_less) (record {
+        → AreFilled directories_told → AreFilled children_told → IsListed told directories_told children_told (values_of told)
+    listed_but n was directories children directories_filled children_filled = subst (IsListed told directories_told children_told) (sym listed_less) (record {
       next = listed.next;
       keyed_so = keyed_left;
       rises = Rises-filter (λ n. n.cookie) (λ n. not (n.cookie == k)) 3 listed.next (values_of entries) listed.rises;
       directories = λ q. directories q ∙ ap (λ ks. cond (q == n.directory) (remove_key (is_at (nat_cmp k)) ks) ks) (listed.directories q) ∙ grouped_but (λ n. n.directory) k q 3 listed.next (values_of entries) n listed.rises here;
       children = λ q. children q ∙ ap (λ ks. cond (q == n.child) (remove_key (is_at (nat_cmp k)) ks) ks) (listed.children q) ∙ grouped_but (λ n. n.child) k q 3 listed.next (values_of entries) n listed.rises here;
+      directories_filled = directories_filled;
+      children_filled = children_filled;
     })
       where
         here : find (λ n. n.cookie == k) (values_of entries) ≡ Some n

@@ -1,5 +1,5 @@
 -- Names of directories, each directory's by a map of its own.
-use Rattle.std.specs.Prelude.{ℕ, ◌≡◌, ◌≤◌, count_by, List, find, Option, None, Vec}
+use Rattle.std.specs.Prelude.{ℕ, ◌≡◌, ◌<◌, ◌≤◌, count_by, List, length, find, Option, None, Vec, IsSome}
 use Rattle.std.specs.Option.{option_map, option_map_or}
 use Rattle.std.specs.Map.{lookup}
 use Rattle.std.specs.BTreeMap.{is_at}
@@ -24,9 +24,16 @@ IsIndexed index names =
     (directory : ℕ) (name : List ℕ)
     → cookie_at index directory name ≡ option_map (λ n. n.cookie) (find (is_named directory name) names)
 
--- The names are found, their cookies rise from 3 on, and no name is there twice.
+-- a directory has a map only where it has a name
+abbrev pub AreNamed : {A : Type 0} → BTreeMap ℕ (BTreeMap (Vec ℕ A) ℕ A) A → Type 0
+AreNamed index =
+    (directory : ℕ) → IsSome (lookup (is_at (nat_cmp directory)) index.entries)
+    → 0 < option_map_or (λ names. length names.entries) (lookup (is_at (nat_cmp directory)) index.entries) 0
+
+-- The names are found, their cookies rise from 3 on, no name is there twice, and no map is empty.
 pub record IsKept {A : Type 0} (index : BTreeMap ℕ (BTreeMap (Vec ℕ A) ℕ A) A) (names : List Name) : Type 0 where
   pub next : ℕ
   pub rises : Rises (λ n. n.cookie) 3 names next
   pub found : IsIndexed index names
   pub once : (directory : ℕ) (name : List ℕ) → count_by (is_named directory name) names ≤ 1
+  pub named : AreNamed index

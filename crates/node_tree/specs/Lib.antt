@@ -6,6 +6,8 @@ pub mod Changes
 pub mod Places
 pub mod Lends
 pub mod Refusals
+pub mod Moving
+pub mod Moves
 pub mod Contents
 pub mod Blocks
 pub mod Groups

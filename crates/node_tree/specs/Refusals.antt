@@ -3,10 +3,10 @@
 -- the same of a world and of a view of one.
 use Rattle.std.specs.Prelude.{ℕ, ◌+◌, ◌^◌, ◌==◌, Bool, true, ◌&&◌, ◌||◌, not, nat_lt, if◌then◌else◌, List, length}
 use Rattle.std.specs.Prelude.{Option, Some, None, is_some}
-use Rattle.std.specs.Option.{option_map_or}
+use Rattle.std.specs.Option.{option_map_or, option_or}
 use Rattle.acl_list.specs.declared.entry.Kind.{Kind}
 use Rattle.node_tree.specs.declared.fault.TreeFault.{TreeFault}
-use Rattle.node_tree.specs.declared.fault.TreeFault.TheVariants.{Exist, NoEnt, NotEmpty, FBig, MLink, NoSpc}
+use Rattle.node_tree.specs.declared.fault.TreeFault.TheVariants.{Exist, NoEnt, NotEmpty, Inval, FBig, MLink, NoSpc}
 use Rattle.node_tree.specs.Limits.{MAX_BYTES, MAX_NAMES, MAX_OBJECTS, MAX_LINKS}
 use Rattle.node_tree.specs.World.{World, child_named, is_one, kind_of, name_count, link_count, has_entries, parent_of}
 use Rattle.node_tree.specs.World.{is_directory_in}
@@ -83,6 +83,34 @@ abbrev pub unlink_refusal : World → ℕ → List ℕ → Option TreeFault
 unlink_refusal w directory name =
     option_map_or (λ child. if has_entries w.names child then Some NotEmpty else None) (child_named w directory name)
     (Some NoEnt)
+
+-- both names of a RENAME are those of one object
+abbrev pub is_same : World → ℕ → List ℕ → ℕ → List ℕ → Bool
+is_same w from old to new = is_one (child_named w from old) (child_named w to new)
+
+-- a child gets the name of a target, which may be absent, whatever space there is
+abbrev pub move_refusal : World → (child to : ℕ) → Option ℕ → Option TreeFault
+move_refusal w child to target =
+    if is_one (Some child) target then None
+    else if is_below (kind_of w) (parent_of w) w.next_number child to then Some Inval
+    else if may_replace (kind_of w) (has_entries w.names) child target then None
+    else Some Exist
+
+-- RENAME, whatever space there is
+abbrev pub plan_refusal : World → ℕ → List ℕ → ℕ → List ℕ → Option TreeFault
+plan_refusal w from old to new =
+    option_map_or (λ child. move_refusal w child to (child_named w to new)) (child_named w from old) (Some NoEnt)
+
+-- the space of a child's new name
+abbrev pub space_refusal : World → (from to : ℕ) → Option ℕ → Option TreeFault
+space_refusal w from to target =
+    if may_move (name_count w.names to) w.next_cookie from to target then None else Some NoSpc
+
+-- RENAME: two names of one object take no space
+abbrev pub rename_refusal : World → ℕ → List ℕ → ℕ → List ℕ → Option TreeFault
+rename_refusal w from old to new =
+    option_or (plan_refusal w from old to new)
+    (if is_same w from old to new then None else space_refusal w from to (child_named w to new))
 
 -- WRITE
 abbrev pub write_refusal : ℕ → List ℕ → Option TreeFault

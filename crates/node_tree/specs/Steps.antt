@@ -1,4 +1,5 @@
--- The changes of a world as data, and when each may be made: what the tree's call asks for, and that it isn't refused.
+-- The changes of a world as data, and when each may be made: what the tree's call asks for, and that
+-- it isn't refused. A RENAME between two names of one object is no change.
 use Rattle.std.specs.Prelude.{ℕ, ◌+◌, ◌^◌, Bool, true, false, ◌&&◌, not, nat_le, nat_lt, List, length, Option, Some}
 use Rattle.std.specs.Prelude.{is_some}
 use Rattle.std.specs.Option.{option_map_or}
@@ -8,10 +9,9 @@ use Rattle.acl_list.specs.declared.entry.Kind.TheVariants as kinds
 use Rattle.acl_shape.specs.Bounds.{fits}
 use Rattle.node_tree.specs.declared.at.At.{At}
 use Rattle.node_tree.specs.Limits.{MAX_NAME}
-use Rattle.node_tree.specs.World.{World, object, kind_of, child_named, is_one, is_directory_at, has_entries, name_count}
-use Rattle.node_tree.specs.World.{parent_of}
+use Rattle.node_tree.specs.World.{World, object, kind_of, is_directory_at}
 use Rattle.node_tree.specs.Refusals.{has_left, add_refusal, link_refusal, unlink_refusal, write_refusal, resize_refusal}
-use Rattle.node_tree.specs.Refusals.{is_below, may_replace, may_move}
+use Rattle.node_tree.specs.Refusals.{is_same, rename_refusal}
 use Rattle.node_tree.specs.Sound.{most_bytes}
 
 -- a change, as the call that makes it
@@ -45,13 +45,6 @@ is_file_at w number = option_map_or is_file (kind_of w number) false
 abbrev pub is_plain_at : World → ℕ → Bool
 is_plain_at w number = is_some (object w number) && not (is_directory_at w number)
 
--- whether a child may get the name of a target, which may be absent, in another directory or in the same one
-abbrev pub may_rename : World → ℕ → ℕ → ℕ → Option ℕ → Bool
-may_rename w from to child target =
-    not (is_one (Some child) target) && not (is_below (kind_of w) (parent_of w) w.next_number child to)
-    && may_replace (kind_of w) (has_entries w.names) child target
-    && may_move (name_count w.names to) w.next_cookie from to target
-
 abbrev pub allows : World → Step → Bool
 allows w (Add directory name kind bytes owner group list high at) =
     is_tick w at.tick && is_directory_at w directory && is_short name && fits list
@@ -62,8 +55,8 @@ allows w (Link directory name number at) =
 allows w (Unlink directory name at) =
     is_tick w at.tick && is_short name && not (is_some (unlink_refusal w directory name))
 allows w (Rename from old to new at) =
-    is_tick w at.tick && is_directory_at w to && is_short old && is_short new
-    && option_map_or (λ child. may_rename w from to child (child_named w to new)) (child_named w from old) false
+    is_tick w at.tick && is_directory_at w to && is_short old && is_short new && not (is_same w from old to new)
+    && not (is_some (rename_refusal w from old to new))
 allows w (Write file offset more at) =
     is_tick w at.tick && is_file_at w file && not (is_some (write_refusal offset more))
 allows w (Resize file size at) = is_tick w at.tick && is_file_at w file && not (is_some (resize_refusal size))

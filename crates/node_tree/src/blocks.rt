@@ -1,10 +1,10 @@
 //! The bytes of a file, in blocks by their number. A block that was never written is absent, and reads as zeros.
-ghost use Rattle.std.specs.Prelude.{◌≡◌, ◌+◌, ◌-◌, ◌*◌, ◌/◌, ◌%◌, ◌<◌, ◌≤◌, ◌^◌, ◌&&◌, ◌++◌, ◌==◌, ℕ, [], true, map};
+ghost use Rattle.std.specs.Prelude.{◌≡◌, ◌+◌, ◌-◌, ◌*◌, ◌/◌, ◌%◌, ◌<◌, ◌≤◌, ◌^◌, ◌&&◌, ◌++◌, ◌==◌, ℕ, [], true, false};
 ghost use Rattle.std.specs.Prelude.{nat_le, nat_lt, if◌then◌else◌, slice_index, length, take, drop, IfOk, OnOk, OnErr};
-ghost use Rattle.std.specs.Prelude.{IsOk};
+ghost use Rattle.std.specs.Prelude.{◌≢◌, map};
 ghost use Rattle.std.specs.List.{range_with_len};
 ghost use Rattle.node_tree.specs.Changes.{written, resized};
-ghost use Rattle.node_tree.specs.Blocks.{byte_at, is_held};
+ghost use Rattle.node_tree.specs.Blocks.{byte_at, is_held, AreWithin};
 
 use crate::block::{BLOCK, Block, read_absent};
 use std::alloc::{AllocError, Allocator, Global};
@@ -19,14 +19,14 @@ pub struct Blocks<A: Allocator = Global> {
 }
 
 impl<A: Allocator> Model for Blocks<A> {
-    ghost use Rattle.std.specs.Prelude.{List, ℕ, ◌≡◌, ◌≤◌};
-    ghost use Rattle.node_tree.specs.Blocks.{bytes_in, byte_at};
+    ghost use Rattle.std.specs.Prelude.{List, ℕ};
+    ghost use Rattle.node_tree.specs.Blocks.{bytes_in, AreWithin};
 
     ghost Value = { List ℕ };
 
     ghost view = { λ b. bytes_in b.blocks.entries b.size };
 
-    ghost invariant = { λ b. (i : ℕ) → b.size ≤ i → byte_at b.blocks.entries i ≡ 0 };
+    ghost invariant = { λ b. AreWithin b.blocks.entries b.size };
 }
 
 /// Puts a block of zeros where there is none. `Err`: there is no memory for it.
@@ -38,6 +38,7 @@ fn put_zeros<A: Allocator + Copy>(
     ensures bytes { (i : ℕ) → byte_at blocks.new.entries i ≡ byte_at blocks.old.entries i }
     ensures there { OnOk result (is_held blocks.new.entries number ≡ true) }
     ensures kept { (k : ℕ) → is_held blocks.old.entries k ≡ true → is_held blocks.new.entries k ≡ true }
+    ensures others { (k : ℕ) → k ≢ number → is_held blocks.new.entries k ≡ is_held blocks.old.entries k }
 {
     if blocks.contains_key(&number) {
         return Ok(());
@@ -56,6 +57,7 @@ fn put_all_zeros<A: Allocator + Copy>(
 ) -> Result<(), AllocError>
     ensures bytes { (i : ℕ) → byte_at blocks.new.entries i ≡ byte_at blocks.old.entries i }
     ensures there { OnOk result ((k : ℕ) → from ≤ k → k < to → is_held blocks.new.entries k ≡ true) }
+    ensures others { (k : ℕ) → to ≤ k → is_held blocks.new.entries k ≡ is_held blocks.old.entries k }
 {
     for number in from..to {
         put_zeros(blocks, alloc, number)?;
@@ -66,8 +68,10 @@ fn put_all_zeros<A: Allocator + Copy>(
 /// Takes blocks away: their bytes are zeros then.
 fn remove_all<A: Allocator>(blocks: &mut BTreeMap<usize, Block<A>, A>, from: usize, to: usize)
     requires { from ≤ to }
-    ensures { (i : ℕ) → byte_at blocks.new.entries i ≡
+    ensures bytes { (i : ℕ) → byte_at blocks.new.entries i ≡
         (if nat_le from (i / 4096) && nat_lt (i / 4096) to then 0 else byte_at blocks.old.entries i) }
+    ensures gone { (k : ℕ) → is_held blocks.new.entries k ≡
+        (if nat_le from k && nat_lt k to then false else is_held blocks.old.entries k) }
 {
     for number in from..to {
         blocks.remove(&number);
@@ -76,8 +80,9 @@ fn remove_all<A: Allocator>(blocks: &mut BTreeMap<usize, Block<A>, A>, from: usi
 
 /// Sets the bytes of a block from a place of the file on to zeros.
 fn clear_behind<A: Allocator>(blocks: &mut BTreeMap<usize, Block<A>, A>, at: usize)
-    ensures { (i : ℕ) → byte_at blocks.new.entries i ≡
+    ensures bytes { (i : ℕ) → byte_at blocks.new.entries i ≡
         (if (i / 4096 == at / 4096) && nat_le at i then 0 else byte_at blocks.old.entries i) }
+    ensures held { (k : ℕ) → is_held blocks.new.entries k ≡ is_held blocks.old.entries k }
 {
     if let Some(block) = blocks.get_mut(&(at / BLOCK)) {
         block.clear_from(at % BLOCK);
@@ -87,8 +92,10 @@ fn clear_behind<A: Allocator>(blocks: &mut BTreeMap<usize, Block<A>, A>, at: usi
 /// Takes away the bytes from a size on, up to another size: whole blocks go, and the rest of the
 /// last one becomes zeros.
 fn cut<A: Allocator>(blocks: &mut BTreeMap<usize, Block<A>, A>, held: usize, size: usize)
-    requires { (i : ℕ) → held ≤ i → byte_at blocks.old.entries i ≡ 0 }
-    ensures { (i : ℕ) → byte_at blocks.new.entries i ≡ (if nat_lt i size then byte_at blocks.old.entries i else 0) }
+    requires { AreWithin blocks.old.entries held }
+    ensures bytes { (i : ℕ) → byte_at blocks.new.entries i ≡
+        (if nat_lt i size then byte_at blocks.old.entries i else 0) }
+    ensures few { (k : ℕ) → is_held blocks.new.entries k ≡ true → k * 4096 < size }
 {
     if held <= size {
         return;
@@ -111,7 +118,7 @@ fn write_block<A: Allocator>(
     ensures bytes { (i : ℕ) → byte_at blocks.new.entries i ≡
         (if (i / 4096 == number) && (nat_le offset i && nat_lt i (offset + length more.now))
         then slice_index more.now (i - offset) else byte_at blocks.old.entries i) }
-    ensures kept { (k : ℕ) → is_held blocks.old.entries k ≡ true → is_held blocks.new.entries k ≡ true }
+    ensures held { (k : ℕ) → is_held blocks.new.entries k ≡ is_held blocks.old.entries k }
 {
     if let Some(block) = blocks.get_mut(&number) {
         block.write(number * BLOCK, offset, more);
@@ -131,9 +138,10 @@ fn write_blocks<A: Allocator>(
     requires to { to ≡ (offset + length more.now - 1) / 4096 + 1 }
     requires some { 0 < length more.now }
     requires there { (k : ℕ) → from ≤ k → k < to → is_held blocks.old.entries k ≡ true }
-    ensures { (i : ℕ) → byte_at blocks.new.entries i ≡
+    ensures bytes { (i : ℕ) → byte_at blocks.new.entries i ≡
         (if nat_le offset i && nat_lt i (offset + length more.now) then slice_index more.now (i - offset)
         else byte_at blocks.old.entries i) }
+    ensures held { (k : ℕ) → is_held blocks.new.entries k ≡ is_held blocks.old.entries k }
 {
     for number in from..to {
         write_block(blocks, number, offset, more);

@@ -4,7 +4,7 @@ ghost use Rattle.std.specs.Ordering.{nat_cmp};
 ghost use Rattle.std.specs.BTreeMap.{is_at};
 ghost use Rattle.std.specs.BTreeSet.{insert_key};
 ghost use Rattle.std.specs.Set.{remove_key};
-ghost use Rattle.node_tree.specs.Groups.{cookies_at};
+ghost use Rattle.node_tree.specs.Groups.{cookies_at, AreFilled};
 
 use std::alloc::{AllocError, Allocator};
 use std::collections::{BTreeMap, BTreeSet};
@@ -74,6 +74,7 @@ fn take_cookie<A: Allocator>(cookies: &mut BTreeSet<u64, A>, cookie: u64)
 }
 
 /// One more cookie for a number. `Err`: there is no memory for it, and nothing has changed.
+#[tactic(auto, using(crate::proofs::Filled::some_inserted))]
 pub fn put<A: Allocator + Copy>(
     groups: &mut BTreeMap<u64, BTreeSet<u64, A>, A>,
     alloc: A,
@@ -83,6 +84,7 @@ pub fn put<A: Allocator + Copy>(
     ensures ok { OnOk result ((q : ℕ) → cookies_at groups.new q ≡
         (if q == number then insert_key nat_cmp (cookies_at groups.old q) cookie else cookies_at groups.old q)) }
     ensures err { OnErr result ((q : ℕ) → cookies_at groups.new q ≡ cookies_at groups.old q) }
+    ensures filled { AreFilled groups.old → AreFilled groups.new }
 {
     if let Some(cookies) = groups.get_mut(&number) {
         return put_cookie(cookies, cookie);
@@ -95,9 +97,10 @@ pub fn put<A: Allocator + Copy>(
 
 /// One cookie less for a number. The set of the number goes with its last cookie.
 pub fn take<A: Allocator>(groups: &mut BTreeMap<u64, BTreeSet<u64, A>, A>, number: u64, cookie: u64)
-    ensures { (q : ℕ) → cookies_at groups.new q ≡
+    ensures taken { (q : ℕ) → cookies_at groups.new q ≡
         (if q == number then remove_key (is_at (nat_cmp cookie)) (cookies_at groups.old q)
         else cookies_at groups.old q) }
+    ensures filled { AreFilled groups.old → AreFilled groups.new }
 {
     let Some(cookies) = groups.get_mut(&number) else {
         return;

@@ -17,6 +17,9 @@ pub enum TreeFault {
     /// NFS4ERR_NOTEMPTY: the directory has names.
     #[error("the directory isn't empty")]
     NotEmpty,
+    /// NFS4ERR_INVAL: a directory would come to lie below itself.
+    #[error("the directory would lie below itself")]
+    Inval,
     /// NFS4ERR_FBIG: the file would have more than [`crate::MAX_BYTES`] bytes.
     #[error("the file would be too big")]
     FBig,

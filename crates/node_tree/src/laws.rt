@@ -7,7 +7,8 @@ ghost use Rattle.node_tree.specs.Sound.{IsSound};
 ghost use Rattle.node_tree.specs.Parts.{IsReadInOrder};
 
 /// The walk up from a directory tells whether it is another directory or lies below it. So
-/// [`crate::Tree::is_below`] holds for exactly the moves of a directory below itself.
+/// [`crate::Tree::plan_rename`] answers [`crate::TreeFault::Inval`] for exactly the moves of a
+/// directory below itself.
 pub fn way_up_tells_what_lies_below()
     ensures { (w : World) (directory number : ℕ) → IsSound w → kind_of w number ≡ Some Directory →
         (is_within w directory number ≡ true) ↔ LiesWithin w.names directory number }

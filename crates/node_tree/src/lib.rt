@@ -35,7 +35,7 @@ pub use laws::{parts_are_read_in_order, way_up_tells_what_lies_below};
 pub use limits::{
     MAX_BYTES, MAX_LINKS, MAX_NAME, MAX_NAMES, MAX_OBJECTS, MAX_TEXT, ROOT, most_bytes,
 };
-pub use moved::Move;
+pub use moved::{Move, Plan};
 pub use nfs_types::Moment;
 pub use node::{Kept, NewObject, Node};
 pub use notes::Notes;

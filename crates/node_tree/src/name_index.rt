@@ -1,8 +1,8 @@
 //! The cookies of names, by directory and name.
 ghost use Rattle.std.specs.Prelude.{◌≡◌, ℕ, List, Option, OnOk, OnErr, IfOk, if◌then◌else◌, ◌==◌, ◌&&◌, nat_eq, not};
-ghost use Rattle.std.specs.Prelude.{None, Some};
+ghost use Rattle.std.specs.Prelude.{None, Some, ◌<◌, length};
 ghost use Rattle.std.specs.Cmp.Lexicographic.{pointwise};
-ghost use Rattle.node_tree.specs.Indexes.{cookie_of, cookie_at};
+ghost use Rattle.node_tree.specs.Indexes.{cookie_of, cookie_at, AreNamed};
 
 use std::alloc::{AllocError, Allocator, Global};
 use std::collections::BTreeMap;
@@ -18,6 +18,7 @@ pub fn find<A: Allocator>(
     index.get(&directory)?.get(name).copied()
 }
 
+#[tactic(auto, using(crate::proofs::Filled::some_put))]
 fn put_name<A: Allocator + Copy>(
     names: &mut BTreeMap<Vec<u8, A>, u64, A>,
     name: Vec<u8, A>,
@@ -26,6 +27,7 @@ fn put_name<A: Allocator + Copy>(
     ensures was { IfOk result (λ was. was ≡ cookie_of names.old name.items) }
     ensures ok { OnOk result ((t : List ℕ) →
         cookie_of names.new t ≡ (if pointwise nat_eq t name.items then Some cookie else cookie_of names.old t)) }
+    ensures some { OnOk result (0 < length names.new.entries) }
     ensures err { OnErr result (names.new.entries ≡ names.old.entries) }
 {
     Ok(names.insert(name, cookie)?)
@@ -53,6 +55,7 @@ pub fn put<A: Allocator + Copy>(
         cookie_at index.new d t ≡ (if (d == directory) && pointwise nat_eq t name.items then Some cookie
         else cookie_at index.old d t)) }
     ensures err { OnErr result ((d : ℕ) (t : List ℕ) → cookie_at index.new d t ≡ cookie_at index.old d t) }
+    ensures named { AreNamed index.old → AreNamed index.new }
 {
     if let Some(names) = index.get_mut(&directory) {
         return put_name(names, name, cookie);
@@ -74,6 +77,7 @@ pub fn take<A: Allocator>(
     ensures taken { (d : ℕ) (t : List ℕ) →
         cookie_at index.new d t ≡ (if (d == directory) && pointwise nat_eq t name.now then None
         else cookie_at index.old d t) }
+    ensures named { AreNamed index.old → AreNamed index.new }
 {
     let Some(names) = index.get_mut(&directory) else {
         return None;
@@ -98,6 +102,7 @@ pub fn take_other<A: Allocator>(
     ensures taken { (d : ℕ) (t : List ℕ) →
         cookie_at index.new d t ≡ (if ((d == from) && pointwise nat_eq t old.now) &&
         not ((d == to) && pointwise nat_eq t new.now) then None else cookie_at index.old d t) }
+    ensures named { AreNamed index.old → AreNamed index.new }
 {
     if from == to && old == new {
         return None;

@@ -5,7 +5,7 @@ ghost use Rattle.std.specs.Option.{option_copied, option_map};
 ghost use Rattle.std.specs.Ordering.{nat_cmp};
 ghost use Rattle.std.specs.BTreeMap.{insert_entry, is_at};
 ghost use Rattle.std.specs.Set.{remove_key};
-ghost use Rattle.node_tree.specs.Groups.{cookies_at};
+ghost use Rattle.node_tree.specs.Groups.{cookies_at, AreFilled};
 ghost use Rattle.node_tree.specs.World.{link_count, name_count};
 ghost use Rattle.node_tree.specs.Sound.{Rises};
 
@@ -81,6 +81,8 @@ fn take_both<A: Allocator>(
     ensures children { (q : ℕ) → cookies_at by_child.new q ≡
         (if q == child then remove_key (is_at (nat_cmp cookie)) (cookies_at by_child.old q)
         else cookies_at by_child.old q) }
+    ensures directories_filled { AreFilled by_directory.old → AreFilled by_directory.new }
+    ensures children_filled { AreFilled by_child.old → AreFilled by_child.new }
 {
     cookie_sets::take(by_directory, directory, cookie);
     cookie_sets::take(by_child, child, cookie);

@@ -5,11 +5,12 @@ ghost use Rattle.std.specs.Option.{option_copied};
 ghost use Rattle.acl_shape.specs.Bounds.{IsBounded};
 ghost use Rattle.node_tree.specs.Limits.{ROOT, MAX_NAME, MAX_LINKS};
 ghost use Rattle.node_tree.specs.World.{FindsAgain, object, kind_of, bytes_of, bytes_at, child_named, name_after};
-ghost use Rattle.node_tree.specs.World.{has_entries, link_count, name_count, parent_of, is_one};
+ghost use Rattle.node_tree.specs.World.{has_entries, link_count, parent_of};
 ghost use Rattle.node_tree.specs.Changes.{alone, root_of, made, with_new, with_link, unlinked, renamed, with_write};
 ghost use Rattle.node_tree.specs.Changes.{with_size, with_list, with_owner};
-ghost use Rattle.node_tree.specs.Refusals.{add_refusal, link_refusal, unlink_refusal, is_below, may_replace, may_move};
-ghost use Rattle.node_tree.specs.Refusals.{write_refusal, resize_refusal};
+ghost use Rattle.node_tree.specs.Refusals.{add_refusal, link_refusal, unlink_refusal, plan_refusal, space_refusal};
+ghost use Rattle.node_tree.specs.Refusals.{rename_refusal, write_refusal, resize_refusal};
+ghost use Rattle.node_tree.specs.Moves.{IsMove, IsPlan};
 ghost use Rattle.node_tree.specs.Judged.{KeepsJudged};
 ghost use Rattle.node_tree.specs.Notes.{begun_notes, cleared};
 ghost use Rattle.node_tree.specs.Parts.{number_after, any_after};
@@ -20,7 +21,7 @@ use crate::at::{At, from_start};
 use crate::entry::DirEntry;
 use crate::fault::TreeFault;
 use crate::limits::{MAX_BYTES, ROOT};
-use crate::moved::Move;
+use crate::moved::{Move, Plan, is_one};
 use crate::node::{NewObject, Node};
 use crate::store::Store;
 use acl_list::{AclList, Kind};
@@ -129,28 +130,47 @@ impl<A: Allocator + Copy> Tree<A> {
         self.store.name_by_cookie(cookie)
     }
 
-    /// Whether a child is a directory that another directory is, or lies below. It walks up from that directory.
-    pub fn is_below(&self, child: u64, directory: u64) -> bool
-        ensures { result ≡ is_below (kind_of self.now) (parent_of self.now) self.now.next_number child directory }
+    /// Plans that a child gets another name, in the same directory or in another (RENAME: RFC 8881,
+    /// section 18.26). Between two names of one object nothing is to be done, [`Plan::Same`].
+    ///
+    /// Refused, the first of these. There is no child of the old name, [`TreeFault::NoEnt`]. It is a
+    /// directory that the directory of the new name is, or lies below, [`TreeFault::Inval`]. There is
+    /// a target, and the two are neither both no directories nor both directories with the target
+    /// empty, [`TreeFault::Exist`].
+    pub fn plan_rename<'a>(
+        &self,
+        from: u64,
+        old: &'a [u8],
+        to: u64,
+        new: &'a [u8],
+    ) -> Result<Plan<'a>, TreeFault>
+        requires live { kind_of self.now to ≡ Some Kind.Directory }
+        requires short { length new.now ≤ MAX_NAME }
+        ensures refused { MatchOption (plan_refusal self.now from old.now to new.now) (IsOk result)
+            (λ fault. result ≡ Err fault) }
+        ensures plan { IfOk result (IsPlan self.now from old.now to new.now) }
     {
-        self.store.is_below(child, directory)
-    }
-
-    /// Whether a child may take the place of a target, which may be absent (RENAME: RFC 8881,
-    /// section 18.26). A directory may take that of an empty directory, another object that of no
-    /// directory.
-    pub fn may_replace(&self, child: u64, target: Option<u64>) -> bool
-        ensures { result ≡ may_replace (kind_of self.now) (has_entries self.now.names) child target }
-    {
-        self.store.may_replace(child, target)
-    }
-
-    /// Whether there is space for a child's new name, of a target that may be absent. Another
-    /// directory that has [`crate::MAX_NAMES`] names has none for one more, and no cookie is 2^63.
-    pub fn may_move(&self, from: u64, to: u64, target: Option<u64>) -> bool
-        ensures { result ≡ may_move (name_count self.now.names to) self.now.next_cookie from to target }
-    {
-        self.store.may_move(from, to, target)
+        let Some(child) = self.store.find(from, old) else {
+            return Err(TreeFault::NoEnt);
+        };
+        let target = self.store.find(to, new);
+        if is_one(child, target) {
+            return Ok(Plan::Same);
+        }
+        if self.store.is_below(child, to) {
+            return Err(TreeFault::Inval);
+        }
+        if !self.store.may_replace(child, target) {
+            return Err(TreeFault::Exist);
+        }
+        Ok(Plan::Move(Move {
+            from,
+            old,
+            to,
+            new,
+            child,
+            target,
+        }))
     }
 
     /// Copies the bytes of a file, or the text of a link, at an offset into a buffer, as far as
@@ -372,29 +392,51 @@ impl<A: Allocator + Copy> Tree<A> {
 
     /// Gives a child another name, in the same directory or in another (RENAME: RFC 8881, section
     /// 18.26). It takes a cookie. The times of both directories are set, and the `time_metadata` of
-    /// the child and of a target that has other names. `Err`: there is no memory for it, and
-    /// nothing changes.
+    /// the child and of a target that has other names. Nothing changes between two names of one
+    /// object.
     ///
     /// | The child | The target | |
     /// |---|---|---|
     /// | any | absent | the child has the new name |
     /// | no directory | no directory | the child has the new name, and the target has lost it |
     /// | a directory | an empty directory | the child has the new name, and the target is gone |
-    pub fn rename(&mut self, moved: Move<'_>, at: At) -> Result<(), AllocError>
+    ///
+    /// Refused, the first of these: as [`Tree::plan_rename`] and then as [`Tree::carry_out`].
+    pub fn rename(
+        &mut self,
+        from: u64,
+        old: &[u8],
+        to: u64,
+        new: &[u8],
+        at: At,
+    ) -> Result<(), TreeFault>
         requires tick { IsTick self.old at.tick }
-        requires live { kind_of self.old moved.to ≡ Some Kind.Directory }
-        requires short { length moved.new.now ≤ MAX_NAME }
-        requires child { child_named self.old moved.from moved.old.now ≡ Some moved.child }
-        requires target { child_named self.old moved.to moved.new.now ≡ moved.target }
-        requires other { is_one (Some moved.child) moved.target ≡ false }
-        requires above { is_below (kind_of self.old) (parent_of self.old) self.old.next_number moved.child moved.to ≡
-            false }
-        requires replaces { may_replace (kind_of self.old) (has_entries self.old.names) moved.child moved.target ≡
-            true }
-        requires space { may_move (name_count self.old.names moved.to) self.old.next_cookie moved.from moved.to
-            moved.target ≡ true }
+        requires live { kind_of self.old to ≡ Some Kind.Directory }
+        requires short { length new.now ≤ MAX_NAME }
+        ensures refused { MatchOption (rename_refusal self.old from old.now to new.now)
+            (IsOkUnless result TreeFault.Memory) (λ fault. result ≡ Err fault) }
+        ensures ok { OnOk result (self.new ≡ renamed self.old from old.now to new.now at) }
+        ensures err { OnErr result (self.new ≡ self.old) }
+        ensures judged { KeepsJudged self.old self.new }
+    {
+        match self.plan_rename(from, old, to, new)? {
+            Plan::Same => Ok(()),
+            Plan::Move(moved) => self.carry_out(moved, at),
+        }
+    }
+
+    /// Does what [`Tree::plan_rename`] found, in a world where that is still so.
+    ///
+    /// Refused, the first of these. The new name has no target and its directory, another one, has
+    /// [`crate::MAX_NAMES`] names, or the cookie would be 2^63, [`TreeFault::NoSpc`]. There is no
+    /// memory, [`TreeFault::Memory`].
+    pub fn carry_out(&mut self, moved: Move<'_>, at: At) -> Result<(), TreeFault>
+        requires tick { IsTick self.old at.tick }
+        requires planned { IsMove self.old moved }
+        ensures refused { MatchOption (space_refusal self.old moved.entry.from moved.entry.to moved.entry.target)
+            (IsOkUnless result TreeFault.Memory) (λ fault. result ≡ Err fault) }
         ensures ok { OnOk result (self.new ≡
-            renamed self.old moved.entry.from moved.entry.old.now moved.entry.to moved.entry.new.now at) }
+            renamed self.old moved.entry.from moved.entry.old moved.entry.to moved.entry.new at) }
         ensures err { OnErr result (self.new ≡ self.old) }
         ensures judged { KeepsJudged self.old self.new }
     {
@@ -406,6 +448,9 @@ impl<A: Allocator + Copy> Tree<A> {
             child,
             target,
         } = moved;
+        if !self.store.may_move(from, to, target) {
+            return Err(TreeFault::NoSpc);
+        }
         self.store.rename(from, old, to, new, child, target, at)?;
         self.store.note_rename(from, old, to, new, at);
         Ok(())

@@ -44,8 +44,9 @@ some_noted leaves = record { settled = with_kept; leaves = leaves; near = IsNear
 abbrev pub all_noted : (World : Type 0) → Rule World
 all_noted World = some_noted (λ old new. new ≡ old)
 
--- A turn has fewer calls: it is given at most 65,536 bytes of each of 16 connections, which are 2^20 bytes in all. This
--- is a part of the rule, since numbers are modulo 2^32: after 2^32 calls in one turn a slot would seem to be near.
+-- A turn has fewer calls: it is given at most 131,072 bytes of each of 16 connections, 2^21 bytes in all, and a call
+-- has more than two bytes. This is a part of the rule, since numbers are modulo 2^32: after 2^32 calls in one turn a
+-- slot would seem to be near.
 abbrev pub MOST_IN_TURN : ℕ
 MOST_IN_TURN = 1048576
 

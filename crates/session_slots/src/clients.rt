@@ -279,6 +279,14 @@ impl<A: Allocator + Copy> Clients<A> {
 
     // ---- clients that are let go
 
+    /// Says the second of a clock that only goes forward, from any start. From now on clients are heard and silent by
+    /// it, and not by the seconds that calls give, since their clock can be set. It is no part of the model.
+    pub fn set_second(&mut self, second: u64)
+        ensures { self.new ≡ self.old }
+    {
+        self.registry.set_second(second);
+    }
+
     /// A client was heard in this second, which is no part of the model. A second before the last one changes nothing.
     pub fn hear(&mut self, client: u64, now: u64)
         ensures { self.new ≡ self.old }

@@ -26,7 +26,8 @@ pub struct Exchange<'a> {
     pub flags: u32,
     /// Whether the owner's confirmed record has opens.
     pub has_opens: bool,
-    /// The second of the server's clock, in which the client counts as heard.
+    /// The second of the server's clock, in which the client counts as heard where no other is said
+    /// ([`crate::Clients::set_second`]).
     pub now: u64,
 }
 
@@ -120,13 +121,14 @@ impl<A: Allocator + Copy> Registry<A> {
         ensures { MakesClient self.old (exchanging_of asked.entry) gone result self.new }
     {
         let number = self.next_client;
+        let now = self.second_at(asked.now);
         let Ok(client) = Client::new(
             self.alloc,
             number,
             asked.owner,
             asked.verifier,
             asked.uid,
-            asked.now,
+            now,
         ) else {
             return Err(Status::Delay);
         };

@@ -56,8 +56,8 @@ pub fn slots_go_by_history<W: World>()
 /// between them, this holds. The world is made of the first one by the calls that stand, of all
 /// slots. Each of them runs once and in turn, and of each slot no number comes twice. The next
 /// number of a slot is new. It rests on two things. A slot is written after each new call for which
-/// [`crate::is_written`] holds. A client sends the next number of a slot, or that of the slot's
-/// last call again.
+/// `is_written` of `specs/Counting.antt` holds. A client sends the next number of a slot, or that of
+/// the slot's last call again.
 #[tactic(auto, using(crate::proofs::Acting::acts_once))]
 pub fn what_changes_the_world_acts_once<W: World>()
     ensures { (events : List acting.Event) (first : W) (last : acting.State W) →

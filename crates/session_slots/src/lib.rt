@@ -34,8 +34,7 @@ pub use laws::{
 pub use limits::{
     CONFIRMED, END, LEAST_REPLY, MOST_AHEAD, MOST_BYTES, MOST_CLIENTS, MOST_OPERATIONS, MOST_OWNER,
     MOST_RESULTS, MOST_SESSIONS, MOST_SLOTS, REPLY_HEADER, UPDATE_CONFIRMED, USE_NON_PNFS,
-    WRITTEN_EVERY,
 };
 pub use restoring::{NextNumbers, RestoreFault};
 pub use session::{Begin, Channel, Held, NewCall, Sequence};
-pub use slot::{KeptCall, due, is_written};
+pub use slot::{KeptCall, due};

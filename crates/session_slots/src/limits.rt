@@ -27,10 +27,6 @@ pub const MOST_OPERATIONS: u32 = 16;
 /// How far a new call may be ahead of the last one of a slot that lags.
 pub const MOST_AHEAD: u32 = 1 << 20;
 
-/// A slot is written after each call whose number is a multiple of this, whatever the call changed.
-/// So it never lags by more than [`MOST_AHEAD`].
-pub const WRITTEN_EVERY: u32 = 1 << 20;
-
 /// The most bytes of a client owner's ID, NFS4_OPAQUE_LIMIT (RFC 8881, section 3.1).
 pub const MOST_OWNER: usize = 1024;
 

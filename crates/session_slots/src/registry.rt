@@ -26,6 +26,8 @@ pub struct Registry<A: Allocator = Global> {
     pub(crate) sessions: BTreeMap<u64, Session<A>, A>,
     pub(crate) next_client: u64,
     pub(crate) next_session: u64,
+    // the second of a clock that only goes forward, where one is said; it is no part of the model
+    pub(crate) steady: Option<u64>,
 }
 
 impl<A: Allocator> Model for Registry<A> {
@@ -52,6 +54,7 @@ impl<A: Allocator + Copy> Registry<A> {
             sessions: BTreeMap::new(alloc),
             next_client: 1,
             next_session: 1,
+            steady: None,
         }
     }
 
@@ -79,6 +82,7 @@ impl<A: Allocator + Copy> Registry<A> {
     fn hear_of(&mut self, session: u64, now: u64)
         ensures { self.new ≡ self.old }
     {
+        let now = self.second_at(now);
         if let Some(session) = self.sessions.get(&session) {
             let client = session.client();
             hear(&mut self.clients, client, now);

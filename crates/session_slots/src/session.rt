@@ -51,7 +51,8 @@ pub struct Sequence<'a> {
     pub arguments: CallBytes<'a>,
     /// The caller.
     pub caller: &'a Caller,
-    /// The second of the server's clock, in which the client counts as heard where the call is new or a repeat.
+    /// The second of the server's clock, in which the client counts as heard where the call is new or a repeat, and no
+    /// other second is said ([`crate::Clients::set_second`]).
     pub now: u64,
 }
 

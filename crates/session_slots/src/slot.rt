@@ -8,7 +8,7 @@ ghost use Rattle.session_slots.specs.Slots.{results_of, BeginsBy, KeepsByHistory
 ghost use Rattle.session_slots.specs.Views.{bytes_of, kept_of};
 
 use crate::call_bytes::CallBytes;
-use crate::limits::{MOST_AHEAD, WRITTEN_EVERY};
+use crate::limits::MOST_AHEAD;
 use nfs_types::Status;
 use rpc_record::Caller;
 use std::alloc::{AllocError, Allocator, Global};
@@ -41,14 +41,6 @@ fn is_next(lags: bool, last: u32, number: u32) -> bool
     }
     let ahead = number.wrapping_sub(last);
     ahead >= 1 && ahead <= MOST_AHEAD
-}
-
-/// Whether a slot is written after a new call of this number. It is where the call changed anything
-/// that is kept over a restart, and where the number is a multiple of 2^20.
-pub fn is_written(number: u32, changes: bool) -> bool
-    ensures { result ≡ specs.is_written number changes }
-{
-    changes || number % WRITTEN_EVERY == 0
 }
 
 /// The last call of a slot, with its results, as it is kept over a restart.

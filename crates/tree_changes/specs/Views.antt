@@ -25,6 +25,7 @@ applied faults.Memory = kinds.Memory
 applied faults.Exist = kinds.Refused
 applied faults.NoEnt = kinds.Refused
 applied faults.NotEmpty = kinds.Refused
+applied faults.Inval = kinds.Refused
 applied faults.FBig = kinds.Refused
 applied faults.MLink = kinds.Refused
 applied faults.NoSpc = kinds.Refused

@@ -1,17 +1,17 @@
 //! A change that is data, applied to a tree.
 ghost use Rattle.std.specs.Prelude.{◌≡◌, ◌&&◌, true, false, not, OnOk, OnErr, IsOkUnless};
 ghost use Rattle.acl_shape.specs.Bounds.{fits};
-ghost use Rattle.node_tree.specs.World.{is_directory_at, is_one};
+ghost use Rattle.node_tree.specs.World.{is_directory_at};
 ghost use Rattle.node_tree.specs.Refusals.{has_left};
 ghost use Rattle.node_tree.specs.Steps.{Add, Link, Unlink, Rename, Write, Resize, SetList, SetOwner, allows, is_tick};
-ghost use Rattle.node_tree.specs.Steps.{is_short, is_file_at, is_plain_at, may_rename};
+ghost use Rattle.node_tree.specs.Steps.{is_short, is_file_at, is_plain_at};
 ghost use Rattle.tree_changes.specs.Stepped.{stepped};
 ghost use Rattle.tree_changes.specs.Views.{step_of, applied};
 ghost use Rattle.tree_changes.specs.declared.applying.ApplyFault.TheVariants.{Refused, Memory};
 
 use acl_list::{AclList, Kind};
 use acl_shape::is_bounded;
-use node_tree::{At, MAX_NAME, Move, NewObject, Tree, TreeFault, most_bytes};
+use node_tree::{At, MAX_NAME, NewObject, Plan, Tree, TreeFault, most_bytes};
 use std::alloc::{AllocError, Allocator, Global};
 use thiserror::Error;
 
@@ -79,7 +79,7 @@ pub enum Change<'a, A: Allocator = Global> {
         /// When.
         at: At,
     },
-    /// As [`Tree::rename`], of the objects that have both names now.
+    /// As [`Tree::rename`], but refused between two names of one object.
     Rename {
         /// The directory of the old name.
         from: u64,
@@ -191,31 +191,6 @@ fn list_fits<A: Allocator>(list: &AclList<A>) -> bool
     is_bounded(list)
 }
 
-/// Whether a target that may be absent is the child.
-fn is_one(child: u64, target: Option<u64>) -> bool
-    ensures { result ≡ is_one (Some child) target }
-{
-    match target {
-        Some(target) => child == target,
-        None => false,
-    }
-}
-
-fn may_rename<A: Allocator + Copy>(
-    tree: &Tree<A>,
-    from: u64,
-    to: u64,
-    child: u64,
-    target: Option<u64>,
-) -> bool
-    ensures { result ≡ may_rename tree.now from to child target }
-{
-    !is_one(child, target)
-        && !tree.is_below(child, to)
-        && tree.may_replace(child, target)
-        && tree.may_move(from, to, target)
-}
-
 fn add<A: Allocator + Copy>(
     tree: &mut Tree<A>,
     directory: u64,
@@ -300,22 +275,10 @@ fn rename<A: Allocator + Copy>(
     if !(is_tick(tree, at.tick) && is_directory(tree, to) && is_short(old) && is_short(new)) {
         return Err(ApplyFault::Refused);
     }
-    let Some(child) = tree.find(from, old) else {
+    let Plan::Move(moved) = tree.plan_rename(from, old, to, new)? else {
         return Err(ApplyFault::Refused);
     };
-    let target = tree.find(to, new);
-    if !may_rename(tree, from, to, child, target) {
-        return Err(ApplyFault::Refused);
-    }
-    let moved = Move {
-        from,
-        old,
-        to,
-        new,
-        child,
-        target,
-    };
-    tree.rename(moved, at)?;
+    tree.carry_out(moved, at)?;
     Ok(())
 }
 

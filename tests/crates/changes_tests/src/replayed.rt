@@ -1,7 +1,7 @@
 //! What a tree noted gives the tree again.
 use crate::same::same;
 use acl_list::{AclList, Entry, EntryKind, Kind, Who};
-use node_tree::{At, Moment, Move, NewObject, ROOT, Tree, TreeFault};
+use node_tree::{At, Moment, NewObject, ROOT, Tree, TreeFault};
 use std::alloc::Allocator;
 use tree_changes::{ReplayFault, replay};
 
@@ -62,15 +62,7 @@ fn change_all<A: Allocator + Copy>(alloc: A, tree: &mut Tree<A>) -> Result<(), T
     let when = at(tree);
     tree.unlink(directory, b"l", when)?;
     let when = at(tree);
-    let moved = Move {
-        from: ROOT,
-        old: b"further",
-        to: directory,
-        new: b"g",
-        child: file,
-        target: None,
-    };
-    tree.rename(moved, when)?;
+    tree.rename(ROOT, b"further", directory, b"g", when)?;
     let list = AclList::from_slice(alloc, &LIST[..1]).unwrap_or(AclList::new(alloc));
     tree.set_list(file, list, 0o2000, when);
     tree.set_owner(directory, 8, 9, when);

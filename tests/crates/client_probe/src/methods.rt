@@ -63,6 +63,11 @@ fn put(client: &mut Player<'_, '_>, path: &[u8], text: &[u8]) -> Result<(), Tool
     client.put(path, text)
 }
 
+/// Makes a text the bytes of a file that keeps its own until then.
+pub fn replace(client: &mut Player<'_, '_>, path: &[u8], text: &[u8]) -> Result<(), ToolFault> {
+    client.replace(path, text)
+}
+
 fn mkdir(client: &mut Player<'_, '_>, path: &[u8]) -> Result<(), ToolFault> {
     client.mkdir(path)
 }

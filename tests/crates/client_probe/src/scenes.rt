@@ -1,6 +1,6 @@
 //! A scene: a client over a stream in memory, and its commands one after the other.
 
-use crate::methods::{answer, end, ls_zero, put_method};
+use crate::methods::{answer, end, ls_zero, put_method, replace};
 use crate::outcomes::{put_answer, put_done, put_given};
 use crate::played::{Lent, Played, Player};
 use nfs_client::{Client, Command, ToolFault};
@@ -34,8 +34,8 @@ fn words_of(alloc: Global, line: &str) -> Result<Vec<&[u8]>, AllocError> {
     Ok(words)
 }
 
-/// Puts what comes of a line: of the command of these words, of a listing with zero bytes, or of the end of the session and
-/// the client.
+/// Puts what comes of a line: of the command of these words, of a listing with zero bytes, of a text that takes the place of
+/// a file's bytes, or of the end of the session and the client.
 fn put_came(
     out: &mut String,
     client: &mut Player<'_, '_>,
@@ -46,6 +46,7 @@ fn put_came(
         ("run", _, Some(command)) => put_answer(out, answer(client, command)),
         ("do", _, Some(command)) => put_method(out, client, command),
         ("zero", [path], None) => put_given(out, ls_zero(client, path)),
+        ("replace", [path, text], None) => put_done(out, replace(client, path, text)),
         ("leave", _, None) => put_done(out, end(client)),
         _ => Err(Fail::new(format_args!("no such line: {word}"))),
     }

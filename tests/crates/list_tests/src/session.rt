@@ -1,6 +1,7 @@
 //! Tests of `session_slots`.
 
 mod clients;
+mod hearing;
 mod memory;
 mod plain;
 mod restoring;

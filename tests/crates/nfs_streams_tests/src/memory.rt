@@ -12,17 +12,25 @@ use std::alloc::{Allocator, Global};
 use std::cell::Cell;
 use who_book::Book;
 
-/// Time that goes on by a second with each wait.
+/// Time that goes on by a second with each wait, and a clock of the moments that can be set.
 #[derive(Drop)]
 pub struct Time {
     seconds: Cell<i64>,
+    /// How far the clock of the moments is ahead.
+    ahead: Cell<i64>,
 }
 
 impl Time {
     pub fn new() -> Self {
         Time {
             seconds: Cell::new(1_000),
+            ahead: Cell::new(0),
         }
+    }
+
+    /// The clock of the moments is set ahead by so much.
+    pub fn set(&self, ahead: i64) {
+        self.ahead.set(ahead);
     }
 
     /// A second goes by.
@@ -34,9 +42,13 @@ impl Time {
 impl Clock for Time {
     fn now(&self) -> Moment {
         Moment {
-            seconds: self.seconds.get(),
+            seconds: self.seconds.get().saturating_add(self.ahead.get()),
             nanoseconds: 0,
         }
+    }
+
+    fn second(&self) -> u64 {
+        self.seconds.get().max(0) as u64
     }
 }
 

@@ -258,12 +258,14 @@ fn a_kept_reply_is_its_callers(rt: HostRuntime) -> Result<(), Fail> {
     Ok(())
 }
 
-/// So many owners come, and after so many seconds of silence one more: its status, and how many records the files have.
+/// 64 owners come, and after so many seconds of silence one more: its status, and how many records the files have. The
+/// clock of the moments is set ahead by so much as they fall silent.
 fn after_silence(
     alloc: Global,
     hasher: RandomState,
     leases: bool,
     silent: u64,
+    ahead: i64,
 ) -> Result<(Option<u32>, usize), Fail> {
     let time = Time::new();
     let mut calls = Vec::new(alloc);
@@ -272,6 +274,7 @@ fn after_silence(
     }
     let mut talk = Talk::new(alloc, &time, Disks::new(alloc), &calls);
     talk.silent = silent;
+    talk.ahead = ahead;
     serve_talk(alloc, hasher, &mut talk, leases, 0)?;
     let (records, _) = found_in(alloc, &talk.files)?.known.clients.counts();
     Ok((
@@ -286,12 +289,28 @@ fn after_silence(
 fn owners_that_vanish_are_let_go(rt: HostRuntime) -> Result<(), Fail> {
     let (alloc, hasher) = (rt.alloc(), RandomState::new(&rt)?);
     assert_eq!(rt;
-        after_silence(alloc, hasher, false, 300)?,
+        after_silence(alloc, hasher, false, 300, 0)?,
         (Some(NOSPC), 64)
     );
-    assert_eq!(rt; after_silence(alloc, hasher, true, 10)?, (Some(NOSPC), 64));
+    assert_eq!(rt;
+        after_silence(alloc, hasher, true, 10, 0)?,
+        (Some(NOSPC), 64)
+    );
     // as many go as there are more than 32; then the 65th comes, and one more goes
-    assert_eq!(rt; after_silence(alloc, hasher, true, 300)?, (Some(OK), 32));
+    assert_eq!(rt; after_silence(alloc, hasher, true, 300, 0)?, (Some(OK), 32));
+    Ok(())
+}
+
+/// The clock of the moments is set by a day, or by a lease, and leases are those of the clock that only goes forward.
+#[test]
+fn leases_are_not_of_the_clock_that_is_set(rt: HostRuntime) -> Result<(), Fail> {
+    let (alloc, hasher) = (rt.alloc(), RandomState::new(&rt)?);
+    for ahead in [91i64, 86_400, -86_400] {
+        let soon = after_silence(alloc, hasher, true, 10, ahead)?;
+        assert!(rt; soon == (Some(NOSPC), 64), "{ahead} soon");
+        let late = after_silence(alloc, hasher, true, 300, ahead)?;
+        assert!(rt; late == (Some(OK), 32), "{ahead} late");
+    }
     Ok(())
 }
 

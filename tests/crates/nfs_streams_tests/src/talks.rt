@@ -112,6 +112,8 @@ pub struct Talk<'a> {
     at: usize,
     /// How many turns it is silent before its last call.
     pub silent: u64,
+    /// How far the clock of the moments is set ahead before its last call.
+    pub ahead: i64,
     has_come: bool,
     pub files: Disks,
     pub replies: Vec<Reply>,
@@ -125,6 +127,7 @@ impl<'a> Talk<'a> {
             calls,
             at: 0,
             silent: 0,
+            ahead: 0,
             has_come: false,
             files,
             replies: Vec::new(alloc),
@@ -185,9 +188,12 @@ impl<A: Allocator + Copy> Streams<A> for Talk<'_> {
     fn close(&mut self, _place: usize, _end: StreamEnd) {}
 
     fn read(&mut self, _place: usize, buf: &mut [u8]) -> Moved {
-        if self.at + 1 == self.calls.len() && self.silent > 0 {
-            self.silent -= 1;
-            return Moved::NotYet;
+        if self.at + 1 == self.calls.len() {
+            self.time.set(self.ahead);
+            if self.silent > 0 {
+                self.silent -= 1;
+                return Moved::NotYet;
+            }
         }
         let Some(call) = self.calls.get(self.at) else {
             return Moved::Over;
@@ -223,7 +229,7 @@ fn hub_over(
     let Some(Found { tree, mut known }) = found else {
         return Ok(Hub::lasting(alloc, book, hasher)?);
     };
-    known.hear_all(time.now().seconds.max(0) as u64);
+    known.hear_all(time.second());
     Ok(Hub::restored(alloc, tree, known, book, hasher)?)
 }
 

@@ -102,6 +102,7 @@ const FAULTS: &[(ToolFault, &str)] = &[
     (ToolFault::Memory, "failed 6"),
     (ToolFault::Entry, "failed 7"),
     (ToolFault::Failed, "failed 8"),
+    (ToolFault::TooLarge, "failed 9"),
     (
         ToolFault::Refused(25, Status::Access),
         "refused READ ACCESS",
@@ -219,7 +220,7 @@ fn commands_of_a_part_are_read(rt: HostRuntime) {
 }
 
 /// Faults and their numbers.
-static NUMBERS: [(ToolFault, u32); 8] = [
+static NUMBERS: [(ToolFault, u32); 9] = [
     (ToolFault::Path, 1),
     (ToolFault::Refused(3, Status::Access), 2),
     (ToolFault::Reply, 3),
@@ -228,6 +229,7 @@ static NUMBERS: [(ToolFault, u32); 8] = [
     (ToolFault::Memory, 6),
     (ToolFault::Entry, 7),
     (ToolFault::Failed, 8),
+    (ToolFault::TooLarge, 9),
 ];
 
 #[test]

@@ -8,4 +8,5 @@ mod limits;
 mod memory;
 mod plain;
 mod steps;
+mod turnover;
 mod walk;

@@ -9,7 +9,9 @@ use RemovalReason::{
 use Standing::{AnotherUser, Applies, InheritOnly, NoMember, Watches};
 use Who::{Everyone, Group, GroupOf, Owner, User};
 use acl_list::{AclList, Entry, EntryKind, Who};
-use acl_reasons::{Governed, Reason, RemovalReason, Standing, standing_of, why, why_removal};
+use acl_reasons::{
+    Governed, Reason, RemovalReason, Share, Standing, share_of, standing_of, why, why_removal,
+};
 use rpc_record::Caller;
 use std::alloc::{AllocError, Global};
 use std::process::Abort;
@@ -221,4 +223,54 @@ fn entries(rt: HostRuntime) {
         let held = stands(case);
         assert!(rt; held);
     }
+}
+
+/// The uid and the gid of a caller, a mask, the index of an entry, the bits that it decides, and those that are decided
+/// before it.
+type Shared = (u32, u32, u32, usize, u32, u32);
+
+static SHARED_LIST: [Short; 5] = [
+    (Allow, 1, Owner),
+    (Deny, 3, Group),
+    (Alarm, 0xff, Everyone),
+    (Allow, 7, Everyone),
+    (Allow, 0x8000_0001, Everyone),
+];
+
+static SHARES: [Shared; 13] = [
+    (1001, 100, 3, 0, 1, 0),
+    (1001, 100, 3, 1, 2, 1),
+    (1001, 100, 2, 1, 2, 0),
+    (1001, 100, 1, 1, 0, 1),
+    (1001, 100, 7, 2, 0, 0),
+    (1001, 100, 7, 3, 4, 3),
+    (1001, 100, 0x8000_0001, 4, 0x8000_0000, 1),
+    (1001, 100, 7, 5, 0, 0),
+    (1002, 7, 3, 0, 0, 0),
+    (1002, 7, 3, 1, 0, 0),
+    (1002, 7, 7, 3, 7, 0),
+    (1002, 7, 5, 3, 5, 0),
+    (1002, 7, 0, 3, 0, 0),
+];
+
+fn shared_list() -> &'static [Short] {
+    &SHARED_LIST
+}
+
+fn shares() -> &'static [Shared] {
+    &SHARES
+}
+
+#[test]
+fn bits_that_entries_decide(rt: HostRuntime) -> Result<(), AllocError> {
+    let list = list_of(rt.alloc(), shared_list())?;
+    for (uid, gid, mask, index, decided, before) in shares() {
+        let share = share_of(&list, OWNER, GROUP, &caller(*uid, *gid), *mask, *index);
+        let want = Share {
+            decided: *decided,
+            before: *before,
+        };
+        assert!(rt; share == want, "{uid} {mask} {index}");
+    }
+    Ok(())
 }

@@ -6,4 +6,5 @@ abbrev pub invariant-loop-number : goal.invariant-loop-number
 invariant-loop-number g l = record {
   bytes : (i : ℕ) → byte_at l.blocks.entries i ≡ byte_at l.fn.blocks.entries i;
   there : (k : ℕ) → l.from ≤ k → k < l.number → is_held l.blocks.entries k ≡ true;
+  others : (k : ℕ) → l.to ≤ k → is_held l.blocks.entries k ≡ is_held l.fn.blocks.entries k;
 }

@@ -5,7 +5,7 @@ use nfs_types::Status;
 use rpc_record::Caller;
 use session_slots::{
     Begin, CallBytes, CallForm, Channel, Clients, Create, Created, Creation, Exchange, Held,
-    KeptCall, Record, RecordForm, RestoreFault, Sequence, SessionForm, is_written, write_call,
+    KeptCall, Record, RecordForm, RestoreFault, Sequence, SessionForm, write_call,
 };
 use std::alloc::Global;
 use std::process::Abort;
@@ -173,15 +173,6 @@ fn a_slot_that_kept_no_call(rt: HostRuntime) {
         clients.begin(9, asked(1, 43, b"args", &caller)),
         Begin::Refused(Status::SeqMisordered)
     );
-}
-
-#[test]
-fn which_slots_are_written(rt: HostRuntime) {
-    assert_eq!(rt; is_written(1, true), true);
-    assert_eq!(rt; is_written(1, false), false);
-    assert_eq!(rt; is_written(0, false), true);
-    assert_eq!(rt; is_written(1_048_576, false), true);
-    assert_eq!(rt; is_written(1_048_577, false), false);
 }
 
 #[test]

@@ -13,7 +13,7 @@ fn refusal(alloc: Global, line: &str) -> Result<Option<ErrorKind>, AllocError> {
     }
 }
 
-static ROWS: [(&str, ErrorKind); 51] = [
+static ROWS: [(&str, ErrorKind); 56] = [
     ("nfsd --port 0", ErrorKind::ValueValidation),
     ("nfsd --port 65536", ErrorKind::ValueValidation),
     ("nfsd --port=-1", ErrorKind::ValueValidation),
@@ -78,6 +78,11 @@ static ROWS: [(&str, ErrorKind); 51] = [
     ("nfsd --stamped --port 0", ErrorKind::ValueValidation),
     ("nfsd --store", ErrorKind::InvalidValue),
     ("nfsd --store a --store b", ErrorKind::ArgumentConflict),
+    ("nfsd --book=", ErrorKind::InvalidValue),
+    ("nfsd --trail=", ErrorKind::InvalidValue),
+    ("nfsd --store=", ErrorKind::InvalidValue),
+    ("nfsd --home=", ErrorKind::InvalidValue),
+    ("nfsd --home= --bare", ErrorKind::InvalidValue),
     ("nfsd --home h --bare", ErrorKind::ArgumentConflict),
     ("nfsd --home h --store s", ErrorKind::ArgumentConflict),
     ("nfsd --home h --trail t", ErrorKind::ArgumentConflict),

@@ -2,8 +2,8 @@
 
 use acl_list::{AclList, Kind};
 use acl_shape::is_bounded;
-use node_tree::{At, Moment, Move, NewObject, Tree, TreeFault};
-use std::alloc::{AllocError, Allocator};
+use node_tree::{At, Moment, NewObject, Tree, TreeFault};
+use std::alloc::Allocator;
 
 /// The outcome of a call, or of a look.
 #[derive(Clone, Copy, Debug, PartialEq, Eq)]
@@ -14,8 +14,6 @@ pub enum Outcome {
     Made(u64),
     /// The call was refused.
     Refused(TreeFault),
-    /// A directory would come to lie below itself.
-    GoesBelow,
     /// The call's requirements don't hold.
     Misused,
     /// A number was seen.
@@ -118,14 +116,6 @@ pub fn unlink<A: Allocator + Copy>(tree: &mut Tree<A>, directory: u64, name: &[u
     came_to(tree.unlink(directory, name, at))
 }
 
-/// Whether the target of a new name is the child itself.
-fn is_one(child: u64, target: Option<u64>) -> bool {
-    match target {
-        Some(target) => child == target,
-        None => false,
-    }
-}
-
 pub fn rename<A: Allocator + Copy>(
     tree: &mut Tree<A>,
     from: u64,
@@ -142,34 +132,7 @@ pub fn rename<A: Allocator + Copy>(
     if new.len() > 255 {
         return Outcome::Misused;
     }
-    let Some(child) = tree.find(from, old) else {
-        return Outcome::Refused(TreeFault::NoEnt);
-    };
-    let target = tree.find(to, new);
-    if is_one(child, target) {
-        return Outcome::Done;
-    }
-    if tree.is_below(child, to) {
-        return Outcome::GoesBelow;
-    }
-    if !tree.may_replace(child, target) {
-        return Outcome::Refused(TreeFault::Exist);
-    }
-    if !tree.may_move(from, to, target) {
-        return Outcome::Refused(TreeFault::NoSpc);
-    }
-    let moved = Move {
-        from,
-        old,
-        to,
-        new,
-        child,
-        target,
-    };
-    match tree.rename(moved, at) {
-        Ok(()) => Outcome::Done,
-        Err(AllocError) => Outcome::Refused(TreeFault::Memory),
-    }
+    came_to(tree.rename(from, old, to, new, at))
 }
 
 pub fn write<A: Allocator + Copy>(

@@ -1,16 +1,14 @@
 //! Single changes, by hand from the standard.
 
 use crate::tree::acting::Outcome;
-use crate::tree::acting::Outcome::{
-    Absent, Bytes, Changed, Done, Entry, GoesBelow, Is, Made, Refused,
-};
+use crate::tree::acting::Outcome::{Absent, Bytes, Changed, Done, Entry, Is, Made, Refused};
 use crate::tree::steps::Look::{Parent, Size, Stamp, Times};
 use crate::tree::steps::Step::{
     After, Create, Link, Mkdir, Read, Rename, Resize, See, SetList, SetOwner, Unlink, Write,
 };
 use crate::tree::steps::{Step, sample, walk, walk_sample};
 use node_tree::Tree;
-use node_tree::TreeFault::{Exist, FBig, NoEnt, NotEmpty};
+use node_tree::TreeFault::{Exist, FBig, Inval, NoEnt, NotEmpty};
 use std::alloc::Global;
 use std::process::Abort;
 
@@ -110,8 +108,8 @@ const MOVES: &[(Step, Outcome)] = &[
     (Mkdir(3, b"d"), Made(4)),
     (Mkdir(1, b"e"), Made(5)),
     (Rename(1, b"none", 3, b"x"), Refused(NoEnt)),
-    (Rename(1, b"pub", 3, b"x"), GoesBelow),
-    (Rename(1, b"pub", 4, b"x"), GoesBelow),
+    (Rename(1, b"pub", 3, b"x"), Refused(Inval)),
+    (Rename(1, b"pub", 4, b"x"), Refused(Inval)),
     (Rename(1, b"e", 1, b"pub"), Refused(Exist)),
     (Rename(1, b"notes", 1, b"e"), Refused(Exist)),
     (Rename(1, b"e", 1, b"notes"), Refused(Exist)),

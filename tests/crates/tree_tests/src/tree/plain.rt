@@ -1,8 +1,8 @@
 //! A tree as a plain program keeps it: lists that are walked, and the bytes of a file in one row.
 
 use crate::tree::acting::Outcome;
-use crate::tree::acting::Outcome::{Done, GoesBelow, Made, Refused};
-use node_tree::TreeFault::{Exist, MLink, NoEnt, NotEmpty};
+use crate::tree::acting::Outcome::{Done, Made, Refused};
+use node_tree::TreeFault::{Exist, Inval, MLink, NoEnt, NotEmpty};
 use std::alloc::{AllocError, Global};
 
 /// A tick above those of all tests.
@@ -286,7 +286,7 @@ impl Plain {
             return Ok(Done);
         }
         if self.is_directory(child) && self.is_within(child, to) {
-            return Ok(GoesBelow);
+            return Ok(Refused(Inval));
         }
         if let Some(target) = target {
             if !self.may_replace(child, target) {

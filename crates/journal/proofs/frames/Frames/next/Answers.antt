@@ -1,7 +1,7 @@
 use Rattle.std.proofs.Common.{◌≡◌, ◌∙◌, sym, ap, arith, length, Ok}
 use Rattle.xdr_wire.specs.Reading.{read_at}
 use Rattle.journal.specs.Frames.{Bytes, form, head_value}
-use Rattle.journal.proofs.Standing.{read_shortens, takes_frame, in_its_place}
+use Rattle.journal.proofs.Standing.{read_shortens, takes_frame}
 use Rattle.journal.proofs.frames.Frames.next.Goals as goal
 
 pub returns-clause-takes : goal.returns-clause-takes
@@ -12,9 +12,7 @@ returns-clause-takes c =
     let is : read_at form self.rest.now ≡ Ok ((head_value h, (c.in-Ok.digest, body)), c.rest-self.result.now) =
     ap (read_at form) (sym c.new-reader.ensures) ∙ c.in-Ok.ensures ∙ ap (λ (r : Bytes). Ok ((head_value h, (c.in-Ok.digest, body)), r)) (sym c.rest-self.ensures) in
     takes_frame self.key self.generation self.number self.rest.now c.rest-self.result.now h c.in-Ok.digest body is
-    (in_its_place self.key self.generation self.number h c.in-Ok.digest body
-    (c.if-digest-head_digest_of.false ∙ c.head_digest_of.ensures) c.if-head-ne-VERSION.false c.if-head-self.false c.if-head-self-2.false
-    (c.if-head-digest_of.false ∙ c.digest_of.ensures))
+    (sym c.is_next.ensures ∙ c.if-not-is_next.false)
 
 pub returns-clause-shorter : goal.returns-clause-shorter
 returns-clause-shorter c =

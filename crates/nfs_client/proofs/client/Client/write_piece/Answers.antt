@@ -8,10 +8,10 @@ use Rattle.nfs_client.proofs.client.Client.write_piece.Goals as goal
 
 pub returns-in-Err : goal.returns-in-Err
 returns-in-Err g c =
-    let ops = write_to c.args.self.now (open_value c.args.opened.now) c.args.offset c.args.bytes.now in
-    unasked (directions_of g.S.Write.contents g.S.Read.remaining) (written_in (length c.args.bytes.now)) itself true ops c.args.self.now c.exchange.new.self c.in-Err.fault (c.in-Err.ensures ops c.in_ok-request.ensures.asks)
+    let ops = write_to c.args.self.now c.args.over (open_value c.args.opened.now) c.args.offset c.args.bytes.now in
+    unasked (directions_of g.S.Write.contents g.S.Read.remaining) (written_in c.args.over (length c.args.bytes.now)) itself true ops c.args.self.now c.exchange.new.self c.in-Err.fault (c.in-Err.ensures ops c.in_ok-request.ensures.asks)
 
 pub returns : goal.returns
 returns g c =
-    let ops = write_to c.args.self.now (open_value c.args.opened.now) c.args.offset c.args.bytes.now in
-    concluded (directions_of g.S.Write.contents g.S.Read.remaining) (written_in (length c.args.bytes.now)) ops c.args.self.now c.exchange.new.self c.in-Ok.reply (c.in-Ok.ensures ops c.in_ok-request.ensures.asks) itself true c.written-told.result c.conclude.new.self c.written-told.ensures c.conclude.ensures
+    let ops = write_to c.args.self.now c.args.over (open_value c.args.opened.now) c.args.offset c.args.bytes.now in
+    concluded (directions_of g.S.Write.contents g.S.Read.remaining) (written_in c.args.over (length c.args.bytes.now)) ops c.args.self.now c.exchange.new.self c.in-Ok.reply (c.in-Ok.ensures ops c.in_ok-request.ensures.asks) itself true c.written-told.result c.conclude.new.self c.written-told.ensures c.conclude.ensures

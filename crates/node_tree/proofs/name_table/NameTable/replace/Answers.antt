@@ -14,7 +14,7 @@ invariant_of-self-in-Err g c =
     let rises : Rises (λ n. n.cookie) 3 c.self.inside.list c.args.cookie = rw c.self.view_is c.requires in
     let back : c.remove.new.self ≡ c.self.inside.list = c.remove.ensures ∙ ap (but c.args.cookie) c.in_ok-push.ensures.ok
     ∙ but_last 3 c.self.inside.list (record { cookie = c.args.cookie; directory = c.args.to; name = c.in_ok-name.name.items; child = c.args.child }) rises in
-    kept_as_it_was c.self.inside.index c.put.new.index c.self.inside.list c.remove.new.self c.self.invariant back c.in-Err.ensures.err
+    kept_as_it_was c.self.inside.index c.put.new.index c.self.inside.list c.remove.new.self c.self.invariant back c.in-Err.ensures.err (c.in-Err.ensures.named c.self.invariant.named)
 
 pub returns-in-Err-clause-err : goal.returns-in-Err-clause-err
 returns-in-Err-clause-err g c =
@@ -42,6 +42,7 @@ invariant_of-self-2 g c =
     ∙ dropped_both c.self.inside.list n c.args.from c.args.old.now c.take_other-moved.result c.in-Ok.target rises c.self.invariant.once was there in
     kept_replace c.self.inside.index c.take_other-moved.new.index c.self.inside.list c.remove_found-2.new.names c.args.from c.args.old.now n c.self.invariant rises is
     (indexed_replace (cookie_at c.self.inside.index) (cookie_at c.put.new.index) (cookie_at c.take_other-moved.new.index) c.self.inside.list c.remove_found-2.new.names c.args.from c.args.old.now n c.in_ok-key.key.items is c.in_ok-key.ensures.items c.self.invariant.found c.in-Ok.ensures.ok c.take_other-moved.ensures.taken)
+    (c.take_other-moved.ensures.named (c.in-Ok.ensures.named c.self.invariant.named))
 
 pub returns-clause-ok : goal.returns-clause-ok
 returns-clause-ok g c =

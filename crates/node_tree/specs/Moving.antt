@@ -1,0 +1,13 @@
+-- A child that gets another name (RFC 8881, section 18.26).
+use Rattle.std.specs.Prelude.{ℕ, List, Option}
+
+pub record Moving : Type 0 where
+  -- the child's directory, and its name there
+  pub from : ℕ
+  pub old : List ℕ
+  -- the directory of the new name, and the new name
+  pub to : ℕ
+  pub new : List ℕ
+  -- the child, and the object that has the new name, if there is one
+  pub child : ℕ
+  pub target : Option ℕ
