@@ -1,6 +1,7 @@
-//! When the file of the book is read again, and which book follows the one before.
+//! When the file of the book is read again, which book follows the one before, and when a home is
+//! served.
 ghost use Rattle.std.specs.Prelude.{◌≡◌, is_some};
-ghost use Rattle.nfsd.specs.Books.{is_fresh, is_one_file, is_unchanged, may_follow, plan};
+ghost use Rattle.nfsd.specs.Books.{is_fresh, is_near, is_one_file, is_one_time, is_unchanged, may_follow, plan, start};
 
 use rpc_record::Caller;
 use who_book::Book;
@@ -12,14 +13,24 @@ pub(crate) struct FileId {
     pub(crate) node: u64,
 }
 
-/// The stamp of a file: which file it is, the time of its last write, and its length. A file whose
-/// content has changed has another stamp, unless it was written twice in one tick of the system's
-/// clock.
+/// A time that the system keeps of a file, since the epoch.
+#[derive(Clone, Copy, Debug)]
+pub(crate) struct FileTime {
+    pub(crate) seconds: i64,
+    pub(crate) nanoseconds: i64,
+}
+
+/// The stamp of a file: which file it is, the times of its last write and of the last change of
+/// anything about it, and its length. A file whose content has changed has another stamp, unless it
+/// was written twice in one tick of the system's clock and has its old length.
 #[derive(Clone, Copy, Debug)]
 pub(crate) struct Stamp {
     pub(crate) id: FileId,
-    pub(crate) seconds: i64,
-    pub(crate) nanoseconds: i64,
+    /// The last write. Whoever may write the file can set it.
+    pub(crate) written: FileTime,
+    /// The last change of content, owner, mode, names or times. Nobody can set it. Where it isn't
+    /// known, it is the same each time.
+    pub(crate) changed: FileTime,
     pub(crate) len: u64,
 }
 
@@ -43,6 +54,17 @@ pub(crate) enum Plan {
     Load(Change),
 }
 
+/// What a start of a home does about its book.
+#[derive(Clone, Copy, Debug)]
+pub(crate) enum Start {
+    /// It reads the book.
+    Read,
+    /// It serves without a book, until there is one.
+    Await,
+    /// It serves nothing.
+    Refuse,
+}
+
 impl FileId {
     /// Whether both are one file.
     pub(crate) fn is(&self, other: &FileId) -> bool
@@ -52,26 +74,46 @@ impl FileId {
     }
 }
 
-impl Stamp {
-    /// Whether the file is as it was when it had the other stamp.
-    pub(crate) fn is(&self, other: &Stamp) -> bool
-        ensures { result ≡ is_unchanged self.now other.now }
+impl FileTime {
+    /// Whether both are one time.
+    fn is(&self, other: &FileTime) -> bool
+        ensures { result ≡ is_one_time self.now other.now }
     {
-        let same_time = self.seconds == other.seconds && self.nanoseconds == other.nanoseconds;
-        self.id.is(&other.id) && same_time && self.len == other.len
+        self.seconds == other.seconds && self.nanoseconds == other.nanoseconds
     }
 
-    /// Whether the last write isn't two seconds ago yet, by whole seconds of the clock.
-    fn is_fresh(&self, now: i64) -> bool
-        ensures { result ≡ is_fresh now self.now }
+    /// Whether it isn't two seconds ago yet, by whole seconds of the clock.
+    fn is_near(&self, now: i64) -> bool
+        ensures { result ≡ is_near now self.now }
     {
         now.abs_diff(self.seconds) <= 2
     }
 }
 
+impl Stamp {
+    /// Whether the file is as it was when it had the other stamp.
+    pub(crate) fn is(&self, other: &Stamp) -> bool
+        ensures { result ≡ is_unchanged self.now other.now }
+    {
+        let same_times = self.written.is(&other.written) && self.changed.is(&other.changed);
+        self.id.is(&other.id) && same_times && self.len == other.len
+    }
+
+    /// Whether the last write or the last change isn't two seconds ago yet, by whole seconds of the
+    /// clock.
+    fn is_fresh(&self, now: i64) -> bool
+        ensures { result ≡ is_fresh now self.now }
+    {
+        self.written.is_near(now) || self.changed.is_near(now)
+    }
+}
+
 /// Plans by the stamp of the file that was read last, the stamp of the file now, and the second of
 /// the clock. Another file is read at once. A file that was written in place is read once its last
-/// write is two seconds ago, since a front of a book can be a book.
+/// write and its last change are two seconds ago, since a front of a book can be a book.
+///
+/// That a file of another number is another file is plain. One of the same number is the same file
+/// only while the file that was read last is held open: else its number may have been given away.
 pub(crate) fn plan_for(last: &Option<Stamp>, seen: &Stamp, now: i64) -> Plan
     ensures { result ≡ plan last.now seen.now now }
 {
@@ -97,6 +139,21 @@ pub(crate) fn may_follow(change: Change, had_members: bool, has_members: bool) -
     match change {
         Change::Moved => true,
         Change::Written => !had_members || has_members,
+    }
+}
+
+/// What a start of a home does, by whether the book is there and whether the home had one before.
+/// Without its `members` who says a gid is in that group, so a home that had a book isn't served
+/// without it.
+pub(crate) fn start_for(is_there: bool, was_there: bool) -> Start
+    ensures { result ≡ start is_there was_there }
+{
+    if is_there {
+        Start::Read
+    } else if was_there {
+        Start::Refuse
+    } else {
+        Start::Await
     }
 }
 

@@ -42,12 +42,15 @@ use who_book::BookFault;
 /// The most turns of a connection: each reads some bytes of it.
 const TURNS: u64 = 1_000_000;
 
-/// The faults that keep `nfsd` from serving, in the order in which they are found. While it serves,
-/// the first two keep a book from loading.
+/// The faults that keep `nfsd` from serving. While it serves, some of them keep a book from loading.
 #[derive(Drop)]
 enum Fault {
+    /// The home has no book, and had one.
+    Gone,
     /// The book's file can't be read, is no regular file, or isn't UTF-8.
     File,
+    /// The home can't keep that it has a book.
+    Note,
     /// The book has this fault.
     Book(BookFault),
     /// The book was written in place of one with `members`, and has none.
@@ -65,7 +68,7 @@ enum Fault {
 impl Display for Fault {
     fn fmt<W: fmt::Write>(&self, f: &mut Formatter<W>) -> fmt::Result {
         match self {
-            Fault::File => f.write_str("file"),
+            Fault::Gone | Fault::File | Fault::Note => f.write_str("file"),
             Fault::Book(fault) => write!(f, "book {}", *fault as u8),
             Fault::Members => write!(f, "book {}", BookFault::Shape as u8),
             Fault::Hub(number) => write!(f, "hub {number}"),
@@ -129,9 +132,10 @@ fn serve_hub(
     rt: &HostRuntime,
     alloc: Global,
     options: &Options<'_>,
+    home: Option<&Home<'_>>,
 ) -> Result<Result<bool, Fault>> {
     let hasher = RandomState::new(rt)?;
-    let mut book = BookFile::new(rt, alloc, options.book);
+    let mut book = BookFile::new(rt, alloc, options.book, home);
     match hub(rt, alloc, options, &mut book, hasher) {
         Ok((hub, stored)) => {
             let mut hub = hub;
@@ -174,9 +178,14 @@ fn status<R: Files + Alloc + Eprint>(
     }
 }
 
-/// Serves by the options. The status of the program.
-fn run_options(rt: &HostRuntime, alloc: Global, options: &Options<'_>) -> Result<ExitCode> {
-    let served = serve_hub(rt, alloc, options)?;
+/// Serves by the options, which may be those of a home. The status of the program.
+fn run_options(
+    rt: &HostRuntime,
+    alloc: Global,
+    options: &Options<'_>,
+    home: Option<&Home<'_>>,
+) -> Result<ExitCode> {
+    let served = serve_hub(rt, alloc, options, home)?;
     Ok(status(rt, alloc, options, served))
 }
 
@@ -197,9 +206,9 @@ fn run_words(rt: &HostRuntime, alloc: Global, words: &[String]) -> Result<ExitCo
         Ok(options) => match options.home {
             Some(folder) => {
                 let home = Home::open(rt, alloc, folder)?;
-                run_options(rt, alloc, &home.options(options))
+                run_options(rt, alloc, &home.options(options), Some(&home))
             }
-            None => run_options(rt, alloc, &options),
+            None => run_options(rt, alloc, &options, None),
         },
         Err(error) => {
             let _ = say_words(rt, alloc, &error);

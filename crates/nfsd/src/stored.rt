@@ -1,6 +1,6 @@
 //! What outlives a restart is in the store of a folder, and the hub goes on over what was found
 //! there.
-use crate::clock::second;
+use crate::clock::steady_second;
 use crate::{Fault, hub_fault};
 use compound_run::Lent;
 use nfs_hub::Hub;
@@ -31,7 +31,8 @@ fn stop_of(alloc: Global, folder: &mut StoreFolder, fault: StoreFault) -> StoreS
     }
 }
 
-/// The hub over what was found, whose clients were heard in this second; over a root alone, where nothing was.
+/// The hub over what was found, whose clients were heard in this second of the clock that only goes
+/// forward; over a root alone, where nothing was.
 fn hub_over(
     alloc: Global,
     folder: &mut StoreFolder,
@@ -87,7 +88,7 @@ pub(crate) fn open_store<R: Files<File = File> + RandomSource + Alloc + Clock>(
         Ok(opened) => opened,
         Err(fault) => return Err(Fault::Store(stop_of(alloc, &mut folder, fault))),
     };
-    let now = second(rt).max(0) as u64;
+    let now = steady_second(rt);
     let mut hub = hub_over(alloc, &mut folder, found, now, book, hasher)?;
     let stored = begin(alloc, folder, base, &mut hub)?;
     Ok((hub, stored))

@@ -36,7 +36,18 @@ pub(crate) fn say_no_book<R: Files + Alloc + Eprint>(
     fault: &Fault,
 ) {
     match fault {
+        Fault::Gone => {
+            let _ = eprintln!(rt;
+                "{path}: it isn't there, and an earlier start had it; put it back, or remove had-book beside it to \
+                 serve without a book"
+            );
+        }
         Fault::File => say_file(rt, path),
+        Fault::Note => {
+            let _ = eprintln!(rt;
+                "{path}: had-book can't be written beside it, and no book counts without that"
+            );
+        }
         Fault::Book(fault) => say_book(rt, alloc, path, *fault),
         Fault::Members => {
             let _ = eprintln!(rt;
@@ -80,7 +91,7 @@ pub(crate) fn say<R: Files + Alloc + Eprint>(
 ) {
     let _ = eprintln!(rt; "nfsd: {fault}");
     match fault {
-        Fault::File | Fault::Book(_) | Fault::Members => {
+        Fault::Gone | Fault::File | Fault::Note | Fault::Book(_) | Fault::Members => {
             if let Some(path) = options.book {
                 say_no_book(rt, alloc, path, fault);
             }
