@@ -19,3 +19,8 @@ pub mod Alike
 pub mod RowsStand
 pub mod WrongRows
 pub mod Telling
+pub mod OverSessions
+pub mod Alone
+pub mod Simulates
+pub mod Determined
+pub mod EventsCover

@@ -25,22 +25,25 @@ shown m s = (told (failure m.caller s m.questions) (m.answer s), trace m.caller 
 abbrev pub DisclosesNothing : Meaning → Type 0
 DisclosesNothing m = (q r : Realm) → view q m.caller ≡ view r m.caller → shown m (whole q) ≡ shown m (whole r)
 
--- ---- clients and sessions, which are equal in realms that look alike to anyone
+-- ---- operations that act on clients and sessions, and see nothing of the world
 
--- An operation that is the only one of its COMPOUND has an equal result in each realm that looks
--- alike to anyone. Anyone is the caller as sent, or the member of the book. Clients, sessions and
--- opens are equal afterwards.
+-- clients, sessions and open files are equal, whatever the worlds have, and outlive a restart in both or in neither
+pub record KnowAlike (q r : Realm) : Type 0 where
+  pub registry : q.registry ≡ r.registry
+  pub opens : q.opens ≡ r.opens
+  pub lasting : q.lasting ≡ r.lasting
+
+-- An operation that is the only one of its COMPOUND has an equal result in each realm with equal
+-- clients, sessions and open files. These are equal afterwards.
 abbrev pub DisclosesNothingAlone : Identity → Operation → Type 0
 DisclosesNothingAlone caller op =
-    (viewer : Identity) (q r new : Realm) (outcome : Result Outcome Status) → view q viewer ≡ view r viewer
-    → ActsAlone caller op q outcome new
+    (q r new : Realm) (outcome : Result Outcome Status) → KnowAlike q r → ActsAlone caller op q outcome new
     → ActsAlone caller op r outcome (record r { registry = new.registry; opens = new.opens })
 
 -- SEQUENCE has equal answers and equal kept results, and begins the call alike
 abbrev pub BeginsAlike : Call → ℕ → Value sequence_args → List ℕ → Type 0
 BeginsAlike call count v operations =
-    (viewer : Identity) (q r : Realm) → view q viewer ≡ view r viewer
-    → (begin_in q call count v operations ≡ begin_in r call count v operations)
+    (q r : Realm) → KnowAlike q r → (begin_in q call count v operations ≡ begin_in r call count v operations)
     × (begun_in q call count v operations ≡ begun_in r call count v operations)
     × (results_at q.registry (session_of (sequence_session v)) (sequence_slot v)
     ≡ results_at r.registry (session_of (sequence_session v)) (sequence_slot v))

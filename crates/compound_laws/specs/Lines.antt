@@ -13,11 +13,11 @@ use Rattle.nfs_ops.specs.Operations.{Operation, Known, Unsupported, Illegal, Bad
 use Rattle.nfs_ops.specs.Parts.{claim_of, closed_stateid, created_name, created_type, how_of, new_name, old_name}
 use Rattle.nfs_ops.specs.Parts.{read_stateid, set_of, set_stateid, write_stateid}
 use Rattle.nfs_ops.specs.declared.OpKind.TheVariants as kinds
-use Rattle.session_slots.specs.Destroying.{reclaim_refusal}
+use Rattle.session_slots.specs.Destroying.{complete_already}
 use Rattle.access_rows.specs.Rows.{Demands, is_to_read, is_to_write}
 use Rattle.compound_run.specs.Context.{Context, Handles}
 use Rattle.compound_run.specs.Faults.{fault_in}
-use Rattle.compound_run.specs.Sight.{Sight, kind_at}
+use Rattle.compound_run.specs.Sight.{Sight, client_in, kind_at}
 use Rattle.compound_run.specs.Questions.{Question, Holds, Valid, Row, Suffices}
 use Rattle.compound_run.specs.Stateids.{client_of, opened_fault}
 use Rattle.compound_run.specs.Meaning.{here, too_big_for}
@@ -202,7 +202,7 @@ line_with first second c h (Known kinds.Write v) =
     ∷ [])
 line_with first second c h (Known kinds.ReclaimComplete one_fs) =
     -- for all file systems: COMPLETE_ALREADY
-    if one_fs then with_object [] else Checks (λ s. reclaim_refusal s.registry (client_of c)) ∷ []
+    if one_fs then with_object [] else Checks (λ s. complete_already (client_in s (client_of c))) ∷ []
 -- the operations of sessions, which have no place here
 line_with first second c h (Known kind v) = refuses statuses.NotSupp
 line_with first second c h (Unsupported n) = refuses statuses.NotSupp

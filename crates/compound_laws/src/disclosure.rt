@@ -20,8 +20,8 @@ pub fn operations_disclose_nothing()
 
 /// Nor do EXCHANGE_ID, CREATE_SESSION, DESTROY_SESSION and DESTROY_CLIENTID as the only operation
 /// of a COMPOUND (`alone`; RFC 8881, sections 18.35 to 18.37 and 18.50). Nor do SEQUENCE and the
-/// results that a slot keeps (`sequence`; section 18.46). This holds in realms that look alike to
-/// anyone.
+/// results that a slot keeps (`sequence`; section 18.46). They see nothing of the world: this holds
+/// in realms with equal clients, sessions and open files.
 pub fn sessions_disclose_nothing()
     ensures alone { (caller : Identity) (op : Operation) → DisclosesNothingAlone caller op }
     ensures sequence { (call : Call) (count : ℕ) (v : Value sequence_args) (operations : List ℕ) →

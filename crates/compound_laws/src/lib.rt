@@ -10,6 +10,7 @@ mod lasting;
 mod noted;
 mod opens;
 mod repeats;
+mod replaying;
 
 pub use conforming::what_is_answered_conforms;
 pub use disclosure::{
@@ -26,3 +27,6 @@ pub use noted::{
 };
 pub use opens::{calls_keep_opens, opens_hold_at_first, operations_keep_opens};
 pub use repeats::repeats_change_nothing;
+pub use replaying::{
+    kept_calls_run_again, operations_are_determined, operations_see_no_session, other_events_cover,
+};

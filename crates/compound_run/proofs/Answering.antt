@@ -1,5 +1,5 @@
 -- A server after a run.
-use Rattle.std.proofs.Common.{◌≡◌, ℕ, ◌-◌, List, refl, sym, ap, subst, arith, append-nil, length}
+use Rattle.std.proofs.Common.{◌≡◌, ℕ, ◌-◌, List, refl, sym, ap, subst, arith, append-nil, length, false}
 use Rattle.std.specs.Prelude.{[], ◌++◌, Option, Some, None}
 use Rattle.xdr_wire.specs.Buffer.{Buffer}
 use Rattle.xdr_wire.specs.Xdr.{Value}
@@ -18,15 +18,15 @@ use Rattle.compound_run.specs.Written.{RunGives, Opens, OpensTo, OpensBehind}
 -- ---- operations after a head
 
 none_run : {A : Type 0} (status : Status) (tag : List ℕ) (c : Context) (operations : List ℕ) (e : realms.Realm A) (out : Buffer)
-    → OpensBehind (Some status) (series tag c operations) (stage e out) (record { status = status; ran = 0 }) (stage e out)
+    → OpensBehind (Some status) (series tag c operations) (stage e out) (record { status = status; ran = 0; changed = false; delayed = None }) (stage e out)
 none_run status tag c operations e out =
     ([], (no_handles, (append-nil (head status tag 0), refl)), record { behind = sym (append-nil out.bytes); less_room = omega arith }, omega arith)
 
 -- no operation is run
 pub refused_behind : {A : Type 0} (fault : Option Status) (status : Status) (tag : List ℕ) (c : Context) (operations : List ℕ) (e : realms.Realm A) (out : Buffer) → fault ≡ Some status
-    → OpensBehind fault (series tag c operations) (stage e out) (record { status = status; ran = 0 }) (stage e out)
+    → OpensBehind fault (series tag c operations) (stage e out) (record { status = status; ran = 0; changed = false; delayed = None }) (stage e out)
 refused_behind fault status tag c operations e out is =
-    subst (λ f. OpensBehind f (series tag c operations) (stage e out) (record { status = status; ran = 0 }) (stage e out)) (sym is) (none_run status tag c operations e out)
+    subst (λ f. OpensBehind f (series tag c operations) (stage e out) (record { status = status; ran = 0; changed = false; delayed = None }) (stage e out)) (sym is) (none_run status tag c operations e out)
 
 all_run : {A : Type 0} (tag : List ℕ) (c : Context) (operations : List ℕ) (old new : realms.Realm A) (before after : Buffer) (end : Ended) → c.position ≡ 0
     → RunGives c operations (stage old before) end (stage new after) → OpensBehind None (series tag c operations) (stage old before) end (stage new after)

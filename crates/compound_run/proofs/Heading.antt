@@ -1,6 +1,6 @@
 -- The head of a COMPOUND's results, of which the status is filled in at the end.
-use Rattle.std.proofs.Common.{◌≡◌, ℕ, ◌+◌, ◌≤◌, List, ◌++◌, length, refl, sym, ap, ◌∙◌, append_assoc, append-nil, subst, arith}
-use Rattle.std.specs.Prelude.{[], ◌∷◌}
+use Rattle.std.proofs.Common.{◌≡◌, ℕ, ◌+◌, ◌≤◌, Bool, true, false, if◌then◌else◌, List, ◌++◌, length, refl, sym, ap, ◌∙◌, append_assoc, append-nil, subst, arith}
+use Rattle.std.specs.Prelude.{[], ◌∷◌, None}
 use Rattle.std.specs.Int.{w32, to_be_bytes}
 use Rattle.std.proofs.lemmas.List.{length-append}
 use Rattle.xdr_wire.specs.Buffer.{Buffer, Appends, Fills}
@@ -15,8 +15,10 @@ use Rattle.compound_run.specs.Limits.{MAX_TAG, MAX_RESULTS}
 use Rattle.compound_run.specs.Realm.{Realm}
 use Rattle.compound_run.specs.Compound.{head}
 use Rattle.compound_run.specs.Runs.{result_bytes, status_in}
-use Rattle.compound_run.specs.InSession.{ActsTo, given_alone}
-use Rattle.compound_run.specs.SessionViews.{ActedSo, WritesWithin}
+use Rattle.compound_run.specs.InSession.{given_alone}
+use Rattle.compound_run.specs.declared.kept.Ran.{Ran}
+use Rattle.compound_run.specs.declared.lone_operations.Acted.{Acted}
+use Rattle.compound_run.specs.SessionViews.{ActedSo, ActsSo, IsRanUnless, WritesWithin, is_again}
 
 -- the bytes after the status
 abbrev tail : List ℕ → ℕ → List ℕ
@@ -41,26 +43,31 @@ head_filled before mid done after first status tag n item p q f =
     two = record { behind = p.behind ∙ sym (append_assoc before.bytes (word first) (tail tag n)); less_room = refl }
 
 -- an operation is the only one
-pub answered_alone : (caller : Identity) (op : Operation) (tag : List ℕ) (old new : Realm) (before mid done after : Buffer) (status : Status)
-    → Appends before mid (head statuses.Ok tag 1) → length mid.bytes ≤ length before.bytes + 1036 → ActedSo caller op old mid status new done → Fills done after (length before.bytes) (word status)
-    → WritesWithin MAX_RESULTS (λ bytes. ActsTo caller op tag old bytes new) before after
-answered_alone caller op tag old new before mid done after status p short a f = (
-  head status tag 1 ++ item,
-  (a.outcome, a.acts, told),
-  head_filled before mid done after statuses.Ok status tag 1 item p a.written f,
+pub answered_alone : (caller : Identity) (op : Operation) (tag : List ℕ) (old new : Realm) (before mid done after : Buffer) (acted : Acted) (again : Bool) (ran : Ran)
+    → Appends before mid (head statuses.Ok tag 1) → length mid.bytes ≤ length before.bytes + 1036 → ActedSo caller op old mid acted new done → Fills done after (length before.bytes) (word acted.status)
+    → again ≡ is_again op old → ran ≡ (if again then record { kept = false; delayed = None } else acted.ran)
+    → WritesWithin MAX_RESULTS (λ bytes. ActsSo caller op tag old bytes ran new) before after
+answered_alone caller op tag old new before mid done after acted again ran p short a f is same = (
+  head acted.status tag 1 ++ item,
+  ((a.outcome, a.acts, told), subst (λ b. IsRanUnless b ran op a.outcome) is (subst (λ r. IsRanUnless again r op a.outcome) (sym same) (unless again))),
+  head_filled before mid done after statuses.Ok acted.status tag 1 item p a.written f,
   few,
 )
   where
     item : List ℕ
     item = result_bytes (record { number = number_of op; outcome = a.outcome })
 
-    told : head status tag 1 ++ item ≡ given_alone tag (number_of op) a.outcome
+    unless : (b : Bool) → IsRanUnless b (if b then record { kept = false; delayed = None } else acted.ran) op a.outcome
+    unless true = record { kept = refl; delayed = refl }
+    unless false = a.kept
+
+    told : head acted.status tag 1 ++ item ≡ given_alone tag (number_of op) a.outcome
     told = ap (λ s. head s tag 1 ++ item) a.told ∙ ap (λ bytes. head (status_in a.outcome) tag 1 ++ bytes) (sym (append-nil item))
 
-    few : length (head status tag 1 ++ item) ≤ MAX_RESULTS
+    few : length (head acted.status tag 1 ++ item) ≤ MAX_RESULTS
     few =
         let first = ap length p.behind ∙ length-append before.bytes (head statuses.Ok tag 1) in
         let second = ap length a.written.behind ∙ length-append mid.bytes item in
-        let both = length-append (head status tag 1) item in
-        let same : length (head status tag 1) ≡ length (head statuses.Ok tag 1) = refl in
+        let both = length-append (head acted.status tag 1) item in
+        let same : length (head acted.status tag 1) ≡ length (head statuses.Ok tag 1) = refl in
         omega (arith, first, second, both, same, short, a.within)

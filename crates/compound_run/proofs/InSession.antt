@@ -24,7 +24,7 @@ use Rattle.compound_run.specs.Context.{Context, no_handles}
 use Rattle.compound_run.specs.Runs.{Given, Runs, status_of, result_bytes, results_bytes}
 use Rattle.compound_run.specs.Compound.{head, last_status, together, series}
 use Rattle.compound_run.specs.Sequence.{keeping}
-use Rattle.compound_run.specs.SessionViews.{SequencedTo, SequencedBehind, SequencedKept, WritesWithin}
+use Rattle.compound_run.specs.SessionViews.{SequencedSo, SequencedBehind, SequencedKept, WritesWithin}
 use Rattle.compound_run.specs.Views.{point_at, stage}
 use Rattle.compound_run.specs.Written.{RunGives}
 use Rattle.compound_run.proofs.Staying.{runs_stay}
@@ -40,7 +40,7 @@ pub sequenced : {A : Type 0} (most : ℕ) (c : Context) (room : ℕ) (tag : List
     → SequencedBehind most (series tag (record c { room = room }) operations) (record { number = number; outcome = Ok o }) (stage old before) end (stage new after)
 sequenced {A} most c room tag number o operations old new before mid after end second is appends r within = (
   result_bytes given ++ results_bytes r.results,
-  (r.handles, (r.results, subst (λ x. Runs (record c { room = x }) (c.count - c.position) operations (point_at old no_handles) r.results (point_at new r.handles)) is r.runs, told)),
+  ((r.handles, (r.results, subst (λ x. Runs (record c { room = x }) (c.count - c.position) operations (point_at old no_handles) r.results (point_at new r.handles)) is r.runs, told)), r.kept),
   then_behind before mid after (result_bytes given) (results_bytes r.results) appends r.written,
   within,
 )
@@ -93,10 +93,10 @@ pub sequenced_within : {A : Type 0} (limit most : ℕ) (c : Context) (room other
     → Appends start first zeros → Appends first tagged (tag_bytes tag) → Appends tagged begun zeros
     → SequencedBehind most (series tag (record c { room = room }) operations) given (stage old begun) end (stage realm done)
     → Fills done counted (length tagged.bytes) (to_be_bytes w32 end.ran) → Fills counted new (length start.bytes) (word end.status) → room ≡ other → most ≤ length start.bytes + limit
-    → WritesWithin limit (λ bytes. SequencedTo (series tag (record c { room = other }) operations) given old bytes realm) start new
+    → WritesWithin limit (λ bytes. SequencedSo (series tag (record c { room = other }) operations) given old bytes end realm) start new
 sequenced_within {A} limit most c room other tag given operations old realm start first tagged begun done counted new end p q r s f g is within = (
   head end.status tag end.ran ++ s.0,
-  subst (λ x. SequencedTo (series tag (record c { room = x }) operations) given old (head end.status tag end.ran ++ s.0) realm) is s.1,
+  subst (λ x. SequencedSo (series tag (record c { room = x }) operations) given old (head end.status tag end.ran ++ s.0) end realm) is s.1,
   headed start first tagged begun done counted new end.status tag end.ran s.0 p q r s.2 f g,
   few,
 )
@@ -126,19 +126,19 @@ few_there r s session slot new n stands same few =
     subst (λ o. IfSome o (λ x. n ≤ kept_size x.granted)) (sym (stands_there r s session slot new stands same)) (omega (arith, stands.3, few))
 
 -- no session is made or ended by the operations
-pub sessions_stay : {A : Type 0} (limit : ℕ) (c : Context) (tag : List ℕ) (given : Given) (operations : List ℕ) (old new : realms.Realm A) (before after : Buffer)
-    → WritesWithin limit (λ bytes. SequencedTo (series tag c operations) given old bytes new) before after → new.clients.sessions ≡ old.clients.sessions
-sessions_stay limit c tag given operations old new before after w = runs_stay c (c.count - c.position) operations (point_at old no_handles) w.1.1.0 (point_at new w.1.0) w.1.1.1
+pub sessions_stay : {A : Type 0} {end : Ended} (limit : ℕ) (c : Context) (tag : List ℕ) (given : Given) (operations : List ℕ) (old new : realms.Realm A) (before after : Buffer)
+    → WritesWithin limit (λ bytes. SequencedSo (series tag c operations) given old bytes end new) before after → new.clients.sessions ≡ old.clients.sessions
+sessions_stay limit c tag given operations old new before after w = runs_stay c (c.count - c.position) operations (point_at old no_handles) w.1.0.1.0 (point_at new w.1.0.0) w.1.0.1.1
 
 -- the bytes that were appended
 pub appended : (before after : Buffer) (item : List ℕ) → Appends before after item → drop (length before.bytes) after.bytes ≡ item
 appended before after item p = ap (drop (length before.bytes)) p.behind ∙ drop_at before.bytes item (length before.bytes) refl
 
-pub kept_so : {A : Type 0} (limit other : ℕ) (c d : Context) (tag : List ℕ) (v : Value sequence_args) (given done : Given) (operations : List ℕ) (old mid new : realms.Realm A) (before after : Buffer) (start : ℕ)
-    → WritesWithin limit (λ bytes. SequencedTo (series tag c operations) given old bytes mid) before after → limit ≡ other → c ≡ d → given ≡ done → start ≡ length before.bytes
+pub kept_so : {A : Type 0} {end : Ended} (limit other : ℕ) (c d : Context) (tag : List ℕ) (v : Value sequence_args) (given done : Given) (operations : List ℕ) (old mid new : realms.Realm A) (before after : Buffer) (start : ℕ)
+    → WritesWithin limit (λ bytes. SequencedSo (series tag c operations) given old bytes end mid) before after → limit ≡ other → c ≡ d → given ≡ done → start ≡ length before.bytes
     → new ≡ record mid { clients = keeping v (drop start after.bytes) mid.clients }
-    → WritesWithin other (λ bytes. SequencedKept (series tag d operations) v done old bytes new) before after
-kept_so {A} limit other c d tag v given done operations old mid new before after start w few is told from kept = (
+    → WritesWithin other (λ bytes. SequencedKept (series tag d operations) v done old bytes end new) before after
+kept_so {A} {end} limit other c d tag v given done operations old mid new before after start w few is told from kept = (
   w.0,
   (mid, runs, kept ∙ ap (λ bytes. record mid { clients = keeping v bytes mid.clients }) same),
   w.2,
@@ -148,8 +148,8 @@ kept_so {A} limit other c d tag v given done operations old mid new before after
     same : drop start after.bytes ≡ w.0
     same = ap (λ n. drop n after.bytes) from ∙ appended before after w.0 w.2
 
-    runs : SequencedTo (series tag d operations) done old w.0 mid
-    runs = subst (λ x. SequencedTo (series tag x operations) done old w.0 mid) is (subst (λ x. SequencedTo (series tag c operations) x old w.0 mid) told w.1)
+    runs : SequencedSo (series tag d operations) done old w.0 end mid
+    runs = subst (λ x. SequencedSo (series tag x operations) done old w.0 end mid) is (subst (λ x. SequencedSo (series tag c operations) x old w.0 end mid) told w.1)
 
 -- the bytes that were appended are within the limit
 pub few_appended : {X : List ℕ → Type 0} (limit start : ℕ) (before after : Buffer) (w : WritesWithin limit X before after) → start ≡ length before.bytes → length (drop start after.bytes) ≤ limit

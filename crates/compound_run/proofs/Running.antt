@@ -1,6 +1,8 @@
 -- Operations are run in turn.
-use Rattle.std.proofs.Common.{◌≡◌, ℕ, ◌+◌, ◌-◌, ◌<◌, ◌≤◌, suc, List, refl, sym, ap, ◌∙◌, subst, length, arith, append-nil}
-use Rattle.std.specs.Prelude.{[], ◌∷◌, ◌++◌, Result, Ok, Err, MatchResult}
+use Rattle.std.proofs.Common.{◌≡◌, ℕ, ◌+◌, ◌-◌, ◌<◌, ◌≤◌, ◌||◌, suc, Bool, true, false, if◌then◌else◌, List, refl, sym, ap, ◌∙◌, subst, length, arith, append-nil}
+use Rattle.std.specs.Prelude.{[], ◌∷◌, ◌++◌, Option, Some, None, Result, Ok, Err, MatchResult}
+use Rattle.std.specs.List.{list_any}
+use Rattle.std.specs.Option.{option_map}
 use Rattle.std.proofs.lemmas.List.{append_assoc, length-append}
 use Rattle.xdr_wire.specs.Buffer.{Buffer, Appends}
 use Rattle.nfs_types.specs.declared.status.Status.{Status}
@@ -13,7 +15,9 @@ use Rattle.compound_run.specs.Limits.{REFUSAL_ROOM}
 use Rattle.compound_run.specs.Context.{Context, behind, no_handles}
 use Rattle.compound_run.specs.Runs.{Point, Given, Steps, Runs, status_of, result_bytes, results_bytes}
 use Rattle.compound_run.specs.Compound.{last_status}
-use Rattle.compound_run.specs.Telling.{IsToldBy}
+use Rattle.compound_run.specs.Telling.{IsToldBy, is_delay, is_delay_status}
+use Rattle.compound_run.specs.Keeping.{is_change, is_changing}
+use Rattle.compound_run.specs.Delayed.{delayed_in}
 use Rattle.compound_run.specs.Views.{point_at, stage}
 use Rattle.compound_run.specs.Written.{StepGives, RunGives}
 
@@ -35,6 +39,8 @@ pub record Stand (A : Type 0) : Type 0 where
   pub out : Buffer
   pub rest : List ℕ
   pub position : ℕ
+  -- an operation that changes something was OK
+  pub changed : Bool
 
 -- the most bytes that the next result may take
 abbrev pub room_at : {A : Type 0} → Begun A → Stand A → ℕ
@@ -57,6 +63,8 @@ pub record Running {A : Type 0} (b : Begun A) (s : Stand A) : Type 0 where
   pub status : last_status results ≡ statuses.Ok
   pub many : s.position ≡ b.context.position + length results
   pub fits : length s.out.bytes ≤ length b.out.bytes + b.context.room
+  pub kept : s.changed ≡ list_any is_change results
+  pub undelayed : delayed_in results ≡ None
 
 last-behind : (results : List Given) (given : Given) → last_status (results ++ given ∷ []) ≡ status_of given
 last-behind [] given = refl
@@ -66,6 +74,52 @@ last-behind (a ∷ b ∷ results) given = last-behind (b ∷ results) given
 bytes-behind : (results : List Given) (given : Given) → results_bytes (results ++ given ∷ []) ≡ results_bytes results ++ result_bytes given
 bytes-behind [] given = append-nil (result_bytes given)
 bytes-behind (a ∷ results) given = ap (λ bytes. result_bytes a ++ bytes) (bytes-behind results given) ∙ sym (append_assoc (result_bytes a) (results_bytes results) (result_bytes given))
+
+-- one more result
+any_behind : (results : List Given) (given : Given) → list_any is_change (results ++ given ∷ []) ≡ (list_any is_change results || is_change given)
+any_behind [] given = last (is_change given)
+  where
+    last : (a : Bool) → (a || false) ≡ a
+    last true = refl
+    last false = refl
+any_behind (a ∷ results) given = ap (λ b. is_change a || b) (any_behind results given) ∙ joined (is_change a) (list_any is_change results) (is_change given)
+  where
+    joined : (a b c : Bool) → (a || (b || c)) ≡ ((a || b) || c)
+    joined true b c = refl
+    joined false b c = refl
+
+-- the place of an operation that found no memory
+abbrev pub refused_at : Status → ℕ → Option ℕ
+refused_at status place = if is_delay_status status then Some place else None
+
+-- what is delayed of a result
+abbrev delayed_as : Result Outcome Status → ℕ → Option ℕ
+delayed_as (Ok outcome) place = None
+delayed_as (Err status) place = refused_at status place
+
+delayed_behind : (results : List Given) (given : Given) → delayed_in results ≡ None → delayed_in (results ++ given ∷ []) ≡ delayed_as given.outcome (length results)
+delayed_behind [] given none = one given.outcome
+  where
+    one : (r : Result Outcome Status) → (if is_delay r then Some 0 else None) ≡ delayed_as r 0
+    one (Ok outcome) = refl
+    one (Err status) = refl
+delayed_behind (a ∷ results) given none =
+    let first = before (is_delay a.outcome) (delayed_in results) none in
+    ap (λ b. if b then Some 0 else option_map suc (delayed_in (results ++ given ∷ []))) first.0
+    ∙ (ap (option_map suc) (delayed_behind results given first.1) ∙ later given.outcome)
+  where
+    before : (b : Bool) (x : Option ℕ) → (if b then Some 0 else option_map suc x) ≡ None → (b ≡ false) × (x ≡ None)
+    before true x is = cc
+    before false None is = (refl, refl)
+    before false (Some n) is = cc
+
+    moved : (b : Bool) (n : ℕ) → option_map suc (if b then Some n else None) ≡ (if b then Some (suc n) else None)
+    moved true n = refl
+    moved false n = refl
+
+    later : (r : Result Outcome Status) → option_map suc (delayed_as r (length results)) ≡ delayed_as r (suc (length results))
+    later (Ok outcome) = refl
+    later (Err status) = moved (is_delay_status status) (length results)
 
 one_more : (count position : ℕ) → position < count → count - position ≡ suc (count - (position + 1))
 one_more count position below = omega (arith, below)
@@ -85,7 +139,7 @@ both start before after results given first second = record {
       omega (arith, long, first.less_room, second.less_room);
 }
 
-pub starts : {A : Type 0} (b : Begun A) → Running b (record { realm = b.realm; handles = no_handles; out = b.out; rest = b.operations; position = b.context.position })
+pub starts : {A : Type 0} (b : Begun A) → Running b (record { realm = b.realm; handles = no_handles; out = b.out; rest = b.operations; position = b.context.position; changed = false })
 starts b = record {
   results = [];
   goes = λ rest new runs. subst (λ room. Runs (at b.context b.context.position room) (b.context.count - b.context.position) b.operations (point_at b.realm no_handles) rest new) all runs;
@@ -93,6 +147,8 @@ starts b = record {
   status = refl;
   many = omega arith;
   fits = omega arith;
+  kept = refl;
+  undelayed = refl;
 }
   where
     all : length b.out.bytes + b.context.room - length b.out.bytes ≡ b.context.room
@@ -111,7 +167,7 @@ more_ok : {A : Type 0} (b : Begun A) (s : Stand A) → Running b s → s.positio
     → (number : ℕ) (outcome : Result Outcome Status) (e : realms.Realm A) (h : FileHandles) (out : Buffer)
     → number ≡ number_of (next_at s.rest).0 → Steps (here_at b s) (next_at s.rest).0 (point_at s.realm s.handles) outcome (point_at e h)
     → Appends s.out out (result_bytes (record { number = number; outcome = outcome })) → length out.bytes ≤ length s.out.bytes + room_at b s → IsToldBy (Ok h) outcome
-    → Running b (record { realm = e; handles = h; out = out; rest = (next_at s.rest).1; position = s.position + 1 })
+    → Running b (record { realm = e; handles = h; out = out; rest = (next_at s.rest).1; position = s.position + 1; changed = s.changed || is_changing number })
 more_ok b s r below number (Ok o) e h out is steps appends fits tells =
     let given : Given = record { number = number; outcome = Ok o } in
     let long = longer s.out out (result_bytes given) appends in
@@ -124,6 +180,8 @@ more_ok b s r below number (Ok o) e h out is steps appends fits tells =
       status = last-behind r.results given;
       many = let count = length-append r.results (given ∷ []) in omega (arith, count, r.many);
       fits = omega (arith, fits, r.fits);
+      kept = ap (λ b. b || is_changing number) r.kept ∙ sym (any_behind r.results given);
+      undelayed = delayed_behind r.results given r.undelayed;
     }
 more_ok b s r below number (Err status) e h out is steps appends fits tells = absurd tells
 
@@ -132,18 +190,19 @@ abbrev pub StepOf : {A : Type 0} → Begun A → Stand A → ℕ → Operation �
 StepOf b s room op answer e h out = StepGives (at b.context s.position room) op (stage (point_at s.realm s.handles) s.out) answer (stage (point_at e h) out)
 
 pub goes_on : {A : Type 0} (b : Begun A) (s : Stand A) → Running b s → s.position < b.context.count → (room : ℕ) → room ≡ room_at b s
-    → (op : Operation) (rest : List ℕ) (e : realms.Realm A) (h : FileHandles) (out : Buffer) → (op, rest) ≡ next_at s.rest → StepOf b s room op (Ok h) e h out
-    → Running b (record { realm = e; handles = h; out = out; rest = rest; position = s.position + 1 })
-goes_on {A} b s r below room is_room op rest e h out is gives =
+    → (op : Operation) (rest : List ℕ) (e : realms.Realm A) (h : FileHandles) (out : Buffer) (changes : Bool) → (op, rest) ≡ next_at s.rest → changes ≡ is_changing (number_of op)
+    → StepOf b s room op (Ok h) e h out → Running b (record { realm = e; handles = h; out = out; rest = rest; position = s.position + 1; changed = s.changed || changes })
+goes_on {A} b s r below room is_room op rest e h out changes is changing gives =
     let g = subst (λ x. StepOf b s x op (Ok h) e h out) is_room gives in
-    subst (λ x. Running b (record { realm = e; handles = h; out = out; rest = x; position = s.position + 1 })) (sym (ap (λ x. x.1) is))
-    (more_ok b s r below (number_of op) g.outcome e h out (ap (λ x. number_of x.0) is) (subst (λ o. Steps (here_at b s) o (point_at s.realm s.handles) g.outcome (point_at e h)) (ap (λ x. x.0) is) g.steps) g.written g.fits g.tells)
+    subst (λ x. Running b (record { realm = e; handles = h; out = out; rest = x; position = s.position + 1; changed = s.changed || changes })) (sym (ap (λ x. x.1) is))
+    (subst (λ c. Running b (record { realm = e; handles = h; out = out; rest = (next_at s.rest).1; position = s.position + 1; changed = s.changed || c })) (sym changing)
+    (more_ok b s r below (number_of op) g.outcome e h out (ap (λ x. number_of x.0) is) (subst (λ o. Steps (here_at b s) o (point_at s.realm s.handles) g.outcome (point_at e h)) (ap (λ x. x.0) is) g.steps) g.written g.fits g.tells))
 
 last_err : {A : Type 0} (b : Begun A) (s : Stand A) → Running b s → s.position < b.context.count
     → (number : ℕ) (outcome : Result Outcome Status) (status : Status) (e : realms.Realm A) (h : FileHandles) (out : Buffer)
     → number ≡ number_of (next_at s.rest).0 → Steps (here_at b s) (next_at s.rest).0 (point_at s.realm s.handles) outcome (point_at e h)
     → Appends s.out out (result_bytes (record { number = number; outcome = outcome })) → length out.bytes ≤ length s.out.bytes + room_at b s + REFUSAL_ROOM → IsToldBy {A = FileHandles} (Err status) outcome
-    → RunGives b.context b.operations (stage b.realm b.out) (record { status = status; ran = s.position + 1 }) (stage e out)
+    → RunGives b.context b.operations (stage b.realm b.out) (record { status = status; ran = s.position + 1; changed = s.changed; delayed = refused_at status (s.position - b.context.position) }) (stage e out)
 last_err b s r below number (Ok o) status e h out is steps appends within tells = absurd tells
 last_err b s r below number (Err told) status e h out is steps appends within tells =
     let given : Given = record { number = number; outcome = Err told } in
@@ -155,17 +214,32 @@ last_err b s r below number (Err told) status e h out is steps appends within te
       status = tells ∙ sym (last-behind r.results given);
       ran = let count = length-append r.results (given ∷ []) in omega (arith, count, r.many);
       within = omega (arith, within, r.fits);
+      kept = record {
+        changed = r.kept ∙ sym (any_behind r.results given ∙ last_of (list_any is_change r.results));
+        delayed =
+            ap (refused_at status) (place s.position b.context.position (length r.results) r.many)
+            ∙ (ap (λ x. refused_at x (length r.results)) tells ∙ sym (delayed_behind r.results given r.undelayed));
+      };
     }
+  where
+    place : (p c n : ℕ) → p ≡ c + n → p - c ≡ n
+    place p c n is = omega (arith, is)
+
+    last_of : (a : Bool) → (a || false) ≡ a
+    last_of true = refl
+    last_of false = refl
 
 pub ends_with : {A : Type 0} (b : Begun A) (s : Stand A) → Running b s → s.position < b.context.count → (room : ℕ) → room ≡ room_at b s
-    → (op : Operation) (rest : List ℕ) (status : Status) (e : realms.Realm A) (h : FileHandles) (out : Buffer) → (op, rest) ≡ next_at s.rest → StepOf b s room op (Err status) e h out
-    → RunGives b.context b.operations (stage b.realm b.out) (record { status = status; ran = s.position + 1 }) (stage e out)
-ends_with b s r below room is_room op rest status e h out is gives =
+    → (op : Operation) (rest : List ℕ) (status : Status) (e : realms.Realm A) (h : FileHandles) (out : Buffer) (delayed : Option ℕ) → (op, rest) ≡ next_at s.rest
+    → delayed ≡ refused_at status (s.position - b.context.position) → StepOf b s room op (Err status) e h out
+    → RunGives b.context b.operations (stage b.realm b.out) (record { status = status; ran = s.position + 1; changed = s.changed; delayed = delayed }) (stage e out)
+ends_with b s r below room is_room op rest status e h out delayed is refused gives =
     let g = subst (λ x. StepOf b s x op (Err status) e h out) is_room gives in
-    last_err b s r below (number_of op) g.outcome status e h out (ap (λ x. number_of x.0) is) (subst (λ o. Steps (here_at b s) o (point_at s.realm s.handles) g.outcome (point_at e h)) (ap (λ x. x.0) is) g.steps) g.written g.within g.tells
+    subst (λ d. RunGives b.context b.operations (stage b.realm b.out) (record { status = status; ran = s.position + 1; changed = s.changed; delayed = d }) (stage e out)) (sym refused)
+    (last_err b s r below (number_of op) g.outcome status e h out (ap (λ x. number_of x.0) is) (subst (λ o. Steps (here_at b s) o (point_at s.realm s.handles) g.outcome (point_at e h)) (ap (λ x. x.0) is) g.steps) g.written g.within g.tells)
 
 pub ends_whole : {A : Type 0} (b : Begun A) (s : Stand A) → Running b s → s.position ≡ b.context.count
-    → RunGives b.context b.operations (stage b.realm b.out) (record { status = statuses.Ok; ran = b.context.count }) (stage s.realm s.out)
+    → RunGives b.context b.operations (stage b.realm b.out) (record { status = statuses.Ok; ran = b.context.count; changed = s.changed; delayed = None }) (stage s.realm s.out)
 ends_whole b s r all = record {
   handles = s.handles;
   results = r.results;
@@ -175,6 +249,7 @@ ends_whole b s r all = record {
   status = sym r.status;
   ran = omega (arith, all, r.many);
   within = omega (arith, r.fits);
+  kept = record { changed = r.kept; delayed = sym r.undelayed };
 }
   where
     none : b.context.count - s.position ≡ 0

@@ -23,7 +23,6 @@ pub mod Views
 pub mod Permits
 pub mod Asking
 pub mod GivenViews
-pub mod Written
 pub mod Listed
 pub mod Opening
 pub mod Exact
@@ -34,4 +33,10 @@ pub mod DestroyClientid
 pub mod Beginning
 pub mod Sequence
 pub mod InSession
+pub mod Keeping
+pub mod Covering
+pub mod Replaying
+pub mod Delayed
+pub mod Written
+pub mod Recorded
 pub mod SessionViews

@@ -1,8 +1,12 @@
 -- An operation's sight of the realm, part by part. The parts that lists govern are there as far as
 -- they may be seen. The questions, result and lines of an operation are functions of a sight, so
--- they are defined once for the whole realm and for a caller's view.
+-- they are defined once for the whole realm and for a caller's view. No operation after a SEQUENCE
+-- sees sessions, their slots, or the numbers that the next client and session get.
 use Rattle.std.specs.Prelude.{ℕ, Bool, true, ◌||◌, if◌then◌else◌, List, [], length, unwrap_or, Option, None}
 use Rattle.std.specs.Option.{option_map, option_map_or}
+use Rattle.std.specs.Map.{lookup}
+use Rattle.std.specs.BTreeMap.{is_at}
+use Rattle.std.specs.Ordering.{nat_cmp}
 use Rattle.rpc_record.specs.Identity.{Identity}
 use Rattle.acl_list.specs.declared.entry.Kind.{Kind}
 use Rattle.acl_list.specs.declared.entry.Kind.TheVariants.{File}
@@ -15,7 +19,7 @@ use Rattle.node_tree.specs.Judged.{judged_of}
 use Rattle.access_rows.specs.declared.demand.Demand.TheVariants.{Bits}
 use Rattle.access_guard.specs.Lists.{Lists}
 use Rattle.access_guard.specs.Decisions.{decision, is_granted}
-use Rattle.session_slots.specs.Registry.{Registry}
+use Rattle.session_slots.specs.Registry.{Client}
 use Rattle.compound_run.specs.Realm.{Realm, Opened}
 
 -- the parts that READ_ATTRIBUTES governs of an object that isn't a directory, and of a directory all but the change
@@ -41,10 +45,10 @@ pub record Sight : Type 0 where
   pub next_tick : ℕ
   pub next_stamp : ℕ
   pub next_cookie : ℕ
-  -- the open files, the clients with their sessions, and whether these outlive a restart
+  -- the open files, the clients, and whether their sessions outlive a restart
   pub opens : List Opened
   pub next_open : ℕ
-  pub registry : Registry
+  pub clients : List (ℕ × Client)
   pub lasting : Bool
   -- the bytes of a file, or the text of a link
   pub bytes : ℕ → List ℕ
@@ -76,7 +80,7 @@ sight gives r = let w = r.world in record {
   next_cookie = w.next_cookie;
   opens = r.opens;
   next_open = r.next_open;
-  registry = r.registry;
+  clients = r.registry.clients;
   lasting = r.lasting;
   bytes = λ number. if gives number READ_DATA then bytes_of w number else [];
   names = λ number. if gives number EXECUTE || gives number LIST_DIRECTORY then names_in w.names number else [];
@@ -104,3 +108,7 @@ kind_at s number = unwrap_or (s.kinds number) File
 -- the child of a name in a directory
 abbrev pub child : Sight → ℕ → List ℕ → Option ℕ
 child s directory name = child_in (s.names directory) name
+
+-- the record of a client
+abbrev pub client_in : Sight → ℕ → Option Client
+client_in s number = lookup (is_at (nat_cmp number)) s.clients

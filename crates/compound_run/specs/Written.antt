@@ -1,5 +1,6 @@
 -- The results of a COMPOUND, as the code writes them.
 use Rattle.std.specs.Prelude.{◌≡◌, ◌≤◌, ℕ, ◌+◌, ◌-◌, List, ◌++◌, length, Option, Some, None, Result, OnOk}
+use Rattle.std.specs.List.{list_any}
 use Rattle.xdr_wire.specs.Buffer.{Buffer, Appends}
 use Rattle.nfs_types.specs.declared.status.Status.{Status}
 use Rattle.nfs_ops.specs.Operations.{Operation, number_of}
@@ -13,6 +14,8 @@ use Rattle.compound_run.specs.Runs.{Point, Given, Steps, Runs, result_bytes, res
 use Rattle.compound_run.specs.Telling.{IsToldBy}
 use Rattle.compound_run.specs.Compound.{Series, head, together, last_status}
 use Rattle.compound_run.specs.Views.{Stage, point_at}
+use Rattle.compound_run.specs.Keeping.{is_change}
+use Rattle.compound_run.specs.Delayed.{delayed_in}
 
 -- An operation is run at its place, and its result is written.
 pub record StepGives {A : Type 0} (c : Context) (op : Operation) (old : Stage Point) (answer : Result A Status)
@@ -24,6 +27,11 @@ pub record StepGives {A : Type 0} (c : Context) (op : Operation) (old : Stage Po
   pub within : length new.out.bytes ≤ length old.out.bytes + c.room + REFUSAL_ROOM
   pub tells : IsToldBy answer outcome
 
+-- The operations ended so: whether one that changes something was OK, and which found no memory.
+pub record EndsSo (end : Ended) (results : List Given) : Type 0 where
+  pub changed : end.changed ≡ list_any is_change results
+  pub delayed : end.delayed ≡ delayed_in results
+
 -- Operations are run in turn, and their results are written.
 pub record RunGives {A : Type 0} (c : Context) (operations : List ℕ) (old : Stage (realms.Realm A)) (end : Ended)
     (new : Stage (realms.Realm A)) : Type 0 where
@@ -33,6 +41,7 @@ pub record RunGives {A : Type 0} (c : Context) (operations : List ℕ) (old : St
   pub written : Appends old.out new.out (results_bytes results)
   pub status : end.status ≡ last_status results
   pub ran : end.ran ≡ c.position + length results
+  pub kept : EndsSo end results
   pub within : length new.out.bytes ≤ length old.out.bytes + c.room + REFUSAL_ROOM
 
 -- The operations are refused before any is run, or run in turn: the results, and where they end.

@@ -11,6 +11,7 @@ ghost use Rattle.compound_run.specs.Views.{arguments_of, context_at, stage};
 
 use crate::context::Context;
 use crate::filehandles::FileHandles;
+use crate::kept::{delayed_at, is_changing};
 use crate::limits::{MAX_OPERATIONS, MAX_RESULTS, MAX_TAG, MINOR_VERSION, REFUSAL_ROOM};
 use crate::realm::Realm;
 use crate::step::Step;
@@ -19,11 +20,14 @@ use nfs_types::Status;
 use std::alloc::{Allocator, Global};
 use xdr_wire::{Reader, Writer};
 
-/// The end of a COMPOUND: the status of the last operation that was run, and how many were.
+/// The end of a COMPOUND: the status of the last operation that was run, and how many were. Whether one that changes
+/// something was OK, and which found no memory, by its place among those that were run here.
 #[derive(Clone, Copy, Debug, PartialEq, Eq)]
 pub(crate) struct Ended {
     pub status: Status,
     pub ran: u32,
+    pub changed: bool,
+    pub delayed: Option<u32>,
 }
 
 /// The arguments of a COMPOUND.
@@ -52,6 +56,7 @@ impl<A: Allocator + Copy> Realm<A> {
     {
         let end = results.capacity() - (results.room() - context.room);
         let mut handles = FileHandles::none();
+        let mut changed = false;
         let mut reader = Reader::new(operations);
         for position in context.position..context.count {
             let op = next_op(&mut reader);
@@ -70,13 +75,18 @@ impl<A: Allocator + Copy> Realm<A> {
                     return Ended {
                         status,
                         ran: position + 1,
+                        changed,
+                        delayed: delayed_at(status, position - context.position),
                     };
                 }
             };
+            changed |= is_changing(op.number());
         }
         Ended {
             status: Status::Ok,
             ran: context.count,
+            changed,
+            delayed: None,
         }
     }
 }
@@ -132,7 +142,12 @@ impl<'a> CompoundArgs<'a> {
         ensures settled { realm.new.tree.log.held ≡ [] }
     {
         if let Some(status) = self.fault() {
-            return Ended { status, ran: 0 };
+            return Ended {
+                status,
+                ran: 0,
+                changed: false,
+                delayed: None,
+            };
         }
         realm.run_all(context, self.operations, out)
     }

@@ -13,10 +13,13 @@ ghost use Rattle.compound_run.specs.Sessions.{session_of};
 ghost use Rattle.compound_run.specs.SessionViews.{AnswersComing, AnswersSequence, SequencedKept, WritesWithin};
 ghost use Rattle.compound_run.specs.SessionViews.{coming_behind, sequence_told};
 ghost use Rattle.compound_run.specs.Compound.{series};
+ghost use Rattle.compound_run.specs.Beginning.{beginning};
+ghost use Rattle.compound_run.specs.Replaying.{ready_for};
 
-use crate::compound::CompoundArgs;
+use crate::compound::{CompoundArgs, Ended};
 use crate::context::{Calling, Context};
 use crate::first_operation::{Beginning, begin};
+use crate::kept::Ran;
 use crate::realm::Realm;
 use crate::result_heads::{put_ended, put_kept, put_refused};
 use crate::server::Args;
@@ -72,6 +75,20 @@ fn compared(lasting: bool, arguments: &[u8], behind: usize) -> CallBytes<'_>
 }
 
 impl<A: Allocator + Copy> Realm<A> {
+    /// The slot of a COMPOUND's SEQUENCE lags, if it begins with one.
+    pub fn lag_for(&mut self, compound: CompoundArgs<'_>)
+        requires settled { self.old.tree.log.held ≡ [] }
+        ensures ready { state_of self.new ≡ ready_for
+            (beginning compound.entry.minor_version compound.entry.count compound.entry.operations.now)
+            (state_of self.old) }
+        ensures settled { self.new.tree.log.held ≡ [] }
+    {
+        match begin(compound.minor_version, compound.count, compound.operations) {
+            Beginning::Follows(args, _) => self.clients.lag(session_of(&args.session), args.slot),
+            _ => {}
+        }
+    }
+
     /// Keeps the bytes after the first ones as the results of a call.
     fn keep_from(&mut self, args: &SequenceArgs, out: &Writer<A>, start: usize)
         requires start { start ≤ length out.now.bytes }
@@ -89,6 +106,7 @@ impl<A: Allocator + Copy> Realm<A> {
     }
 
     /// Runs the operations after a SEQUENCE that has begun a new call, and keeps their results.
+    /// Answers how they ended.
     fn answer_new(
         &mut self,
         call: Coming<'_>,
@@ -96,7 +114,7 @@ impl<A: Allocator + Copy> Realm<A> {
         new: NewCall,
         operations: &[u8],
         out: &mut Writer<A>,
-    )
+    ) -> Ended
         requires short { length call.compound.tag.now ≤ limits.MAX_TAG }
         requires settled { self.old.tree.log.held ≡ [] }
         requires some { 1 ≤ call.compound.count }
@@ -107,7 +125,7 @@ impl<A: Allocator + Copy> Realm<A> {
             (series call.entry.compound.tag.now
             (coming_behind self.old.tree.book call.entry (sequence_args_value args.now) new) operations.now)
             (sequence_args_value args.now) (sequence_done (sequence_args_value args.now) new.highest_slot) self.old
-            bytes self.new)
+            bytes result self.new)
             out.old out.new }
         ensures settled { self.new.tree.log.held ≡ [] }
     {
@@ -126,19 +144,21 @@ impl<A: Allocator + Copy> Realm<A> {
             room: limit,
         };
         let given = sequence_given(args, new);
-        call.compound
+        let ended = call
+            .compound
             .run_behind(self, context, limit, given, operations, out);
         self.keep_from(args, out, start);
+        ended
     }
 
-    /// Answers a COMPOUND that begins with a SEQUENCE.
+    /// Answers a COMPOUND that begins with a SEQUENCE. Tells what its record has to know.
     fn answer_sequence(
         &mut self,
         call: Coming<'_>,
         args: &SequenceArgs,
         operations: &[u8],
         out: &mut Writer<A>,
-    )
+    ) -> Ran
         requires short { length call.compound.tag.now ≤ limits.MAX_TAG }
         requires whole { length call.args.bytes.now ≤ call.args.record_len }
         requires settled { self.old.tree.log.held ≡ [] }
@@ -146,7 +166,7 @@ impl<A: Allocator + Copy> Realm<A> {
         requires room { limits.MAX_RESULTS ≤ out.old.room }
         ensures answers { WritesWithin limits.MAX_RESULTS
             (λ bytes. AnswersSequence call.entry (sequence_args_value args.now) operations.now (state_of self.old) bytes
-            (state_of self.new)) out.old out.new }
+            result (state_of self.new)) out.old out.new }
         ensures settled { self.new.tree.log.held ≡ [] }
     {
         let session = session_of(&args.session);
@@ -161,32 +181,52 @@ impl<A: Allocator + Copy> Realm<A> {
             caller: call.caller,
             now: second(call.now),
         };
+        let passes = self.clients.passes(session, args.slot, args.number);
         match self.clients.begin(session, asked) {
-            Begin::New(new) => self.answer_new(call, args, new, operations, out),
-            Begin::Repeat => put_kept(self.clients.results(session, args.slot), out),
-            Begin::Refused(status) => put_refused(compound.tag, OP_SEQUENCE, status, out),
+            Begin::New(new) => {
+                let ended = self.answer_new(call, args, new, operations, out);
+                Ran {
+                    kept: ended.changed | passes,
+                    delayed: ended.delayed,
+                }
+            }
+            Begin::Repeat => {
+                put_kept(self.clients.results(session, args.slot), out);
+                Ran::nothing()
+            }
+            Begin::Refused(status) => {
+                put_refused(compound.tag, OP_SEQUENCE, status, out);
+                Ran::nothing()
+            }
         }
     }
 
-    /// Answers a COMPOUND where sessions are in use, after what `out` holds.
-    pub fn answer_in_session(&mut self, call: Coming<'_>, out: &mut Writer<A>)
+    /// Answers a COMPOUND where sessions are in use, after what `out` holds. Tells what its record
+    /// has to know.
+    pub fn answer_in_session(&mut self, call: Coming<'_>, out: &mut Writer<A>) -> Ran
         requires short { length call.compound.tag.now ≤ limits.MAX_TAG }
         requires whole { length call.args.bytes.now ≤ call.args.record_len }
         requires settled { self.old.tree.log.held ≡ [] }
         requires room { limits.MAX_RESULTS ≤ out.old.room }
         ensures answers { WritesWithin limits.MAX_RESULTS
-            (λ bytes. AnswersComing call.entry (state_of self.old) bytes (state_of self.new)) out.old out.new }
+            (λ bytes. AnswersComing call.entry (state_of self.old) bytes result (state_of self.new)) out.old out.new }
         ensures settled { self.new.tree.log.held ≡ [] }
     {
         let compound = call.compound;
         match begin(compound.minor_version, compound.count, compound.operations) {
-            Beginning::Ends(status) => put_ended(compound.tag, status, out),
-            Beginning::Refuses(number, status) => put_refused(compound.tag, number, status, out),
+            Beginning::Ends(status) => {
+                put_ended(compound.tag, status, out);
+                Ran::nothing()
+            }
+            Beginning::Refuses(number, status) => {
+                put_refused(compound.tag, number, status, out);
+                Ran::nothing()
+            }
             Beginning::Acts(lone) => {
-                self.answer_alone(compound.tag, call.caller, call.now, &lone, out);
+                self.answer_alone(compound.tag, call.caller, call.now, &lone, out)
             }
             Beginning::Follows(args, operations) => {
-                self.answer_sequence(call, &args, operations, out);
+                self.answer_sequence(call, &args, operations, out)
             }
         }
     }

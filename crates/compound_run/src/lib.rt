@@ -27,6 +27,7 @@ mod first_operation;
 mod getattr;
 mod getfh;
 mod in_session;
+mod kept;
 mod known;
 mod limits;
 mod link;
@@ -62,6 +63,7 @@ mod verify;
 mod write;
 
 use filehandles::FileHandles;
+pub use kept::Ran;
 pub use known::{Known, Lent};
 pub use limits::{MAX_REPLY, MAX_RESULTS};
 use nfs_ops::Op;

@@ -1,12 +1,14 @@
 //! An operation that is the only one of its COMPOUND (RFC 8881, section 2.10.2.1).
-ghost use Rattle.std.specs.Prelude.{◌≡◌, ◌≤◌, length};
+ghost use Rattle.std.specs.Prelude.{◌≡◌, ◌≤◌, false, if◌then◌else◌, length, None, Err};
 ghost use Rattle.nfs_ops.specs.Operations.{number_of};
-ghost use Rattle.compound_run.specs.InSession.{ActsTo};
+ghost use Rattle.compound_run.specs.Keeping.{keeps_alone};
 ghost use Rattle.compound_run.specs.Limits as limits;
-ghost use Rattle.compound_run.specs.SessionViews.{ActGives, ActedSo, IsOfClients, WritesWithin, lone_view};
+ghost use Rattle.compound_run.specs.SessionViews.{ActGives, ActedSo, ActsSo, IsOfClients, WritesWithin, is_again};
+ghost use Rattle.compound_run.specs.SessionViews.{lone_view};
 ghost use Rattle.compound_run.specs.Views.{realm_of};
 
 use crate::first_operation::Lone;
+use crate::kept::{Ran, delayed_at};
 use crate::operation_results::put_refusal;
 use crate::realm::Realm;
 use crate::result_heads::put_head;
@@ -28,6 +30,33 @@ impl Lone<'_> {
             Lone::DestroyClientId(_) => OP_DESTROY_CLIENTID,
         }
     }
+
+    /// Whether the record of a client caches this refusal of CREATE_SESSION (RFC 8881, section
+    /// 18.36.4).
+    fn keeps(&self, status: Status) -> bool
+        ensures { result ≡ keeps_alone (lone_view self.now) (Err status) }
+    {
+        match self {
+            Lone::CreateSession(_) => {
+                matches!(status, Status::ClidInUse | Status::TooSmall | Status::NoSpc)
+            }
+            _ => false,
+        }
+    }
+}
+
+/// The result of an operation that is the only one: its status, and what a record has to know of it.
+#[derive(Clone, Copy, Debug, PartialEq, Eq)]
+pub(crate) struct Acted {
+    pub status: Status,
+    pub ran: Ran,
+}
+
+/// A call that is a repeat has changed nothing.
+fn unless_again(again: bool, ran: Ran) -> Ran
+    ensures { result ≡ (if again then record { kept = false; delayed = None } else ran) }
+{
+    if again { Ran::nothing() } else { ran }
 }
 
 impl<A: Allocator + Copy> Realm<A> {
@@ -52,25 +81,47 @@ impl<A: Allocator + Copy> Realm<A> {
         }
     }
 
-    /// Runs the operation, and writes its result. Answers its status.
+    /// Runs the operation, and writes its result.
     fn act_alone(
         &mut self,
         caller: &Caller,
         now: Moment,
         lone: &Lone<'_>,
         out: &mut Writer<A>,
-    ) -> Status
+    ) -> Acted
         requires room { limits.MIN_ROOM ≤ out.old.room }
         ensures gives { ActedSo caller.now (lone_view lone.now) (realm_of self.old) out.old result (realm_of self.new)
             out.new }
         ensures others { IsOfClients self.old self.new }
     {
         match self.act(caller, now, lone, out) {
-            Ok(()) => Status::Ok,
+            Ok(()) => Acted {
+                status: Status::Ok,
+                ran: Ran {
+                    kept: true,
+                    delayed: None,
+                },
+            },
             Err(status) => {
                 put_refusal(lone.number(), status, out);
-                status
+                Acted {
+                    status,
+                    ran: Ran {
+                        kept: lone.keeps(status),
+                        delayed: delayed_at(status, 0),
+                    },
+                }
             }
+        }
+    }
+
+    /// Whether the operation is a repeat of the last CREATE_SESSION of its client.
+    fn is_again(&self, lone: &Lone<'_>) -> bool
+        ensures { result ≡ is_again (lone_view lone.now) (realm_of self.now) }
+    {
+        match lone {
+            Lone::CreateSession(args) => self.clients.is_created(args.client, args.sequence),
+            _ => false,
         }
     }
 
@@ -82,17 +133,20 @@ impl<A: Allocator + Copy> Realm<A> {
         now: Moment,
         lone: &Lone<'_>,
         out: &mut Writer<A>,
-    )
+    ) -> Ran
         requires short { length tag.now ≤ limits.MAX_TAG }
         requires room { limits.MAX_RESULTS ≤ out.old.room }
         ensures answers { WritesWithin limits.MAX_RESULTS
-            (λ bytes. ActsTo caller.now (lone_view lone.now) tag.now (realm_of self.old) bytes (realm_of self.new))
+            (λ bytes. ActsSo caller.now (lone_view lone.now) tag.now (realm_of self.old) bytes result
+            (realm_of self.new))
             out.old out.new }
         ensures others { IsOfClients self.old self.new }
     {
+        let again = self.is_again(lone);
         let status_at = out.len();
         put_head(Status::Ok, tag, 1, out);
-        let status = self.act_alone(caller, now, lone, out);
-        out.fill(status_at, status.number());
+        let acted = self.act_alone(caller, now, lone, out);
+        out.fill(status_at, acted.status.number());
+        unless_again(again, acted.ran)
     }
 }

@@ -6,7 +6,7 @@ ghost use Rattle.nfs_ops.specs.declared.OpKind.TheVariants as kinds;
 ghost use Rattle.compound_run.specs.Compound.{first_room, series};
 ghost use Rattle.compound_run.specs.Limits as limits;
 ghost use Rattle.compound_run.specs.Runs.{spelled};
-ghost use Rattle.compound_run.specs.SessionViews.{SequencedTo, SequencedBehind, WritesWithin, sequence_told};
+ghost use Rattle.compound_run.specs.SessionViews.{SequencedSo, SequencedBehind, WritesWithin, sequence_told};
 ghost use Rattle.compound_run.specs.Views.{context_at, stage};
 
 use crate::compound::{CompoundArgs, Ended, put_tag, put_word};
@@ -52,7 +52,7 @@ impl CompoundArgs<'_> {
 
     /// Writes the results of a COMPOUND with this SEQUENCE and these operations after it. They come
     /// after what `out` holds, and are at most `limit` bytes. Status and number of the results are
-    /// filled in once they are known.
+    /// filled in once they are known. Answers how the operations ended.
     pub fn run_behind<A: Allocator + Copy>(
         &self,
         realm: &mut Realm<A>,
@@ -61,7 +61,7 @@ impl CompoundArgs<'_> {
         given: SequenceResult,
         operations: &[u8],
         out: &mut Writer<A>,
-    )
+    ) -> Ended
         requires short { length self.now.tag.now ≤ limits.MAX_TAG }
         requires settled { realm.old.tree.log.held ≡ [] }
         requires second { context.position ≡ 1 }
@@ -69,11 +69,11 @@ impl CompoundArgs<'_> {
         requires least { 4072 ≤ limit }
         requires room { limit ≤ out.old.room }
         ensures answers { WritesWithin limit
-            (λ bytes. SequencedTo
+            (λ bytes. SequencedSo
             (series self.now.tag.now (record (context_at realm.old context.entry) {
               room = first_room (limit + limits.REPLY_HEADER) self.now.tag.now
                   - length (spelled (Done kinds.Sequence (sequence_result_value given)));
-            }) operations.now) (sequence_told given) realm.old bytes realm.new)
+            }) operations.now) (sequence_told given) realm.old bytes result realm.new)
             out.old out.new }
         ensures settled { realm.new.tree.log.held ≡ [] }
     {
@@ -86,5 +86,6 @@ impl CompoundArgs<'_> {
         let ended = self.run_sequenced(realm, context, end, given, operations, out);
         out.fill(count_at, ended.ran);
         out.fill(status_at, ended.status.number());
+        ended
     }
 }

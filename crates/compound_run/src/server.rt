@@ -9,6 +9,10 @@ ghost use Rattle.access_guard.specs.Memory.{Agrees};
 ghost use Rattle.compound_run.specs.InSession.{AnswersInSession};
 ghost use Rattle.compound_run.specs.Known.{opens_fit};
 ghost use Rattle.compound_run.specs.Limits as limits;
+ghost use Rattle.compound_run.specs.Recorded.{RunsRecorded};
+ghost use Rattle.compound_run.specs.Replaying.{ready, ready_of};
+ghost use Rattle.compound_run.specs.Compound.{args_form, args_in};
+ghost use Rattle.xdr_wire.specs.Reading.{read_at};
 ghost use Rattle.compound_run.specs.State.{fresh, next_numbers, restored, with_book, with_notes, without_client};
 ghost use Rattle.compound_run.specs.State.{Answers, RunsBare};
 ghost use Rattle.compound_run.specs.Views.{called, opens_view};
@@ -16,6 +20,7 @@ ghost use Rattle.compound_run.specs.Views.{called, opens_view};
 use crate::compound::CompoundArgs;
 use crate::context::Context;
 use crate::in_session::Coming;
+use crate::kept::Ran;
 use crate::known::Known;
 use crate::limits::{MAX_RESULTS, REFUSAL_ROOM};
 use crate::opens::Open;
@@ -203,7 +208,7 @@ impl<A: Allocator + Copy> Server<A> {
     /// DESTROY_CLIENTID are each the only operation of their COMPOUND. DELAY is answered where
     /// memory is refused, as in [`Server::run_bare`], and of these also at EXCHANGE_ID and at a new
     /// CREATE_SESSION. Then nothing changes.
-    #[tactic(auto, unfolding(crate::specs::InSession::fate))]
+    #[tactic(auto, using(crate::proofs::Replying::recorded_some, crate::proofs::Replying::recorded_none))]
     pub fn run(
         &mut self,
         args: Args<'_>,
@@ -216,8 +221,29 @@ impl<A: Allocator + Copy> Server<A> {
         ensures answers { RunsBare (AnswersInSession self.old (called args.entry caller.now now)) result out.old out.new
             self.new }
     {
+        match self.run_recorded(args, caller, now, out) {
+            Some(_) => RunEnd::Replied,
+            None => RunEnd::Garbage,
+        }
+    }
+
+    /// Runs a COMPOUND as [`Server::run`] does, and tells what its record has to know, where a
+    /// server outlives a restart. `None`: the tag, the minor version or the number of operations
+    /// can't be read, and there are no results.
+    #[tactic(auto, unfolding(crate::specs::InSession::fate))]
+    pub fn run_recorded(
+        &mut self,
+        args: Args<'_>,
+        caller: &Caller,
+        now: Moment,
+        out: &mut Writer<A>,
+    ) -> Option<Ran>
+        requires whole { length args.bytes.now ≤ args.record_len }
+        requires room { limits.MAX_RESULTS ≤ out.old.room }
+        ensures answers { RunsRecorded self.old (called args.entry caller.now now) result out.old out.new self.new }
+    {
         let Some(compound) = CompoundArgs::read(args.bytes) else {
-            return RunEnd::Garbage;
+            return None;
         };
         let call = Coming {
             args,
@@ -225,8 +251,37 @@ impl<A: Allocator + Copy> Server<A> {
             caller,
             now,
         };
-        self.realm.answer_in_session(call, out);
-        RunEnd::Replied
+        Some(self.realm.answer_in_session(call, out))
+    }
+
+    /// Runs a call that was kept again, as [`Server::run_recorded`] runs it, where its slot lags: the
+    /// slot may have accepted calls after the one that it keeps, which weren't kept. So the call is
+    /// new where its sequence ID is 1 to 2^20 ahead.
+    #[tactic(auto, unfolding(crate::specs::InSession::fate, crate::specs::Replaying::ready))]
+    pub fn replay(
+        &mut self,
+        args: Args<'_>,
+        caller: &Caller,
+        now: Moment,
+        out: &mut Writer<A>,
+    ) -> Option<Ran>
+        requires whole { length args.bytes.now ≤ args.record_len }
+        requires room { limits.MAX_RESULTS ≤ out.old.room }
+        ensures answers { RunsRecorded (ready (called args.entry caller.now now) self.old)
+            (called args.entry caller.now now) result out.old out.new self.new }
+    {
+        self.lag(args);
+        self.run_recorded(args, caller, now, out)
+    }
+
+    /// The slot of a call lags, if the call has one.
+    fn lag(&mut self, args: Args<'_>)
+        ensures { self.new ≡ ready_of (args_in (read_at args_form args.entry.bytes.now)) self.old }
+    {
+        let Some(compound) = CompoundArgs::read(args.bytes) else {
+            return;
+        };
+        self.realm.lag_for(compound);
     }
 
     /// Whether enough clients, sessions or open files are there that a silent client may be let go.

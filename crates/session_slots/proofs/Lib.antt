@@ -17,3 +17,7 @@ pub mod Restored
 pub mod Staying
 pub mod Told
 pub mod Whole
+pub mod Covering
+pub mod Turns
+pub mod OnSlot
+pub mod ClientsCover

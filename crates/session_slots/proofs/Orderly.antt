@@ -19,6 +19,7 @@ use Rattle.session_slots.specs.declared.creating.Judged.TheVariants as judgement
 use Rattle.session_slots.specs.declared.exchanging.Exchanged.{Exchanged}
 use Rattle.session_slots.specs.declared.exchanging.Standing.{Standing}
 use Rattle.session_slots.specs.declared.exchanging.Standing.TheVariants as standings
+use Rattle.session_slots.specs.Covering.{lagging, lagging_at}
 use Rattle.session_slots.specs.Slots.{finished}
 use Rattle.session_slots.specs.Registry.{Client, Session, Registry, nobody, client_at, most_kept, session_at, is_confirmed_of, confirmed_entry, changed_client, without_record, without_sessions, new_session, with_session, with_place}
 use Rattle.session_slots.specs.Orderly.{is_kept_refusal, is_kept_result, has_creation_form, has_form, IsIn, IsWithin, IsOrderly}
@@ -87,6 +88,9 @@ begun_orderly old new session a is o = subst IsOrderly (sym is) (with_session_or
 
 pub kept_orderly : (old new : Registry) (session slot : ℕ) (results : List ℕ) → new ≡ with_session session (with_place slot (λ p. finished p results)) old → IsOrderly old → IsOrderly new
 kept_orderly old new session slot results is o = subst IsOrderly (sym is) (with_session_orderly old session (with_place slot (λ p. finished p results)) (λ s. refl) (λ s. refl) o)
+
+pub lagged_orderly : (old new : Registry) (session slot : ℕ) → new ≡ lagging_at session slot old → IsOrderly old → IsOrderly new
+lagged_orderly old new session slot is o = subst IsOrderly (sym is) (with_session_orderly old session (with_place slot lagging) (λ s. refl) (λ s. refl) o)
 
 -- ---- a record is changed, and keeps its number and owner, and whether it is confirmed
 

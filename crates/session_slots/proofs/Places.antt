@@ -5,6 +5,7 @@ use Rattle.std.proofs.lemmas.Option.{slice_get_read, slice_get_within, get_or_fr
 use Rattle.std.proofs.lemmas.List.{length-replicate}
 use Rattle.std.proofs.lemmas.List.Elements.{All-set, All-get_or, All-replicate}
 use Rattle.session_slots.specs.declared.session.Channel.{Channel}
+use Rattle.session_slots.specs.Covering.{lagging}
 use Rattle.session_slots.specs.Slots.{Call, Kept, Place, begun, finished, restored}
 use Rattle.session_slots.specs.Registry.{changed_place, kept_size, unused_places}
 use Rattle.session_slots.specs.Sequencing.{HasSlots}
@@ -47,6 +48,17 @@ restored_has_slots granted slot kept slots h = has_slots granted slot (restored 
 
 pub finished_has_slots : (granted : Channel) (slot : ℕ) (results : List ℕ) (slots : List Place) → HasSlots granted slots → HasSlots granted (changed_place slot (λ p. finished p results) slots)
 finished_has_slots granted slot results slots h = has_slots granted slot (λ p. finished p results) slots (λ p. refl) (λ p. refl) h
+
+pub lagging_has_slots : (granted : Channel) (slot : ℕ) (slots : List Place) → HasSlots granted slots → HasSlots granted (changed_place slot lagging slots)
+lagging_has_slots granted slot slots h = has_slots granted slot lagging slots (λ p. refl) (λ p. refl) h
+
+-- no slot has such a number
+pub none_there : (granted : Channel) (slot : ℕ) (f : Place → Place) (slots : List Place) → HasSlots granted slots → granted.slots ≤ slot → changed_place slot f slots ≡ slots
+none_there granted slot f slots h over = ap (λ (o : Option Place). option_map_or (λ p. set slots slot (f p)) o slots) (nothing (slice_get slots slot) refl)
+  where
+    nothing : (o : Option Place) → slice_get slots slot ≡ o → slice_get slots slot ≡ None
+    nothing None is = is
+    nothing (Some p) is = let within : slot < length slots = slice_get_within slots slot p is in absurd (omega (arith, within, over, h.count))
 
 room_at : (of : Place → ℕ) (slots : List Place) (slot n most : ℕ) (o : Option Place) → slice_get slots slot ≡ o → All (λ p. of p ≡ most) slots → n ≤ most → IfSome o (λ p. n ≤ of p)
 room_at of slots slot n most None e h few = tt

@@ -16,3 +16,5 @@ pub mod FormViews
 pub mod Views
 pub mod Repeating
 pub mod Calls
+pub mod Keeping
+pub mod Covering

@@ -3,6 +3,8 @@ ghost use Rattle.std.specs.Prelude.{◌≡◌, ◌≤◌, ◌<◌, true, false, 
 ghost use Rattle.std.specs.Prelude.{IsOk, OnOk, OnErr, MatchOption};
 ghost use Rattle.std.specs.Option.{option_map};
 ghost use Rattle.session_slots.specs.Limits as limits;
+ghost use Rattle.session_slots.specs.Covering.{lagging_at};
+ghost use Rattle.session_slots.specs.Keeping.{is_created, last_at, passes};
 ghost use Rattle.session_slots.specs.Slots.{finished};
 ghost use Rattle.session_slots.specs.Registry.{nobody, client_at, session_at, results_at, kept_size, confirmed_entry};
 ghost use Rattle.session_slots.specs.Registry.{with_session, with_place};
@@ -22,6 +24,7 @@ ghost use Rattle.session_slots.specs.Views.{asked_of, bytes_of, exchanging_of, c
 use crate::client::Record;
 use crate::creating::{Create, Made};
 use crate::exchanging::{Exchange, Exchanged};
+use crate::limits::MOST_AHEAD;
 use crate::registry::Registry;
 use crate::restoring::RestoreFault;
 use crate::session::{Begin, Held, Sequence};
@@ -152,6 +155,29 @@ impl<A: Allocator + Copy> Clients<A> {
     }
 
     // ---- over a restart
+
+    /// Whether the number of a slot passes a multiple of 2^20 by a call with this sequence ID. Such
+    /// a call is kept over a restart, whatever it changes.
+    pub fn passes(&self, session: u64, slot: u32, number: u32) -> bool
+        ensures { result ≡ passes (last_at self.now session slot) number }
+    {
+        self.registry.last_number(session, slot) / MOST_AHEAD != number / MOST_AHEAD
+    }
+
+    /// Whether a CREATE_SESSION of a client with this sequence ID is a repeat of its last one.
+    pub fn is_created(&self, client: u64, sequence: u32) -> bool
+        ensures { result ≡ is_created self.now client sequence }
+    {
+        self.registry.is_created(client, sequence)
+    }
+
+    /// A slot lags, if it is there: it may have accepted calls after the one that it keeps. So each
+    /// call that is 1 to 2^20 ahead of that one is new.
+    pub fn lag(&mut self, session: u64, slot: u32)
+        ensures { self.new ≡ lagging_at session slot self.old }
+    {
+        self.registry.lag(session, slot);
+    }
 
     /// The next client and the next session get these numbers, which were kept over a restart.
     /// `false`: one of them is below that which would have been given, or above 2^63, and nothing

@@ -4,6 +4,8 @@
 //! histories of calls, and keeps records and sessions orderly.
 ghost use Rattle.std.specs.Prelude.{◌≡◌, ◌≤◌, ◌<◌, length, IfSome};
 ghost use Rattle.std.specs.Option.{option_map};
+ghost use Rattle.session_slots.specs.Covering.{lagging_at};
+ghost use Rattle.session_slots.specs.Keeping.{is_created, last_at};
 ghost use Rattle.session_slots.specs.Slots.{finished};
 ghost use Rattle.session_slots.specs.Registry.{nobody, session_at, results_at, kept_size, most_kept, confirmed_entry};
 ghost use Rattle.session_slots.specs.Registry.{with_session, with_place};
@@ -125,6 +127,38 @@ impl<A: Allocator + Copy> Registry<A> {
     {
         if let Some(session) = self.sessions.get_mut(&session) {
             session.keep(slot, results);
+        }
+    }
+
+    /// The sequence ID of the last call of a slot: 0 where none is kept, or the slot isn't there.
+    pub fn last_number(&self, session: u64, slot: u32) -> u32
+        ensures { result ≡ last_at self.now session slot }
+    {
+        match self.sessions.get(&session) {
+            Some(session) => match session.slot(slot) {
+                Some(slot) => slot.last_number(),
+                None => 0,
+            },
+            None => 0,
+        }
+    }
+
+    /// Whether this is the sequence ID of a client's last CREATE_SESSION.
+    pub fn is_created(&self, client: u64, sequence: u32) -> bool
+        ensures { result ≡ is_created self.now client sequence }
+    {
+        match self.clients.get(&client) {
+            Some(client) => client.repeated(sequence).is_some(),
+            None => false,
+        }
+    }
+
+    /// A slot lags, if it is there.
+    pub fn lag(&mut self, session: u64, slot: u32)
+        ensures { self.new ≡ lagging_at session slot self.old }
+    {
+        if let Some(session) = self.sessions.get_mut(&session) {
+            session.lag(slot);
         }
     }
 }

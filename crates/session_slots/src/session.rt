@@ -1,6 +1,7 @@
 //! A session (RFC 8881, section 2.10).
 ghost use Rattle.std.specs.Prelude.{◌≡◌, ◌≤◌, ◌<◌, length, slice_get, Some, IfSome, IfOk};
 ghost use Rattle.std.specs.Option.{option_copied};
+ghost use Rattle.session_slots.specs.Covering.{lagging};
 ghost use Rattle.session_slots.specs.Slots.{begun, finished, restored};
 ghost use Rattle.session_slots.specs.Registry.{changed_place, kept_size, with_place, unused_places, new_session};
 ghost use Rattle.session_slots.specs.Registry.{restored_session};
@@ -146,6 +147,16 @@ fn keep_at<A: Allocator + Copy>(slots: &mut Vec<Slot<A>, A>, index: usize, resul
 {
     let slot = &mut slots[index];
     slot.keep(results);
+}
+
+/// One of these slots lags.
+#[tactic(auto, using(crate::proofs::Places::changed_there, crate::proofs::Places::is_there))]
+fn lag_at<A: Allocator + Copy>(slots: &mut Vec<Slot<A>, A>, index: usize)
+    requires within { index < length slots.old.items }
+    ensures { slots.new.items ≡ changed_place index lagging slots.old.items }
+{
+    let slot = &mut slots[index];
+    slot.lag();
 }
 
 /// Keeps a call of before a restart as the last one on one of these slots.
@@ -303,5 +314,15 @@ impl<A: Allocator + Copy> Session<A> {
         ensures { self.new ≡ with_place number (λ p. finished p results.now) self.old }
     {
         keep_at(&mut self.slots, number as usize, results);
+    }
+
+    /// A slot lags, if it is there.
+    #[tactic(auto, using(crate::proofs::Places::lagging_has_slots, crate::proofs::Places::none_there))]
+    pub fn lag(&mut self, number: u32)
+        ensures { self.new ≡ with_place number lagging self.old }
+    {
+        if number < self.granted.slots {
+            lag_at(&mut self.slots, number as usize);
+        }
     }
 }

@@ -3,6 +3,7 @@ ghost use Rattle.std.specs.Prelude.{◌≡◌, ◌+◌, ◌%◌, ◌^◌, ◌≤
 ghost use Rattle.std.specs.Prelude.{IfSome};
 ghost use Rattle.std.specs.Option.{option_map};
 ghost use Rattle.session_slots.specs.Counting as specs;
+ghost use Rattle.session_slots.specs.Covering.{lagging};
 ghost use Rattle.session_slots.specs.Slots.{Call, Kept, Place, number_of, turn_of, begun, finished, restored};
 ghost use Rattle.session_slots.specs.Slots.{results_of, BeginsBy, KeepsByHistory};
 ghost use Rattle.session_slots.specs.Views.{bytes_of, kept_of};
@@ -129,13 +130,20 @@ impl<A: Allocator + Copy> Slot<A> {
     }
 
     /// The sequence ID of the last call: 0 where none is kept.
-    fn last_number(&self) -> u32
+    pub fn last_number(&self) -> u32
         ensures { result ≡ specs.last_number number_of self.now.kept }
     {
         match &self.last {
             Some((last, _)) => *last,
             None => 0,
         }
+    }
+
+    /// The slot may have accepted calls after the one that it keeps, as one of before a restart.
+    pub fn lag(&mut self)
+        ensures { self.new ≡ lagging self.old }
+    {
+        self.lags = true;
     }
 
     /// Whether a call is new, a repeat of the last one, or refused.

@@ -7,12 +7,13 @@ use Rattle.nfs_ops.specs.Forms.{reclaim_complete_args}
 use Rattle.nfs_ops.specs.declared.OpKind.TheVariants as kinds
 use Rattle.nfs_ops.specs.Rows.{row}
 use Rattle.nfs_ops.specs.Results.{Done}
-use Rattle.session_slots.specs.Registry.{Client, client_at}
-use Rattle.session_slots.specs.Destroying.{complete_already, reclaim_refusal, with_reclaimed}
+use Rattle.session_slots.specs.Registry.{Client}
+use Rattle.session_slots.specs.Destroying.{complete_already, with_reclaimed}
 use Rattle.compound_run.specs.declared.filehandles.FileHandles.{FileHandles}
 use Rattle.compound_run.specs.Realm.{Realm}
 use Rattle.compound_run.specs.Context.{Context}
 use Rattle.compound_run.specs.Faults.{MayFault}
+use Rattle.compound_run.specs.Sight.{client_in}
 use Rattle.compound_run.specs.Questions.{Question, Valid}
 use Rattle.compound_run.specs.Stateids.{client_of}
 use Rattle.compound_run.specs.Sessions.{with_registry}
@@ -29,7 +30,7 @@ complete_may (Some c) = of c.reclaimed
 -- the client hasn't sent it yet
 abbrev pub is_first : Context → Question
 is_first c =
-    Valid (λ s. reclaim_refusal s.registry (client_of c)) (λ s. complete_may (client_at s.registry (client_of c)))
+    Valid (λ s. complete_already (client_in s (client_of c))) (λ s. complete_may (client_in s (client_of c)))
 
 abbrev pub reclaim_questions : Value reclaim_complete_args → Context → FileHandles → List Question
 reclaim_questions one_fs c h = if one_fs then with_handle h.current [] else is_first c ∷ []

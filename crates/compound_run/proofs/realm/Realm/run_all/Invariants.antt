@@ -9,7 +9,7 @@ abbrev pub invariant-loop-position : goal.invariant-loop-position
 invariant-loop-position g l = record {
   running :
       Running (record { context = context_at l.fn.self l.context; operations = l.operations; realm = l.fn.self; out = l.fn.results })
-      (record { realm = l.self; handles = l.handles; out = l.results; rest = l.reader; position = l.position });
+      (record { realm = l.self; handles = l.handles; out = l.results; rest = l.reader; position = l.position; changed = l.changed });
   settled : l.self.tree.log.held ≡ [];
   settings : settings_of l.self ≡ settings_of l.fn.self;
 }

@@ -2,7 +2,7 @@ use Rattle.std.proofs.Common.{rules, sym}
 use Rattle.compound_run.specs.State.{Call}
 use Rattle.compound_run.specs.Views.{args_of, state_of}
 use Rattle.compound_run.proofs.Replying.{answers_call}
-use Rattle.compound_run.proofs.server.Server.run.Goals as goal
+use Rattle.compound_run.proofs.server.Server.run_recorded.Goals as goal
 
 pub returns : goal.returns
 returns g c =
@@ -11,7 +11,7 @@ returns g c =
     record {
       answers = (
         h.0,
-        answers_call c.args.self.now (state_of c.self.inside.realm) (state_of c.answer_in_session.new.self) call (args_of c.in-Some.compound) c.in-Some.compound.operations.now h.0 (sym c.self.view_is) (search rules) h.1,
+        answers_call c.args.self.now (state_of c.self.inside.realm) c.answer_in_session.result (state_of c.answer_in_session.new.self) call (args_of c.in-Some.compound) c.in-Some.compound.operations.now h.0 (sym c.self.view_is) (search rules) h.1,
         h.2,
         h.3,
       );

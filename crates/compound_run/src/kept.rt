@@ -1,0 +1,57 @@
+//! Which calls are kept over a restart (RFC 8881, section 2.10.6.5).
+ghost use Rattle.std.specs.Prelude.{◌≡◌, false, if◌then◌else◌, Some, None};
+ghost use Rattle.compound_run.specs.Telling.{is_delay_status};
+ghost use Rattle.compound_run.specs.Keeping as specs;
+
+use nfs_ops::{
+    OP_CLOSE, OP_CREATE, OP_LINK, OP_OPEN, OP_RECLAIM_COMPLETE, OP_REMOVE, OP_RENAME, OP_SETATTR,
+    OP_WRITE,
+};
+use nfs_types::Status;
+
+/// What a record has to know of a call that was answered.
+#[derive(Clone, Copy, Debug, PartialEq, Eq)]
+pub struct Ran {
+    /// The call is kept over a restart: an operation that changes something was OK, a client or a
+    /// session was made, changed or ended, or the number of its slot passed a multiple of 2^20.
+    pub kept: bool,
+    /// The operation that found no memory, and was answered DELAY: its place after SEQUENCE.
+    pub delayed: Option<u32>,
+}
+
+impl Ran {
+    /// The call was refused before it was run, or repeated.
+    pub(crate) fn nothing() -> Self
+        ensures { result ≡ record { kept = false; delayed = None } }
+    {
+        Ran {
+            kept: false,
+            delayed: None,
+        }
+    }
+}
+
+/// Whether the operation of a number changes something where it is OK.
+pub(crate) fn is_changing(number: u32) -> bool
+    ensures { result ≡ specs.is_changing number }
+{
+    number == OP_CLOSE
+        || number == OP_CREATE
+        || number == OP_LINK
+        || number == OP_OPEN
+        || number == OP_REMOVE
+        || number == OP_RENAME
+        || number == OP_SETATTR
+        || number == OP_WRITE
+        || number == OP_RECLAIM_COMPLETE
+}
+
+/// The place of an operation that was refused, where it found no memory.
+pub(crate) fn delayed_at(status: Status, place: u32) -> Option<u32>
+    ensures { result ≡ (if is_delay_status status then Some place else None) }
+{
+    match status {
+        Status::Delay => Some(place),
+        _ => None,
+    }
+}
