@@ -5,7 +5,7 @@ use Rattle.nfs_ops.specs.Operations.{Operation}
 use Rattle.nfs_ops.specs.Results.{Outcome}
 use Rattle.nfs_client.specs.Compound.{AllDone, LastRefused, NoReply, Said, said}
 use Rattle.nfs_client.specs.Requests.{asked_of}
-use Rattle.nfs_client.specs.Streams.{Directions}
+use Rattle.nfs_client.specs.Talking.{Talking}
 use Rattle.nfs_client.specs.Taking.{SaidGives, taking}
 use Rattle.nfs_client.specs.Client.{ExchangeGives, next}
 use Rattle.nfs_client.specs.Commands.{Answered, Told, Settled, NoAnswer, Unjudged, Concludes, number_behind, takes_number, AskGives}
@@ -15,7 +15,7 @@ use Rattle.nfs_client.specs.declared.fault.ToolFault.TheVariants as fault
 use Rattle.nfs_client.specs.declared.client.Client.{Client}
 use Rattle.nfs_client.specs.declared.client.Reply.{Reply}
 
-module _ {S A V : Type 0} (directions : Directions S) (taken : List Outcome → Option V) (ops : List Operation) (old mid : Client S A) (reply : Reply A) (gives : ExchangeGives directions ops old mid (Ok reply)) where
+module _ {S A V : Type 0} (talks : Talking S) (taken : List Outcome → Option V) (ops : List Operation) (old mid : Client S A) (reply : Reply A) (gives : ExchangeGives talks ops old mid (Ok reply)) where
   -- the answer of the record to the call
   says_so : (P : Said → Type 0) → P (said reply.xid reply.asked.items reply.content.items) → P (said old.xid (asked_of ops) reply.content.items)
   says_so P h =
@@ -34,24 +34,24 @@ module _ {S A V : Type 0} (directions : Directions S) (taken : List Outcome → 
   pub settled : (new : Client S A) (v : Option V) (in_session : Bool)
       → ((said reply.xid reply.asked.items reply.content.items).answer ≡ AllDone) × (taken (said reply.xid reply.asked.items reply.content.items).results ≡ v)
       → new ≡ record mid { usable = true; number = if in_session then next mid.number else mid.number }
-      → Told directions taken ops old new v × Settled old new (number_behind in_session old.number)
+      → Told talks taken ops old new v × Settled old new (number_behind in_session old.number)
   unfolding left
   settled new v in_session h is =
       let told = says_so (λ (s : Said). (s.answer ≡ AllDone) × (taken s.results ≡ v)) h in
-      subst (λ (c : Client S A). Told directions taken ops old c v × Settled old c (number_behind in_session old.number)) (sym is)
+      subst (λ (c : Client S A). Told talks taken ops old c v × Settled old c (number_behind in_session old.number)) (sym is)
       ((reply.content.items, gives.3, told.0, told.1), is_settled in_session)
 
   pub settled_refused : (new : Client S A) (op status : ℕ) (in_session : Bool)
       → (said reply.xid reply.asked.items reply.content.items).answer ≡ LastRefused op status
       → new ≡ record mid { usable = true; number = if in_session then next mid.number else mid.number }
-      → Answered directions ops old new (LastRefused op status) × Settled old new (number_behind in_session old.number)
+      → Answered talks ops old new (LastRefused op status) × Settled old new (number_behind in_session old.number)
   unfolding left
   settled_refused new op status in_session h is =
-      subst (λ (c : Client S A). Answered directions ops old c (LastRefused op status) × Settled old c (number_behind in_session old.number)) (sym is)
+      subst (λ (c : Client S A). Answered talks ops old c (LastRefused op status) × Settled old c (number_behind in_session old.number)) (sym is)
       ((reply.content.items, gives.3, says_so (λ (s : Said). s.answer ≡ LastRefused op status) h), is_settled in_session)
 
   unanswered : ((said reply.xid reply.asked.items reply.content.items).answer ≡ NoReply) ⊎ (((said reply.xid reply.asked.items reply.content.items).answer ≡ AllDone) × (taken (said reply.xid reply.asked.items reply.content.items).results ≡ None))
-      → NoAnswer directions taken ops old mid
+      → NoAnswer talks taken ops old mid
   unanswered (inl h) = (gives.0, inl (reply.content.items, gives.3, says_so (λ (s : Said). s.answer ≡ NoReply) h))
   unanswered (inr h) =
       let told = says_so (λ (s : Said). (s.answer ≡ AllDone) × (taken s.results ≡ None)) h in
@@ -59,12 +59,12 @@ module _ {S A V : Type 0} (directions : Directions S) (taken : List Outcome → 
 
   -- the outcome of an exchange by its reply
   pub concluded : {X : Type 0} (value : X → V) (in_session : Bool) (told : Result X ToolFault) (new : Client S A) → SaidGives (taking taken value) (said reply.xid reply.asked.items reply.content.items) told
-      → Concludes in_session told mid new → AskGives directions (taking taken value) (record { ops = ops; in_session = in_session }) old new told
+      → Concludes in_session told mid new → AskGives talks (taking taken value) (record { ops = ops; in_session = in_session }) old new told
   concluded value in_session (Ok x) new h is = settled new (Some (value x)) in_session h is
   concluded value in_session (Err (fault.Refused op s)) new h is = settled_refused new op (number_of s) (takes_number in_session op) h is
-  concluded value in_session (Err fault.Reply) new h is = inr (subst (λ (c : Client S A). NoAnswer directions taken ops old c) (sym is) (unanswered h))
+  concluded value in_session (Err fault.Reply) new h is = inr (subst (λ (c : Client S A). NoAnswer talks taken ops old c) (sym is) (unanswered h))
   concluded value in_session (Err fault.Memory) new h is =
-      inr (inr (subst (λ (c : Client S A). Unjudged directions ops old c) (sym is) (gives.0, reply.content.items, gives.3)))
+      inr (inr (subst (λ (c : Client S A). Unjudged talks ops old c) (sym is) (gives.0, reply.content.items, gives.3)))
   concluded value in_session (Err fault.Path) new h is = absurd h
   concluded value in_session (Err fault.Read) new h is = absurd h
   concluded value in_session (Err fault.Write) new h is = absurd h
@@ -73,23 +73,23 @@ module _ {S A V : Type 0} (directions : Directions S) (taken : List Outcome → 
   concluded value in_session (Err fault.TooLarge) new h is = absurd h
 
 -- the outcome of operations after whose call no record was read
-pub unasked : {S A V X : Type 0} (directions : Directions S) (taken : List Outcome → Option V) (value : X → V) (in_session : Bool) (ops : List Operation) (old new : Client S A) (f : ToolFault)
-    → ExchangeGives directions ops old new (Err f) → AskGives directions (taking taken value) (record { ops = ops; in_session = in_session }) old new (Err f)
-unasked directions taken value in_session ops old new fault.Memory (inl h) = inl h.1
-unasked directions taken value in_session ops old new fault.Memory (inr h) = inr (inl h)
-unasked directions taken value in_session ops old new fault.TooLarge (inl h) = h
-unasked directions taken value in_session ops old new fault.TooLarge (inr h) = absurd h.1.failed.no_record
-unasked directions taken value in_session ops old new fault.Reply (inl h) = absurd h.0
-unasked directions taken value in_session ops old new fault.Reply (inr h) = inl h
-unasked directions taken value in_session ops old new fault.Read (inl h) = absurd h.0
-unasked directions taken value in_session ops old new fault.Read (inr h) = h
-unasked directions taken value in_session ops old new fault.Write (inl h) = absurd h.0
-unasked directions taken value in_session ops old new fault.Write (inr h) = h
-unasked directions taken value in_session ops old new (fault.Refused op status) (inl h) = absurd h.0
-unasked directions taken value in_session ops old new (fault.Refused op status) (inr h) = absurd h.1.failed.no_record
-unasked directions taken value in_session ops old new fault.Path (inl h) = absurd h.0
-unasked directions taken value in_session ops old new fault.Path (inr h) = absurd h.1.failed.no_record
-unasked directions taken value in_session ops old new fault.Entry (inl h) = absurd h.0
-unasked directions taken value in_session ops old new fault.Entry (inr h) = absurd h.1.failed.no_record
-unasked directions taken value in_session ops old new fault.Failed (inl h) = absurd h.0
-unasked directions taken value in_session ops old new fault.Failed (inr h) = absurd h.1.failed.no_record
+pub unasked : {S A V X : Type 0} (talks : Talking S) (taken : List Outcome → Option V) (value : X → V) (in_session : Bool) (ops : List Operation) (old new : Client S A) (f : ToolFault)
+    → ExchangeGives talks ops old new (Err f) → AskGives talks (taking taken value) (record { ops = ops; in_session = in_session }) old new (Err f)
+unasked talks taken value in_session ops old new fault.Memory (inl h) = inl h.1
+unasked talks taken value in_session ops old new fault.Memory (inr h) = inr (inl h)
+unasked talks taken value in_session ops old new fault.TooLarge (inl h) = h
+unasked talks taken value in_session ops old new fault.TooLarge (inr h) = absurd h.1.of_talk
+unasked talks taken value in_session ops old new fault.Reply (inl h) = absurd h.0
+unasked talks taken value in_session ops old new fault.Reply (inr h) = inl h
+unasked talks taken value in_session ops old new fault.Read (inl h) = absurd h.0
+unasked talks taken value in_session ops old new fault.Read (inr h) = h
+unasked talks taken value in_session ops old new fault.Write (inl h) = absurd h.0
+unasked talks taken value in_session ops old new fault.Write (inr h) = h
+unasked talks taken value in_session ops old new (fault.Refused op status) (inl h) = absurd h.0
+unasked talks taken value in_session ops old new (fault.Refused op status) (inr h) = absurd h.1.of_talk
+unasked talks taken value in_session ops old new fault.Path (inl h) = absurd h.0
+unasked talks taken value in_session ops old new fault.Path (inr h) = absurd h.1.of_talk
+unasked talks taken value in_session ops old new fault.Entry (inl h) = absurd h.0
+unasked talks taken value in_session ops old new fault.Entry (inr h) = absurd h.1.of_talk
+unasked talks taken value in_session ops old new fault.Failed (inl h) = absurd h.0
+unasked talks taken value in_session ops old new fault.Failed (inr h) = absurd h.1.of_talk

@@ -17,3 +17,4 @@ pub mod Reading
 pub mod Putting
 pub mod Telling
 pub mod Columns
+pub mod Reaching

@@ -4,7 +4,7 @@ use Rattle.std.specs.Prelude.{Option}
 use Rattle.nfs_ops.specs.Operations.{Operation}
 use Rattle.nfs_ops.specs.Results.{Outcome}
 use Rattle.nfs_client.specs.Commands.{AskGives, Spoils}
-use Rattle.nfs_client.specs.Streams.{Directions}
+use Rattle.nfs_client.specs.Talking.{Talking}
 use Rattle.nfs_client.specs.Taking.{taking}
 use Rattle.nfs_client.specs.Paging.{Paging, PageGives, Goes, PagesGive, most_calls}
 use Rattle.nfs_client.specs.declared.fault.ToolFault.{ToolFault}
@@ -12,17 +12,17 @@ use Rattle.nfs_client.specs.declared.fault.ToolFault.TheVariants as fault
 use Rattle.nfs_client.specs.declared.client.Client.{Client}
 
 -- a failure doesn't depend on the value that would be taken
-pub same_failure : {S A X Y V : Type 0} (directions : Directions S) (taken : List Outcome → Option V) (value : X → V) (other : Y → V) (in_session : Bool) (ops : List Operation) (old new : Client S A) (f : ToolFault)
-    → AskGives directions (taking taken value) (record { ops = ops; in_session = in_session }) old new (Err f) → AskGives directions (taking taken other) (record { ops = ops; in_session = in_session }) old new (Err f)
-same_failure directions taken value other in_session ops old new fault.Memory h = h
-same_failure directions taken value other in_session ops old new fault.Reply h = h
-same_failure directions taken value other in_session ops old new fault.Read h = h
-same_failure directions taken value other in_session ops old new fault.Write h = h
-same_failure directions taken value other in_session ops old new (fault.Refused op s) h = h
-same_failure directions taken value other in_session ops old new fault.Path h = h
-same_failure directions taken value other in_session ops old new fault.Entry h = h
-same_failure directions taken value other in_session ops old new fault.Failed h = h
-same_failure directions taken value other in_session ops old new fault.TooLarge h = h
+pub same_failure : {S A X Y V : Type 0} (talks : Talking S) (taken : List Outcome → Option V) (value : X → V) (other : Y → V) (in_session : Bool) (ops : List Operation) (old new : Client S A) (f : ToolFault)
+    → AskGives talks (taking taken value) (record { ops = ops; in_session = in_session }) old new (Err f) → AskGives talks (taking taken other) (record { ops = ops; in_session = in_session }) old new (Err f)
+same_failure talks taken value other in_session ops old new fault.Memory h = h
+same_failure talks taken value other in_session ops old new fault.Reply h = h
+same_failure talks taken value other in_session ops old new fault.Read h = h
+same_failure talks taken value other in_session ops old new fault.Write h = h
+same_failure talks taken value other in_session ops old new (fault.Refused op s) h = h
+same_failure talks taken value other in_session ops old new fault.Path h = h
+same_failure talks taken value other in_session ops old new fault.Entry h = h
+same_failure talks taken value other in_session ops old new fault.Failed h = h
+same_failure talks taken value other in_session ops old new fault.TooLarge h = h
 
 module _ {S A V : Type 0} (paging : Paging S A V) (old : Client S A) where
   -- some pages were asked, and none of them is the last

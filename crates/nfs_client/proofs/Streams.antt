@@ -1,6 +1,6 @@
 -- Bytes over a stream in pieces.
 use Rattle.std.proofs.Common.{◌≡◌, ℕ, ◌+◌, ◌-◌, ◌≤◌, ◌<◌, List, [], ◌∷◌, ◌++◌, length, take, drop, Option, Some, None, Result, Ok, Err, refl, sym, ap, ◌∙◌, subst, append_assoc, arith}
-use Rattle.std.specs.Prelude.{slice_range}
+use Rattle.std.specs.Prelude.{slice_range, IfErr}
 use Rattle.std.specs.List.{All, concat}
 use Rattle.std.specs.Io.KnownBytes.{Appends, Consumes, Keeps}
 use Rattle.std.proofs.lemmas.List.{append-nil, take-append-drop, take_all, length-append, length-drop, length-take-le}
@@ -11,6 +11,7 @@ use Rattle.rpc_record.specs.Records.{IsRecord, IsUnfinished}
 use Rattle.rpc_record.specs.Frame.{Frame}
 use Rattle.rpc_record.specs.Framer.{Stands}
 use Rattle.nfs_client.specs.Streams.{Directions, WritesFront, IsPiece, Reads, ReadsRecord, most_reads, IsFollowed, IsFrameFault, IsReadFault, RecordGives, TalkFails, TalkGives}
+use Rattle.nfs_client.specs.Talking.{as_read, IsTalkFault}
 use Rattle.nfs_client.specs.declared.fault.ToolFault.{ToolFault}
 use Rattle.nfs_client.specs.declared.fault.ToolFault.TheVariants as faults
 
@@ -194,6 +195,22 @@ unheard directions old mid new call faults.TooLarge wrote (bytes, read, is) = ab
 
 -- the call was written, and what was read after it is a record, or is none
 pub talked : {S X : Type 0} (directions : Directions S) (bytes : X → List ℕ) (old mid new : S) (call : List ℕ) (result : Result X ToolFault) → Appends (directions.contents old) (directions.contents mid) call
-    → RecordGives bytes (directions.remaining mid) (directions.remaining new) result → TalkGives directions bytes old new call result
+    → RecordGives bytes (directions.remaining mid) (directions.remaining new) result → TalkGives directions old call (as_read bytes result) new
 talked directions bytes old mid new call (Ok x) wrote read = record { mid = mid; wrote = wrote; read = read }
 talked directions bytes old mid new call (Err fault) wrote read = unheard directions old mid new call fault wrote read
+
+-- the faults of reading a record
+read_fault : (bytes : List ℕ) (fault : ToolFault) → IsReadFault bytes fault → IsTalkFault fault
+read_fault bytes faults.Read h = tt
+read_fault bytes faults.Reply h = tt
+read_fault bytes faults.Memory h = tt
+read_fault bytes faults.Write h = tt
+read_fault bytes faults.Path h = absurd h
+read_fault bytes (faults.Refused op status) h = absurd h
+read_fault bytes faults.Entry h = absurd h
+read_fault bytes faults.Failed h = absurd h
+read_fault bytes faults.TooLarge h = absurd h
+
+pub talk_fault : {X : Type 0} (bytes : X → List ℕ) (left left' : Option (List ℕ)) (result : Result X ToolFault) → RecordGives bytes left left' result → IfErr result IsTalkFault
+talk_fault bytes left left' (Ok x) h = tt
+talk_fault bytes left left' (Err fault) (read, reads, is) = read_fault read fault is

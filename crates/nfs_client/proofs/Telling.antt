@@ -4,7 +4,7 @@ use Rattle.nfs_client.specs.AnswerTexts.{NewlineGives, says_text}
 use Rattle.nfs_client.specs.Cat.{CatGives}
 use Rattle.nfs_client.specs.Commands.{Spoils}
 use Rattle.nfs_client.specs.Running.{CatTells, Runs}
-use Rattle.nfs_client.specs.Streams.{Directions}
+use Rattle.nfs_client.specs.Talking.{Talking}
 use Rattle.nfs_client.specs.Words.{CommandLine, Ls, Cat, Put, MkDir, Ln, Mv, Rm, ChMod, GetAcl, SetAcl, Access}
 use Rattle.nfs_client.specs.declared.client.Client.{Client}
 use Rattle.nfs_client.specs.declared.running.Answer.{Answer}
@@ -12,26 +12,26 @@ use Rattle.nfs_client.specs.declared.fault.ToolFault.{ToolFault}
 use Rattle.nfs_client.specs.declared.fault.ToolFault.TheVariants.{Failed}
 
 -- a newline is put after the bytes of a file; where memory is refused for the newline the client is spoilt
-pub newline_told : {S A : Type 0} (directions : Directions S) (path : List ℕ) (old mid new : Client S A) (bytes : Vec ℕ A) (told : Result (Answer A) ToolFault)
-    → CatGives directions (says_text {A = A}) path old mid (Ok bytes) → NewlineGives bytes.items told → Spoils told mid new → CatTells directions path old new told
-newline_told {S = S} {A = A} directions path old mid new bytes (Ok answer) gives text spoils =
-    let P : Client S A → Type 0 = λ m. CatGives directions (says_text {A = A}) path old m (Ok bytes) in
+pub newline_told : {S A : Type 0} (talks : Talking S) (path : List ℕ) (old mid new : Client S A) (bytes : Vec ℕ A) (told : Result (Answer A) ToolFault)
+    → CatGives talks (says_text {A = A}) path old mid (Ok bytes) → NewlineGives bytes.items told → Spoils told mid new → CatTells talks path old new told
+newline_told {S = S} {A = A} talks path old mid new bytes (Ok answer) gives text spoils =
+    let P : Client S A → Type 0 = λ m. CatGives talks (says_text {A = A}) path old m (Ok bytes) in
     inl (Ok bytes, subst P (sym spoils) gives, text)
-newline_told {S = S} {A = A} directions path old mid new bytes (Err fault) gives text spoils =
+newline_told {S = S} {A = A} talks path old mid new bytes (Err fault) gives text spoils =
     let P : ToolFault → Type 0 = λ f. Spoils {X = Answer A} (Err f) mid new in
     let spoilt : new ≡ record mid { usable = false } = subst P text spoils in
     inr (bytes, mid, gives, spoilt, ap (λ (f : ToolFault). Err f) text)
 
 -- on a client that isn't usable no command runs
-pub none_runs : {S A : Type 0} (directions : Directions S) (command : CommandLine) (client : Client S A) → client.usable ≡ false → Runs {S = S} {A = A} directions command client client (Err Failed)
-none_runs directions (Ls path) client h = (Err Failed, (h, refl), refl)
-none_runs directions (Cat path) client h = inl (Err Failed, (h, refl), refl)
-none_runs directions (Put path text) client h = (Err Failed, (h, refl), refl)
-none_runs directions (MkDir path) client h = (Err Failed, (h, refl), refl)
-none_runs directions (Ln from to) client h = (Err Failed, (h, refl), refl)
-none_runs directions (Mv from to) client h = (Err Failed, (h, refl), refl)
-none_runs directions (Rm path) client h = (Err Failed, (h, refl), refl)
-none_runs directions (ChMod mode path) client h = (Err Failed, (h, refl), refl)
-none_runs directions (GetAcl part path) client h = (Err Failed, (h, refl), refl)
-none_runs directions (SetAcl part path entries) client h = (Err Failed, (h, refl), refl)
-none_runs directions (Access path) client h = (Err Failed, (h, refl), refl)
+pub none_runs : {S A : Type 0} (talks : Talking S) (command : CommandLine) (client : Client S A) → client.usable ≡ false → Runs {S = S} {A = A} talks command client client (Err Failed)
+none_runs talks (Ls path) client h = (Err Failed, (h, refl), refl)
+none_runs talks (Cat path) client h = inl (Err Failed, (h, refl), refl)
+none_runs talks (Put path text) client h = (Err Failed, (h, refl), refl)
+none_runs talks (MkDir path) client h = (Err Failed, (h, refl), refl)
+none_runs talks (Ln from to) client h = (Err Failed, (h, refl), refl)
+none_runs talks (Mv from to) client h = (Err Failed, (h, refl), refl)
+none_runs talks (Rm path) client h = (Err Failed, (h, refl), refl)
+none_runs talks (ChMod mode path) client h = (Err Failed, (h, refl), refl)
+none_runs talks (GetAcl part path) client h = (Err Failed, (h, refl), refl)
+none_runs talks (SetAcl part path entries) client h = (Err Failed, (h, refl), refl)
+none_runs talks (Access path) client h = (Err Failed, (h, refl), refl)

@@ -8,7 +8,7 @@ use Rattle.nfs_ops.specs.declared.OpKind.TheVariants as kinds
 use Rattle.nfs_client.specs.Commands.{AskGives, within_session}
 use Rattle.nfs_client.specs.Paging.{itself}
 use Rattle.nfs_client.specs.Routes.{Route, near, along, route_behind}
-use Rattle.nfs_client.specs.Streams.{Directions}
+use Rattle.nfs_client.specs.Talking.{Talking}
 use Rattle.nfs_client.specs.Taking.{last_of, taking}
 use Rattle.nfs_client.specs.declared.client.Client.{Client}
 use Rattle.nfs_client.specs.declared.fault.ToolFault.{ToolFault}
@@ -27,11 +27,11 @@ handle_in results = option_and_then handle_of (last_of results)
 abbrev pub approach : {S A : Type 0} → Client S A → Route → List Operation
 approach client route = along client route get_handle
 
-module _ {S A : Type 0} (directions : Directions S) where
+module _ {S A : Type 0} (talks : Talking S) where
   -- the exchange that walks a route's first names
   abbrev pub ApproachGives : Route → Client S A → Client S A → Result (List ℕ) ToolFault → Type 0
   ApproachGives route old new result =
-      AskGives directions (taking handle_in itself) (within_session (approach old (near route))) old new result
+      AskGives talks (taking handle_in itself) (within_session (approach old (near route))) old new result
 
   -- An approach for each of these filehandles, the last first: each got its filehandle, and more
   -- than this many names were left before it. No other command runs until this command is over.

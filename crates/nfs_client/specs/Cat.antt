@@ -9,7 +9,7 @@ use Rattle.nfs_ops.specs.declared.read.ReadResult.{ReadResult}
 use Rattle.nfs_client.specs.Access.{NoPath}
 use Rattle.nfs_client.specs.Compound.{Said}
 use Rattle.nfs_client.specs.Paths.{names_in}
-use Rattle.nfs_client.specs.Streams.{Directions}
+use Rattle.nfs_client.specs.Talking.{Talking}
 use Rattle.nfs_client.specs.Taking.{last_of, taking, SaidGives}
 use Rattle.nfs_client.specs.Commands.{AskGives, within_session, Commanded}
 use Rattle.nfs_client.specs.Paging.{Paging, PagesGive, SoFar, itself}
@@ -50,9 +50,9 @@ read_from route client offset = along client route (read offset)
 abbrev pub read_behind : {S A : Type 0} → Route → Client S A → List ℕ → List Operation
 read_behind route client bytes = read_from route client (length bytes)
 
-abbrev pub by_pieces : {S A : Type 0} → Directions S → Route → Paging S A Piece
-by_pieces directions route = record {
-  directions = directions;
+abbrev pub by_pieces : {S A : Type 0} → Talking S → Route → Paging S A Piece
+by_pieces talks route = record {
+  talks = talks;
   asks = λ client before. read_behind route client (bytes_of before);
   taken = piece_in;
   ends = λ p. p.eof;
@@ -68,22 +68,22 @@ PieceTaken said old new (Ok eof) =
 PieceTaken said old new (Err fault) = SaidGives (taking piece_in (piece_with [])) said (Err fault)
 
 -- the exchange of a piece, which is put after the bytes read so far
-abbrev pub ReadGives : {S A : Type 0} → Directions S → Route → SoFar S A (List ℕ) → SoFar S A (List ℕ)
+abbrev pub ReadGives : {S A : Type 0} → Talking S → Route → SoFar S A (List ℕ) → SoFar S A (List ℕ)
     → Result Bool ToolFault → Type 0
-ReadGives directions route old new (Ok eof) =
+ReadGives talks route old new (Ok eof) =
     (bytes : List ℕ)
-    × AskGives directions (taking piece_in itself) (within_session (read_behind route old.client old.gathered))
+    × AskGives talks (taking piece_in itself) (within_session (read_behind route old.client old.gathered))
     old.client new.client (Ok (piece_with bytes eof))
     × (new.gathered ≡ old.gathered ++ bytes)
-ReadGives directions route old new (Err fault) =
-    AskGives {X = Piece} directions (taking piece_in itself)
+ReadGives talks route old new (Err fault) =
+    AskGives {X = Piece} talks (taking piece_in itself)
     (within_session (read_behind route old.client old.gathered)) old.client new.client (Err fault)
 
 -- the bytes of the file at the path; or the path is wrong, and no operation is asked
-abbrev pub CatGives : {S A X : Type 0} → Directions S → (X → List ℕ) → List ℕ → Client S A → Client S A
+abbrev pub CatGives : {S A X : Type 0} → Talking S → (X → List ℕ) → List ℕ → Client S A → Client S A
     → Result X ToolFault → Type 0
-CatGives directions value path old new result =
+CatGives talks value path old new result =
     Commanded (NoPath path) (λ told. (names : List (List ℕ)) × (names_in path ≡ Some names)
-    × Walked directions most_names names
-    (λ route mid r. PagesGive (by_pieces directions route) value bytes_of mid new r) old new
+    × Walked talks most_names names
+    (λ route mid r. PagesGive (by_pieces talks route) value bytes_of mid new r) old new
     told) old new result

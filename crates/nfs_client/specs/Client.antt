@@ -4,7 +4,7 @@ use Rattle.rpc_record.specs.Identity.{Identity, identity}
 use Rattle.nfs_ops.specs.Operations.{Operation}
 use Rattle.nfs_client.specs.Compound.{Call, IsCall, IsTooLarge}
 use Rattle.nfs_client.specs.Requests.{asked_of}
-use Rattle.nfs_client.specs.Streams.{Directions, Talked, TalkFails}
+use Rattle.nfs_client.specs.Talking.{Talking, IsTalkFault}
 use Rattle.nfs_client.specs.declared.client.Client.{Client}
 use Rattle.nfs_client.specs.declared.client.Reply.{Reply as ReplyOf}
 use Rattle.nfs_client.specs.declared.fault.ToolFault.{ToolFault}
@@ -18,19 +18,20 @@ caller_of client = identity client.uid client.gid []
 abbrev pub call_of : {S A : Type 0} → Client S A → List Operation → Call
 call_of client ops = record { xid = client.xid; caller = caller_of client; ops = ops }
 
--- One exchange over a stream: the call is written, and after it a record is read.
-pub record Exchange {S : Type 0} (directions : Directions S) (old new : S) (call : Call)
+-- One exchange over a transport: the call is sent, and a record comes after it.
+pub record Exchange {S : Type 0} (talks : Talking S) (old new : S) (call : Call)
     (content : List ℕ) : Type 0 where
   pub bytes : List ℕ
   pub is_call : IsCall call bytes
-  pub talked : Talked directions old new bytes content
+  pub talked : talks old bytes (Ok content) new
 
--- An exchange that failed: a front of the call was written, or all of the call and no record was read after it.
-pub record Failing {S : Type 0} (directions : Directions S) (old new : S) (call : Call)
+-- An exchange that failed: no record came after the call.
+pub record Failing {S : Type 0} (talks : Talking S) (old new : S) (call : Call)
     (fault : ToolFault) : Type 0 where
   pub bytes : List ℕ
   pub is_call : IsCall call bytes
-  pub failed : TalkFails directions old new bytes fault
+  pub failed : talks old bytes (Err fault) new
+  pub of_talk : IsTalkFault fault
 
 -- the next number
 abbrev pub next : ℕ → ℕ
@@ -53,11 +54,11 @@ IsUnsent call TooLarge = IsTooLarge call
 IsUnsent call fault = ⊥
 
 -- the record that was read; or the fault for which no bytes were written, or no record was read
-abbrev pub ExchangeGives : {S A : Type 0} → Directions S → List Operation → Client S A → Client S A
+abbrev pub ExchangeGives : {S A : Type 0} → Talking S → List Operation → Client S A → Client S A
     → Result (ReplyOf A) ToolFault → Type 0
-ExchangeGives directions ops old new (Ok reply) =
+ExchangeGives talks ops old new (Ok reply) =
     Begun old new × (reply.xid ≡ old.xid) × (reply.asked.items ≡ asked_of ops)
-    × Exchange directions old.stream new.stream (call_of old ops) reply.content.items
-ExchangeGives directions ops old new (Err fault) =
+    × Exchange talks old.stream new.stream (call_of old ops) reply.content.items
+ExchangeGives talks ops old new (Err fault) =
     (IsUnsent (call_of old ops) fault × (new ≡ old))
-    ⊎ (Begun old new × Failing directions old.stream new.stream (call_of old ops) fault)
+    ⊎ (Begun old new × Failing talks old.stream new.stream (call_of old ops) fault)

@@ -9,7 +9,7 @@ use Rattle.nfs_client.specs.Paths.{names_in}
 use Rattle.nfs_client.specs.Compound.{Answer, AllDone, LastRefused, NoReply, said, IsTooLarge}
 use Rattle.nfs_client.specs.Requests.{asked_of}
 use Rattle.nfs_client.specs.Client.{Begun, Exchange, Failing, call_of, next}
-use Rattle.nfs_client.specs.Streams.{Directions}
+use Rattle.nfs_client.specs.Talking.{Talking}
 use Rattle.nfs_client.specs.Taking.{Taking}
 use Rattle.nfs_client.specs.declared.client.Client.{Client}
 use Rattle.nfs_client.specs.declared.fault.ToolFault.{ToolFault}
@@ -41,16 +41,16 @@ HasNoName path = (names_in path ≡ None) ⊎ (names_in path ≡ Some [])
 -- ---- outcomes
 
 -- an exchange whose reply has this answer
-abbrev pub Answered : {S A : Type 0} → Directions S → List Operation → Client S A → Client S A → Answer → Type 0
-Answered directions ops old new answer =
-    (content : List ℕ) × Exchange directions old.stream new.stream (call_of old ops) content
+abbrev pub Answered : {S A : Type 0} → Talking S → List Operation → Client S A → Client S A → Answer → Type 0
+Answered talks ops old new answer =
+    (content : List ℕ) × Exchange talks old.stream new.stream (call_of old ops) content
     × ((said old.xid (asked_of ops) content).answer ≡ answer)
 
 -- an exchange whose reply has all operations OK, and this value, taken of its results
-abbrev pub Told : {S A V : Type 0} → Directions S → (List Outcome → Option V) → List Operation → Client S A
+abbrev pub Told : {S A V : Type 0} → Talking S → (List Outcome → Option V) → List Operation → Client S A
     → Client S A → Option V → Type 0
-Told directions taken ops old new v =
-    (content : List ℕ) × Exchange directions old.stream new.stream (call_of old ops) content
+Told talks taken ops old new v =
+    (content : List ℕ) × Exchange talks old.stream new.stream (call_of old ops) content
     × ((said old.xid (asked_of ops) content).answer ≡ AllDone)
     × (taken (said old.xid (asked_of ops) content).results ≡ v)
 
@@ -92,25 +92,25 @@ pub record Settled {S A : Type 0} (old new : Client S A) (number : ℕ) : Type 0
   pub numbered : new.number ≡ number
 
 -- No record was read after the call, and no other command runs.
-abbrev pub GivesUp : {S A : Type 0} → Directions S → List Operation → Client S A → Client S A → ToolFault → Type 0
-GivesUp directions ops old new fault =
-    Begun old new × Failing directions old.stream new.stream (call_of old ops) fault
+abbrev pub GivesUp : {S A : Type 0} → Talking S → List Operation → Client S A → Client S A → ToolFault → Type 0
+GivesUp talks ops old new fault =
+    Begun old new × Failing talks old.stream new.stream (call_of old ops) fault
 
 -- A record was read that is no reply to the call, or a reply whose results have no such value; no other command runs.
-abbrev pub NoAnswer : {S A V : Type 0} → Directions S → (List Outcome → Option V) → List Operation → Client S A
+abbrev pub NoAnswer : {S A V : Type 0} → Talking S → (List Outcome → Option V) → List Operation → Client S A
     → Client S A → Type 0
-NoAnswer directions taken ops old new =
-    Begun old new × (Answered directions ops old new NoReply ⊎ Told directions taken ops old new None)
+NoAnswer talks taken ops old new =
+    Begun old new × (Answered talks ops old new NoReply ⊎ Told talks taken ops old new None)
 
 -- A record was read, and memory was refused for what it says; no other command runs.
-abbrev pub Unjudged : {S A : Type 0} → Directions S → List Operation → Client S A → Client S A → Type 0
-Unjudged directions ops old new =
-    Begun old new × (content : List ℕ) × Exchange directions old.stream new.stream (call_of old ops) content
+abbrev pub Unjudged : {S A : Type 0} → Talking S → List Operation → Client S A → Client S A → Type 0
+Unjudged talks ops old new =
+    Begun old new × (content : List ℕ) × Exchange talks old.stream new.stream (call_of old ops) content
 
 -- Memory was refused: before the first byte of the call, as the record after it was read, or for what the record says.
-abbrev pub NoMemory : {S A : Type 0} → Directions S → List Operation → Client S A → Client S A → Type 0
-NoMemory directions ops old new =
-    (new ≡ old) ⊎ (GivesUp directions ops old new Memory ⊎ Unjudged directions ops old new)
+abbrev pub NoMemory : {S A : Type 0} → Talking S → List Operation → Client S A → Client S A → Type 0
+NoMemory talks ops old new =
+    (new ≡ old) ⊎ (GivesUp talks ops old new Memory ⊎ Unjudged talks ops old new)
 
 -- the operations of a call, and whether the call is in the session
 pub record Asked : Type 0 where
@@ -125,23 +125,23 @@ outside_session ops = record { ops = ops; in_session = false }
 
 -- The outcome of operations with a value of their results: the value was taken, the last operation
 -- run was refused, or no other command runs.
-abbrev pub AskGives : {S A X V : Type 0} → Directions S → Taking X V → Asked → Client S A → Client S A
+abbrev pub AskGives : {S A X V : Type 0} → Talking S → Taking X V → Asked → Client S A → Client S A
     → Result X ToolFault → Type 0
-AskGives directions takes asked old new (Ok x) =
-    Told directions takes.taken asked.ops old new (Some (takes.value x))
+AskGives talks takes asked old new (Ok x) =
+    Told talks takes.taken asked.ops old new (Some (takes.value x))
     × Settled old new (number_behind asked.in_session old.number)
-AskGives directions takes asked old new (Err (Refused op status)) =
-    Answered directions asked.ops old new (LastRefused op (statuses.number_of status))
+AskGives talks takes asked old new (Err (Refused op status)) =
+    Answered talks asked.ops old new (LastRefused op (statuses.number_of status))
     × Settled old new (number_behind (takes_number asked.in_session op) old.number)
-AskGives directions takes asked old new (Err Memory) = NoMemory directions asked.ops old new
-AskGives directions takes asked old new (Err TooLarge) = IsTooLarge (call_of old asked.ops) × (new ≡ old)
-AskGives directions takes asked old new (Err Reply) =
-    GivesUp directions asked.ops old new Reply ⊎ NoAnswer directions takes.taken asked.ops old new
-AskGives directions takes asked old new (Err Read) = GivesUp directions asked.ops old new Read
-AskGives directions takes asked old new (Err Write) = GivesUp directions asked.ops old new Write
-AskGives directions takes asked old new (Err Path) = ⊥
-AskGives directions takes asked old new (Err Entry) = ⊥
-AskGives directions takes asked old new (Err Failed) = ⊥
+AskGives talks takes asked old new (Err Memory) = NoMemory talks asked.ops old new
+AskGives talks takes asked old new (Err TooLarge) = IsTooLarge (call_of old asked.ops) × (new ≡ old)
+AskGives talks takes asked old new (Err Reply) =
+    GivesUp talks asked.ops old new Reply ⊎ NoAnswer talks takes.taken asked.ops old new
+AskGives talks takes asked old new (Err Read) = GivesUp talks asked.ops old new Read
+AskGives talks takes asked old new (Err Write) = GivesUp talks asked.ops old new Write
+AskGives talks takes asked old new (Err Path) = ⊥
+AskGives talks takes asked old new (Err Entry) = ⊥
+AskGives talks takes asked old new (Err Failed) = ⊥
 
 -- The outcome of a command, unless its words are wrong: then no operation is asked. On a client
 -- that isn't usable no command runs. Memory may be refused before an operation is asked. Neither is

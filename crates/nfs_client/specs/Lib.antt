@@ -27,6 +27,7 @@ pub mod Ls
 pub mod Words
 pub mod WordViews
 pub mod Requests
+pub mod Talking
 pub mod Streams
 pub mod Client
 pub mod Commands

@@ -12,7 +12,7 @@ use Rattle.nfs_ops.specs.declared.OpKind.TheVariants as kinds
 use Rattle.nfs_client.specs.Compound.{Said}
 use Rattle.nfs_client.specs.Paths.{names_in}
 use Rattle.nfs_client.specs.Lines.{Listed, line_with, line_end, lines_of}
-use Rattle.nfs_client.specs.Streams.{Directions}
+use Rattle.nfs_client.specs.Talking.{Talking}
 use Rattle.nfs_client.specs.Taking.{last_of, taking, SaidGives}
 use Rattle.nfs_client.specs.Access.{NoPath}
 use Rattle.nfs_client.specs.Commands.{AskGives, within_session, Commanded}
@@ -100,9 +100,9 @@ cookie_of [] = 0
 cookie_of (p ∷ before) = last_or (cookie_of before) p.cookies
 
 -- Each READDIR begins after the last entry of the pages so far.
-abbrev pub by_listings : {S A : Type 0} → Directions S → Ends → Route → List ℕ → Paging S A Page
-by_listings directions ends route set = record {
-  directions = directions;
+abbrev pub by_listings : {S A : Type 0} → Talking S → Ends → Route → List ℕ → Paging S A Page
+by_listings talks ends route set = record {
+  talks = talks;
   asks = λ client before. list_from route set client (cookie_of before);
   taken = page_in ends;
   ends = λ p. p.eof;
@@ -150,16 +150,16 @@ PageTaken said old new (Ok eof) =
 PageTaken said old new (Err fault) = SaidGives (taking (page_in old.ends) (page_with [] [])) said (Err fault)
 
 -- the exchange of a page, whose lines are put after those of the pages before it
-abbrev pub ListGives : {S A : Type 0} → Directions S → Route → List ℕ → SoFar S A (Listing A) → SoFar S A (Listing A)
+abbrev pub ListGives : {S A : Type 0} → Talking S → Route → List ℕ → SoFar S A (Listing A) → SoFar S A (Listing A)
     → Result Bool ToolFault → Type 0
-ListGives directions route set old new (Ok eof) =
+ListGives talks route set old new (Ok eof) =
     (text : List ℕ) × (cookies : List ℕ)
-    × AskGives directions (taking (page_in old.gathered.ends) itself)
+    × AskGives talks (taking (page_in old.gathered.ends) itself)
     (within_session (list_from route set old.client old.gathered.cookie)) old.client new.client
     (Ok (page_with text cookies eof))
     × GoesOn old.gathered new.gathered text cookies
-ListGives directions route set old new (Err fault) =
-    AskGives {X = Page} directions (taking (page_in old.gathered.ends) itself)
+ListGives talks route set old new (Err fault) =
+    AskGives {X = Page} talks (taking (page_in old.gathered.ends) itself)
     (within_session (list_from route set old.client old.gathered.cookie)) old.client new.client (Err fault)
 
 -- lines with these ends, of the entries of the directory at this path
@@ -168,23 +168,23 @@ pub record LinesAt : Type 0 where
   pub ends : Ends
 
 -- the lines of all entries of the directory at the path; or the path is wrong, and no operation is asked
-abbrev pub LinesGive : {S A X : Type 0} → Directions S → (X → List ℕ) → LinesAt → Client S A → Client S A
+abbrev pub LinesGive : {S A X : Type 0} → Talking S → (X → List ℕ) → LinesAt → Client S A → Client S A
     → Result X ToolFault → Type 0
-LinesGive directions value lines old new result =
+LinesGive talks value lines old new result =
     Commanded (NoPath lines.path)
     (λ told. (names : List (List ℕ)) × (set : List ℕ) × (names_in lines.path ≡ Some names) × AreListed set
-    × Walked directions most_names names
-    (λ route mid r. PagesGive (by_listings directions lines.ends route set) value text_of mid new r) old new
+    × Walked talks most_names names
+    (λ route mid r. PagesGive (by_listings talks lines.ends route set) value text_of mid new r) old new
     told) old new result
 
 -- with a space between two columns, and a newline after each line
-abbrev pub LsGives : {S A X : Type 0} → Directions S → (X → List ℕ) → List ℕ → Client S A → Client S A
+abbrev pub LsGives : {S A X : Type 0} → Talking S → (X → List ℕ) → List ℕ → Client S A → Client S A
     → Result X ToolFault → Type 0
-LsGives directions value path old new result =
-    LinesGive directions value (record { path = path; ends = Blanks }) old new result
+LsGives talks value path old new result =
+    LinesGive talks value (record { path = path; ends = Blanks }) old new result
 
 -- with a zero byte after each column, which no column has
-abbrev pub LsZeroGives : {S A X : Type 0} → Directions S → (X → List ℕ) → List ℕ → Client S A → Client S A
+abbrev pub LsZeroGives : {S A X : Type 0} → Talking S → (X → List ℕ) → List ℕ → Client S A → Client S A
     → Result X ToolFault → Type 0
-LsZeroGives directions value path old new result =
-    LinesGive directions value (record { path = path; ends = Zeros }) old new result
+LsZeroGives talks value path old new result =
+    LinesGive talks value (record { path = path; ends = Zeros }) old new result

@@ -4,7 +4,7 @@ use Rattle.std.specs.Prelude.{◌≡◌, ◌⊎◌, ◌<◌, ℕ, Bool, true, fa
 use Rattle.nfs_ops.specs.Operations.{Operation}
 use Rattle.nfs_ops.specs.Results.{Outcome}
 use Rattle.nfs_client.specs.Commands.{AskGives, within_session, Spoils}
-use Rattle.nfs_client.specs.Streams.{Directions}
+use Rattle.nfs_client.specs.Talking.{Talking}
 use Rattle.nfs_client.specs.Taking.{taking}
 use Rattle.nfs_client.specs.declared.client.Client.{Client}
 use Rattle.nfs_client.specs.declared.fault.ToolFault.{ToolFault}
@@ -18,8 +18,8 @@ abbrev pub itself : {V : Type 0} → V → V
 itself v = v
 
 -- Pages: the operations after earlier pages, the value of their results, and whether it is the last page.
-pub record Paging (S A V : Type 0) : Type 0 where
-  pub directions : Directions S
+pub record Paging (S A V : Type 0) : Type 1 where
+  pub talks : Talking S
   pub asks : Client S A → List V → List Operation
   pub taken : List Outcome → Option V
   pub ends : V → Bool
@@ -36,7 +36,7 @@ module _ {S A V : Type 0} (paging : Paging S A V) where
   -- the outcome of the exchange after these pages
   abbrev pub PageGives : List V → Client S A → Client S A → Result V ToolFault → Type 0
   PageGives before old new result =
-      AskGives paging.directions (taking paging.taken itself) (within_session (paging.asks old before)) old new result
+      AskGives paging.talks (taking paging.taken itself) (within_session (paging.asks old before)) old new result
 
   -- an exchange for each of these pages, none of which is the last
   abbrev pub Goes : Client S A → List V → Client S A → Type 0

@@ -13,7 +13,7 @@ use Rattle.nfs_ops.specs.Operations.{Operation, Known}
 use Rattle.nfs_ops.specs.Results.{Outcome, Done}
 use Rattle.nfs_ops.specs.declared.OpKind.TheVariants as kinds
 use Rattle.nfs_client.specs.Setting.{with_size, set_size}
-use Rattle.nfs_client.specs.Streams.{Directions}
+use Rattle.nfs_client.specs.Talking.{Talking}
 use Rattle.nfs_client.specs.Taking.{last_of, last_two, before_last, taking, no_value}
 use Rattle.nfs_client.specs.Approach.{get_handle, handle_of}
 use Rattle.nfs_client.specs.Commands.{sequence, IsIn, AskGives, within_session, Breaks, Commanded}
@@ -129,9 +129,9 @@ told_behind op status (Ok done) = Err (Refused op status)
 told_behind op status (Err (Refused n s)) = Err (Refused op status)
 told_behind op status (Err fault) = Err fault
 
-module _ {S A : Type 0} (directions : Directions S) (o : Open) where
+module _ {S A : Type 0} (talks : Talking S) (o : Open) where
   abbrev pub CloseGives : Client S A → Client S A → Result (Unit {0}) ToolFault → Type 0
-  CloseGives old new result = AskGives directions no_value (within_session (close_it old o)) old new result
+  CloseGives old new result = AskGives talks no_value (within_session (close_it old o)) old new result
 
   -- The file is closed where the text is written, and where a WRITE was refused.
   abbrev pub ClosesBehind : Result (Unit {0}) ToolFault → Client S A → Client S A → Result (Unit {0}) ToolFault → Type 0
@@ -140,10 +140,10 @@ module _ {S A : Type 0} (directions : Directions S) (o : Open) where
       (closed : Result (Unit {0}) ToolFault) × CloseGives old new closed × (result ≡ told_behind op status closed)
   ClosesBehind (Err fault) old new result = (new ≡ old) × (result ≡ Err fault)
 
-module _ {S A : Type 0} (directions : Directions S) (over : OldBytes) (o : Open) where
+module _ {S A : Type 0} (talks : Talking S) (over : OldBytes) (o : Open) where
   abbrev pub WriteGives : ℕ → List ℕ → Client S A → Client S A → Result ℕ ToolFault → Type 0
   WriteGives offset bytes old new result =
-      AskGives directions (taking (written_in over (length bytes)) itself)
+      AskGives talks (taking (written_in over (length bytes)) itself)
       (within_session (write_to old over o offset bytes)) old new result
 
   -- Each WRITE begins after the bytes written so far. The counts of the WRITEs, the last first.
@@ -165,7 +165,7 @@ module _ {S A : Type 0} (directions : Directions S) (over : OldBytes) (o : Open)
   abbrev pub FileGives : List ℕ → Client S A → Client S A → Result (Unit {0}) ToolFault → Type 0
   FileGives text old new result =
       (told : Result (Unit {0}) ToolFault) × (mid : Client S A) × (last : Client S A) × TextGives text old mid told
-      × ClosesBehind directions o told mid last result × Breaks result last new
+      × ClosesBehind talks o told mid last result × Breaks result last new
 
 -- a text that is written over the bytes of a file
 pub record Text : Type 0 where
@@ -173,16 +173,16 @@ pub record Text : Type 0 where
   pub bytes : List ℕ
 
 -- The file is opened, written and closed; or the OPEN fails, or a later exchange.
-abbrev pub PutFileGives : {S A : Type 0} → Directions S → Text → List Operation → Client S A → Client S A
+abbrev pub PutFileGives : {S A : Type 0} → Talking S → Text → List Operation → Client S A → Client S A
     → Result (Unit {0}) ToolFault → Type 0
-PutFileGives {S} {A} directions text ops old new (Ok done) =
-    (mid : Client S A) × (o : Open) × AskGives directions (taking open_in itself) (within_session ops) old mid (Ok o)
-    × FileGives directions text.over o text.bytes mid new (Ok done)
-PutFileGives {S} {A} directions text ops old new (Err fault) =
-    AskGives {X = Open} directions (taking open_in itself) (within_session ops) old new (Err fault)
+PutFileGives {S} {A} talks text ops old new (Ok done) =
+    (mid : Client S A) × (o : Open) × AskGives talks (taking open_in itself) (within_session ops) old mid (Ok o)
+    × FileGives talks text.over o text.bytes mid new (Ok done)
+PutFileGives {S} {A} talks text ops old new (Err fault) =
+    AskGives {X = Open} talks (taking open_in itself) (within_session ops) old new (Err fault)
     ⊎ ((mid : Client S A) × (o : Open)
-    × AskGives directions (taking open_in itself) (within_session ops) old mid (Ok o)
-    × FileGives directions text.over o text.bytes mid new (Err fault))
+    × AskGives talks (taking open_in itself) (within_session ops) old mid (Ok o)
+    × FileGives talks text.over o text.bytes mid new (Err fault))
 
 -- a file that is put: the operation that opens it, and its text
 pub record FilePut : Type 0 where
@@ -190,17 +190,17 @@ pub record FilePut : Type 0 where
   pub text : Text
 
 -- The file is opened in a directory along these names.
-abbrev pub PutAlong : {S A : Type 0} → Directions S → List (List ℕ) → FilePut → Client S A → Client S A
+abbrev pub PutAlong : {S A : Type 0} → Talking S → List (List ℕ) → FilePut → Client S A → Client S A
     → Result (Unit {0}) ToolFault → Type 0
-PutAlong directions names file old new result =
-    Walked directions most_before_two names
-    (λ route mid r. PutFileGives directions file.text (open_along mid route file.opens) mid new r) old new result
+PutAlong talks names file old new result =
+    Walked talks most_before_two names
+    (λ route mid r. PutFileGives talks file.text (open_along mid route file.opens) mid new r) old new result
 
 -- The file is put in its directory; or the path is wrong, and no operation is asked.
-abbrev pub PutCommandGives : {S A : Type 0} → Directions S → List ℕ → Text → Client S A → Client S A
+abbrev pub PutCommandGives : {S A : Type 0} → Talking S → List ℕ → Text → Client S A → Client S A
     → Result (Unit {0}) ToolFault → Type 0
-PutCommandGives directions path text old new result =
+PutCommandGives talks path text old new result =
     Commanded (OrLarge (AnyNames (OpenAsks old.client path (size_at_open text.over text.bytes))) (WrongPath path))
     (λ told. (directory : List (List ℕ)) × (op : Operation)
     × OpenAsks old.client path (size_at_open text.over text.bytes) directory op
-    × PutAlong directions directory (record { opens = op; text = text }) old new told) old new result
+    × PutAlong talks directory (record { opens = op; text = text }) old new told) old new result

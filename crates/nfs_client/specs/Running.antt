@@ -12,7 +12,7 @@ use Rattle.nfs_client.specs.MkDir.{MkDirAsks}
 use Rattle.nfs_client.specs.Mv.{MvAsks, WrongNames}
 use Rattle.nfs_client.specs.Put.{PutCommandGives}
 use Rattle.nfs_client.specs.Rm.{RmAsks, WrongPath}
-use Rattle.nfs_client.specs.Streams.{Directions}
+use Rattle.nfs_client.specs.Talking.{Talking}
 use Rattle.nfs_client.specs.Taking.{taking}
 use Rattle.nfs_client.specs.Walking.{BothGive, CommandGives, CommandTells}
 use Rattle.nfs_client.specs.Words.{CommandLine, Ls, Cat, Put, MkDir, Ln, Mv, Rm, ChMod, GetAcl, SetAcl, Access}
@@ -28,37 +28,37 @@ Tells {V = V} gives text result = (told : Result V ToolFault) × gives told × S
 
 -- The bytes of the file at a path, with a newline after them; or memory is refused for the newline,
 -- and no other command runs.
-abbrev pub CatTells : {S A : Type 0} → Directions S → List ℕ → Client S A → Client S A → Result (Answer A) ToolFault
+abbrev pub CatTells : {S A : Type 0} → Talking S → List ℕ → Client S A → Client S A → Result (Answer A) ToolFault
     → Type 0
-CatTells {S = S} {A = A} directions path old new result =
-    Tells {V = Vec ℕ A} (CatGives directions says_text path old new) says_line result
-    ⊎ ((bytes : Vec ℕ A) × (last : Client S A) × CatGives directions says_text path old last (Ok bytes)
+CatTells {S = S} {A = A} talks path old new result =
+    Tells {V = Vec ℕ A} (CatGives talks says_text path old new) says_line result
+    ⊎ ((bytes : Vec ℕ A) × (last : Client S A) × CatGives talks says_text path old last (Ok bytes)
     × (new ≡ record last { usable = false }) × (result ≡ Err Memory))
 
 -- the outcome of a command, as text
-abbrev pub Runs : {S A : Type 0} → Directions S → CommandLine → Client S A → Client S A → Result (Answer A) ToolFault
+abbrev pub Runs : {S A : Type 0} → Talking S → CommandLine → Client S A → Client S A → Result (Answer A) ToolFault
     → Type 0
-Runs {A = A} directions (Ls path) old new result =
-    Tells {V = Vec ℕ A} (LsGives directions says_text path old new) says_text result
-Runs directions (Cat path) old new result = CatTells directions path old new result
-Runs directions (Put path text) old new result =
-    Tells (PutCommandGives directions path (record { over = Dropped; bytes = text }) old new) says_ok result
-Runs directions (MkDir path) old new result =
-    Tells (CommandGives directions (MkDirAsks path) (WrongPath path) old new) says_ok result
-Runs directions (Ln from to) old new result =
-    Tells (BothGive directions (LnAsks from to) (WrongPaths from to) old new) says_ok result
-Runs directions (Mv from to) old new result =
-    Tells (BothGive directions (MvAsks from to) (WrongNames from to) old new) says_ok result
-Runs directions (Rm path) old new result =
-    Tells (CommandGives directions (RmAsks path) (WrongPath path) old new) says_ok result
-Runs directions (ChMod mode path) old new result =
-    Tells (CommandGives directions (ChModAsks mode path) (WrongMode mode path) old new) says_ok result
-Runs {A = A} directions (GetAcl part path) old new result =
+Runs {A = A} talks (Ls path) old new result =
+    Tells {V = Vec ℕ A} (LsGives talks says_text path old new) says_text result
+Runs talks (Cat path) old new result = CatTells talks path old new result
+Runs talks (Put path text) old new result =
+    Tells (PutCommandGives talks path (record { over = Dropped; bytes = text }) old new) says_ok result
+Runs talks (MkDir path) old new result =
+    Tells (CommandGives talks (MkDirAsks path) (WrongPath path) old new) says_ok result
+Runs talks (Ln from to) old new result =
+    Tells (BothGive talks (LnAsks from to) (WrongPaths from to) old new) says_ok result
+Runs talks (Mv from to) old new result =
+    Tells (BothGive talks (MvAsks from to) (WrongNames from to) old new) says_ok result
+Runs talks (Rm path) old new result =
+    Tells (CommandGives talks (RmAsks path) (WrongPath path) old new) says_ok result
+Runs talks (ChMod mode path) old new result =
+    Tells (CommandGives talks (ChModAsks mode path) (WrongMode mode path) old new) says_ok result
+Runs {A = A} talks (GetAcl part path) old new result =
     Tells {V = Vec ℕ A}
-    (CommandTells directions (taking (acl_in part) says_text) (GetAclAsks part path) (NoPath path) old new) says_text
+    (CommandTells talks (taking (acl_in part) says_text) (GetAclAsks part path) (NoPath path) old new) says_text
     result
-Runs directions (SetAcl part path entries) old new result =
-    Tells (CommandGives directions (SetAclAsks part path entries) (WrongList path entries) old new) says_ok result
-Runs directions (Access path) old new result =
-    Tells (CommandTells directions (taking rights_in rights_value) (AccessAsks path) (NoPath path) old new) says_rights
+Runs talks (SetAcl part path entries) old new result =
+    Tells (CommandGives talks (SetAclAsks part path entries) (WrongList path entries) old new) says_ok result
+Runs talks (Access path) old new result =
+    Tells (CommandTells talks (taking rights_in rights_value) (AccessAsks path) (NoPath path) old new) says_rights
     result

@@ -1,18 +1,19 @@
 -- open: a client is registered, and gets a session of one slot. end: session and client are destroyed.
-use Rattle.std.specs.Prelude.{◌≡◌, ◌⊎◌, ℕ, false, List, [], ◌∷◌, Option, Some, None, option_and_then, Result, Ok, Err}
+use Rattle.std.specs.Prelude.{◌≡◌, ◌⊎◌, ◌<◌, ◌≤◌, ℕ, false, List, [], ◌∷◌, length, Option, Some, None}
+use Rattle.std.specs.Prelude.{option_and_then, Result, Ok, Err}
 use Rattle.std.proofs.Common.{inl}
 use Rattle.xdr_wire.specs.Xdr.{Value}
 use Rattle.nfs_ops.specs.Forms.{channel}
 use Rattle.nfs_ops.specs.Operations.{Operation, Known}
 use Rattle.nfs_ops.specs.Results.{Outcome, Done}
 use Rattle.nfs_ops.specs.declared.OpKind.TheVariants as kinds
-use Rattle.nfs_client.specs.Streams.{Directions}
+use Rattle.nfs_client.specs.Talking.{Talking}
 use Rattle.nfs_client.specs.Taking.{last_of, taking, no_value}
 use Rattle.nfs_client.specs.Commands.{AskGives, outside_session, Breaks}
 use Rattle.nfs_client.specs.declared.client.Client.{Client}
 use Rattle.nfs_client.specs.declared.sessions.Registration.{Registration}
 use Rattle.nfs_client.specs.declared.fault.ToolFault.{ToolFault}
-use Rattle.nfs_client.specs.declared.fault.ToolFault.TheVariants.{Failed}
+use Rattle.nfs_client.specs.declared.fault.ToolFault.TheVariants.{Failed, TooLarge}
 
 -- ---- operations
 
@@ -75,46 +76,59 @@ pub record IsNew {S A : Type 0} (stream : S) (uid gid : ℕ) (client : Client S 
   pub user : client.uid ≡ uid
   pub group : client.gid ≡ gid
 
-abbrev pub MadeKnown : {S A : Type 0} → Directions S → ClientOwner → Client S A → Client S A
+abbrev pub MadeKnown : {S A : Type 0} → Talking S → ClientOwner → Client S A → Client S A
     → Result Registration ToolFault → Type 0
-MadeKnown directions owner old new result =
-    AskGives directions (taking record_in record_value) (outside_session (exchange_id owner ∷ [])) old new result
+MadeKnown talks owner old new result =
+    AskGives talks (taking record_in record_value) (outside_session (exchange_id owner ∷ [])) old new result
 
-abbrev pub SessionMade : {S A : Type 0} → Directions S → Registration → Client S A → Client S A
+abbrev pub SessionMade : {S A : Type 0} → Talking S → Registration → Client S A → Client S A
     → Result (List ℕ) ToolFault → Type 0
-SessionMade directions r old new result =
-    AskGives directions (taking session_in session_value) (outside_session (create_session r.client r.number ∷ []))
+SessionMade talks r old new result =
+    AskGives talks (taking session_in session_value) (outside_session (create_session r.client r.number ∷ []))
     old new result
 
--- EXCHANGE_ID gives a client id, and CREATE_SESSION by its numbers a session, on which the client
--- calls by number 1 then. Or the first exchange fails, or the second.
-abbrev pub OpenGives : {S A : Type 0} → Directions S → S → ℕ → ℕ → ClientOwner → Result (Client S A) ToolFault
-    → Type 0
-OpenGives {S} {A} directions stream uid gid owner (Ok client) =
-    (start : Client S A) × (known : Client S A) × (made : Client S A) × (r : Registration) × (session : List ℕ)
-    × IsNew stream uid gid start
-    × MadeKnown directions owner start known (Ok r)
-    × SessionMade directions r known made (Ok session)
-    × (client ≡ record made { client = r.client; session = session; number = 1 })
-OpenGives {S} {A} directions stream uid gid owner (Err fault) =
-    (start : Client S A) × (known : Client S A) × IsNew stream uid gid start
-    × (MadeKnown directions owner start known (Err fault)
-    ⊎ ((made : Client S A) × (r : Registration) × MadeKnown directions owner start known (Ok r)
-    × SessionMade directions r known made (Err fault)))
+-- the most bytes of an owner's id (NFS4_OPAQUE_LIMIT: RFC 8881, section 3.1)
+abbrev pub most_of_owner : ℕ
+most_of_owner = 1024
 
-abbrev pub Ends : {S A : Type 0} → Directions S → Operation → Client S A → Client S A → Result (Unit {0}) ToolFault
+-- EXCHANGE_ID gives a client id, and CREATE_SESSION by its numbers a session, on which the client
+-- calls by number 1 then. Or the owner's id is too long, and nothing is sent; or the first exchange
+-- fails, or the second.
+abbrev pub Begins : {S A : Type 0} → Talking S → ClientOwner → Client S A → Client S A → Result (Unit {0}) ToolFault
     → Type 0
-Ends directions op old new result = AskGives directions no_value (outside_session (op ∷ [])) old new result
+Begins {S} {A} talks owner old new (Ok done) =
+    (known : Client S A) × (made : Client S A) × (r : Registration) × (session : List ℕ)
+    × MadeKnown talks owner old known (Ok r)
+    × SessionMade talks r known made (Ok session)
+    × (new ≡ record made { client = r.client; session = session; number = 1 })
+Begins {S} {A} talks owner old new (Err fault) =
+    ((most_of_owner < length owner.id) × (fault ≡ TooLarge) × (new ≡ old))
+    ⊎ ((length owner.id ≤ most_of_owner)
+    × (MadeKnown talks owner old new (Err fault)
+    ⊎ ((known : Client S A) × (r : Registration) × MadeKnown talks owner old known (Ok r)
+    × SessionMade talks r known new (Err fault))))
+
+-- a client of this user and group over the stream begins with a session, or fails to
+abbrev pub OpenGives : {S A : Type 0} → Talking S → S → ℕ → ℕ → ClientOwner → Result (Client S A) ToolFault → Type 0
+OpenGives {S} {A} talks stream uid gid owner (Ok client) =
+    (start : Client S A) × IsNew stream uid gid start × Begins talks owner start client (Ok tt)
+OpenGives {S} {A} talks stream uid gid owner (Err fault) =
+    (start : Client S A) × (left : Client S A) × IsNew stream uid gid start
+    × Begins talks owner start left (Err fault)
+
+abbrev pub Ends : {S A : Type 0} → Talking S → Operation → Client S A → Client S A → Result (Unit {0}) ToolFault
+    → Type 0
+Ends talks op old new result = AskGives talks no_value (outside_session (op ∷ [])) old new result
 
 -- DESTROY_SESSION is OK, and then DESTROY_CLIENTID; or the first exchange fails, or the second.
 -- Where memory was refused for the second, or its call is too large, no other command runs.
-abbrev pub EndGives : {S A : Type 0} → Directions S → Client S A → Client S A → Result (Unit {0}) ToolFault → Type 0
-EndGives {S} {A} directions old new (Ok done) =
-    (mid : Client S A) × Ends directions (destroy_session old.session) old mid (Ok tt)
-    × Ends directions (destroy_client old.client) mid new (Ok tt)
-EndGives directions old new (Err Failed) = (old.usable ≡ false) × (new ≡ old)
-EndGives {S} {A} directions old new (Err fault) =
-    Ends directions (destroy_session old.session) old new (Err fault)
-    ⊎ ((mid : Client S A) × (last : Client S A) × Ends directions (destroy_session old.session) old mid (Ok tt)
-    × Ends directions (destroy_client old.client) mid last (Err fault)
+abbrev pub EndGives : {S A : Type 0} → Talking S → Client S A → Client S A → Result (Unit {0}) ToolFault → Type 0
+EndGives {S} {A} talks old new (Ok done) =
+    (mid : Client S A) × Ends talks (destroy_session old.session) old mid (Ok tt)
+    × Ends talks (destroy_client old.client) mid new (Ok tt)
+EndGives talks old new (Err Failed) = (old.usable ≡ false) × (new ≡ old)
+EndGives {S} {A} talks old new (Err fault) =
+    Ends talks (destroy_session old.session) old new (Err fault)
+    ⊎ ((mid : Client S A) × (last : Client S A) × Ends talks (destroy_session old.session) old mid (Ok tt)
+    × Ends talks (destroy_client old.client) mid last (Err fault)
     × Breaks {X = Unit {0}} (Err fault) last new)

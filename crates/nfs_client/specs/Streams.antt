@@ -97,6 +97,7 @@ abbrev pub TalkFails : {S : Type 0} → Directions S → S → S → List ℕ �
 TalkFails directions old new call Write = WritesFront (directions.contents old) (directions.contents new) call
 TalkFails directions old new call fault = Unheard directions old new call fault
 
-abbrev pub TalkGives : {S X : Type 0} → Directions S → (X → List ℕ) → S → S → List ℕ → Result X ToolFault → Type 0
-TalkGives directions bytes old new call (Ok content) = Talked directions old new call (bytes content)
-TalkGives directions bytes old new call (Err fault) = TalkFails directions old new call fault
+-- over a stream: a call is written and a record is read after it, or one of both fails
+abbrev pub TalkGives : {S : Type 0} → Directions S → S → List ℕ → Result (List ℕ) ToolFault → S → Type 0
+TalkGives directions old call (Ok content) new = Talked directions old new call content
+TalkGives directions old call (Err fault) new = TalkFails directions old new call fault

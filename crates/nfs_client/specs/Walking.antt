@@ -8,7 +8,7 @@ use Rattle.nfs_client.specs.Compound.{IsLarge}
 use Rattle.nfs_client.specs.Paging.{itself}
 use Rattle.nfs_client.specs.Requests.{Asks}
 use Rattle.nfs_client.specs.Routes.{Route, walk, along, most_names, most_of_both, left_of_first}
-use Rattle.nfs_client.specs.Streams.{Directions}
+use Rattle.nfs_client.specs.Talking.{Talking}
 use Rattle.nfs_client.specs.Taking.{Taking, no_value}
 use Rattle.nfs_client.specs.declared.client.Client.{Client}
 use Rattle.nfs_client.specs.declared.request.Request.{Request}
@@ -31,17 +31,17 @@ OrLarge asks wrong fault = wrong fault
 abbrev pub AnyNames : (List (List ℕ) → Operation → Type 0) → Operation → Type 0
 AnyNames asks op = (names : List (List ℕ)) × asks names op
 
-module _ {S A : Type 0} (directions : Directions S) where
+module _ {S A : Type 0} (talks : Talking S) where
   -- The outcome of approaches until at most this many names are left, and then of a step with the
   -- route left; or an approach fails.
   abbrev pub Walked : {X : Type 0} → ℕ → List (List ℕ) → (Route → Client S A → Result X ToolFault → Type 0)
       → Client S A → Client S A → Result X ToolFault → Type 0
   Walked most names does old new (Ok x) =
-      (mid : Client S A) × (route : Route) × WalkGives directions itself most names old mid (Ok route)
+      (mid : Client S A) × (route : Route) × WalkGives talks itself most names old mid (Ok route)
       × does route mid (Ok x)
   Walked most names does old new (Err fault) =
-      WalkFails directions most names old new fault
-      ⊎ ((mid : Client S A) × (route : Route) × WalkGives directions itself most names old mid (Ok route)
+      WalkFails talks most names old new fault
+      ⊎ ((mid : Client S A) × (route : Route) × WalkGives talks itself most names old mid (Ok route)
       × does route mid (Err fault))
 
   -- The outcome of a command that asks an operation at the end of a path, unless its words are
@@ -51,7 +51,7 @@ module _ {S A : Type 0} (directions : Directions S) where
   CommandTells takes asks wrong old new result =
       Commanded (OrLarge (AnyNames asks) wrong)
       (λ told. (names : List (List ℕ)) × (op : Operation) × asks names op × Walked most_names names
-      (λ route mid r. AskGives directions takes (within_session (along mid route op)) mid new r) old new
+      (λ route mid r. AskGives talks takes (within_session (along mid route op)) mid new r) old new
       told) old new result
 
   -- the outcome of a command that takes no value
@@ -68,7 +68,7 @@ module _ {S A : Type 0} (directions : Directions S) where
       (λ told. (names : List (List ℕ)) × (others : List (List ℕ)) × (op : Operation) × asks names others op
       × Walked (left_of_first (length names) (length others)) names
       (λ first mid r. Walked most_of_both others
-      (λ second last s. AskGives directions no_value (within_session (along_both last first second op)) last new s)
+      (λ second last s. AskGives talks no_value (within_session (along_both last first second op)) last new s)
       mid new r)
       old new told) old new result
 
@@ -76,16 +76,16 @@ module _ {S A : Type 0} (directions : Directions S) where
   pub record Unready (most : ℕ) (names : List (List ℕ)) (old new : Client S A) (fault : ToolFault) : Type 0 where
     pub is_memory : fault ≡ Memory
     pub route : Route
-    pub walk : WalkGives directions itself most names old new (Ok route)
+    pub walk : WalkGives talks itself most names old new (Ok route)
 
   -- The request of an operation at the end of a path, which walks the names left. Or an approach
   -- fails, or memory is refused for the request.
   abbrev pub ReadyGives : List (List ℕ) → Operation → Client S A → Client S A → Result (Request A) ToolFault → Type 0
   ReadyGives names op old new (Ok request) =
-      (route : Route) × WalkGives directions itself most_names names old new (Ok route)
+      (route : Route) × WalkGives talks itself most_names names old new (Ok route)
       × Asks request (along new route op)
   ReadyGives names op old new (Err fault) =
-      WalkFails directions most_names names old new fault ⊎ Unready most_names names old new fault
+      WalkFails talks most_names names old new fault ⊎ Unready most_names names old new fault
 
   -- The request of an operation at the ends of two paths. Or an approach of the first or of the
   -- second fails, or memory is refused.
@@ -93,13 +93,13 @@ module _ {S A : Type 0} (directions : Directions S) where
       → Result (Request A) ToolFault → Type 0
   BothReady names others op old new (Ok request) =
       (mid : Client S A) × (first : Route) × (second : Route)
-      × WalkGives directions itself (left_of_first (length names) (length others)) names old mid
+      × WalkGives talks itself (left_of_first (length names) (length others)) names old mid
       (Ok first)
-      × WalkGives directions itself most_of_both others mid new (Ok second)
+      × WalkGives talks itself most_of_both others mid new (Ok second)
       × Asks request (along_both new first second op)
   BothReady names others op old new (Err fault) =
-      WalkFails directions (left_of_first (length names) (length others)) names old new fault
+      WalkFails talks (left_of_first (length names) (length others)) names old new fault
       ⊎ ((mid : Client S A) × (first : Route)
-      × WalkGives directions itself (left_of_first (length names) (length others)) names old mid
+      × WalkGives talks itself (left_of_first (length names) (length others)) names old mid
       (Ok first) ×
-      (WalkFails directions most_of_both others mid new fault ⊎ Unready most_of_both others mid new fault))
+      (WalkFails talks most_of_both others mid new fault ⊎ Unready most_of_both others mid new fault))

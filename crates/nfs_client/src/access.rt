@@ -7,7 +7,6 @@ ghost use Rattle.nfs_client.specs.Commands.{AskGives, within_session};
 ghost use Rattle.nfs_client.specs.Compound.{said};
 ghost use Rattle.nfs_client.specs.Requests.{Asks};
 ghost use Rattle.nfs_client.specs.CompoundViews.{outcomes};
-ghost use Rattle.nfs_client.specs.Streams.{directions_of};
 ghost use Rattle.nfs_client.specs.Taking.{SaidGives, TakeGives, taking};
 ghost use Rattle.nfs_client.specs.Walking.{CommandTells};
 ghost use Rattle.nfs_client.specs.declared.fault.ToolFault.TheVariants.{Failed};
@@ -17,9 +16,9 @@ use crate::fault::ToolFault;
 use crate::path::Path;
 use crate::request::Request;
 use crate::taking::last;
+use crate::transport::Transport;
 use nfs_ops::{AccessArgs, AccessResult, Op, OpResult};
 use std::alloc::Allocator;
-use std::io::{Read, Write};
 
 /// The rights that ACCESS asks for: READ, LOOKUP, MODIFY, EXTEND, DELETE and EXECUTE.
 const ALL_RIGHTS: u32 = 0x3f;
@@ -57,13 +56,13 @@ impl<A: Allocator + Copy> Reply<A> {
     }
 }
 
-impl<S: Read + Write, A: Allocator + Copy> Client<S, A> {
+impl<S: Transport, A: Allocator + Copy> Client<S, A> {
     ghost use Rattle.std.specs.Prelude.{true, List};
     ghost use Rattle.nfs_ops.specs.Operations.{Operation};
 
     fn ask_rights(&mut self, request: Request<A>) -> Result<AccessResult, ToolFault>
         ensures { (ops : List Operation) → Asks request ops →
-            AskGives (directions_of S.contents S.remaining) (taking rights_in rights_value) (within_session ops)
+            AskGives S.talks (taking rights_in rights_value) (within_session ops)
             self.old self.new result }
     {
         let reply = match self.exchange(request) {
@@ -78,7 +77,7 @@ impl<S: Read + Write, A: Allocator + Copy> Client<S, A> {
     /// The rights of ACCESS that are supported for an object, of six, and those of them that the caller has.
     pub fn access(&mut self, path: &[u8]) -> Result<AccessResult, ToolFault>
         ensures failed { self.old.usable ≡ false → result ≡ Err Failed }
-        ensures gives { CommandTells (directions_of S.contents S.remaining) (taking rights_in rights_value)
+        ensures gives { CommandTells S.talks (taking rights_in rights_value)
             (AccessAsks path.now) (NoPath path.now) self.old self.new result }
     {
         self.start()?;

@@ -9,7 +9,6 @@ ghost use Rattle.nfs_client.specs.Compound.{said};
 ghost use Rattle.nfs_client.specs.Requests.{Asks, PutGives};
 ghost use Rattle.nfs_client.specs.Routes.{along};
 ghost use Rattle.nfs_client.specs.RouteViews.{route_from, route_value};
-ghost use Rattle.nfs_client.specs.Streams.{directions_of};
 ghost use Rattle.nfs_client.specs.Taking.{SaidGives, TakeGives, taking};
 ghost use Rattle.nfs_client.specs.Walking.{along_both, BothReady, ReadyGives};
 
@@ -18,10 +17,10 @@ use crate::fault::ToolFault;
 use crate::request::Request;
 use crate::route::{MOST_NAMES, MOST_OF_BOTH, Route, Start, left_of_first, nearest};
 use crate::taking::last;
+use crate::transport::Transport;
 use nfs_ops::{Op, OpResult};
 use nfs_types::Handle;
 use std::alloc::{AllocError, Allocator};
-use std::io::{Read, Write};
 
 /// The filehandle in the result of a GETFH.
 pub(crate) fn handle_told(found: OpResult<'_>) -> Option<Handle<'_>>
@@ -77,7 +76,7 @@ impl<A: Allocator + Copy> Reply<A> {
     }
 }
 
-impl<S: Read + Write, A: Allocator + Copy> Client<S, A> {
+impl<S: Transport, A: Allocator + Copy> Client<S, A> {
     /// The request of the filehandle at the end of these names.
     fn prepare_approach(&self, start: &Start<A>, names: &[&[u8]]) -> Result<Request<A>, ToolFault>
         ensures asks { IfOk result (λ r. Asks r (approach self.now (route_from start.now names.now))) }
@@ -92,7 +91,7 @@ impl<S: Read + Write, A: Allocator + Copy> Client<S, A> {
 
     /// Walks these names by a COMPOUND of their own. The filehandle at their end.
     fn approach(&mut self, start: &Start<A>, names: &[&[u8]]) -> Result<Vec<u8, A>, ToolFault>
-        ensures { AskGives (directions_of S.contents S.remaining) (taking handle_in (λ v. v.items))
+        ensures { AskGives S.talks (taking handle_in (λ v. v.items))
             (within_session (approach self.old (route_from start.now names.now))) self.old self.new result }
     {
         let request = self.prepare_approach(start, names)?;
@@ -112,7 +111,7 @@ impl<S: Read + Write, A: Allocator + Copy> Client<S, A> {
         names: &'a [&'a [u8]],
         most: usize,
     ) -> Result<Route<'a, A>, ToolFault>
-        ensures { WalkGives (directions_of S.contents S.remaining) route_value most (map (λ n. n.now) names.entry.now)
+        ensures { WalkGives S.talks route_value most (map (λ n. n.now) names.entry.now)
             self.old self.new result }
     {
         let mut start = Start::Root;
@@ -149,7 +148,7 @@ impl<S: Read + Write, A: Allocator + Copy> Client<S, A> {
 
     /// Approaches the end of a path. The request of an operation there, which walks the names left.
     pub(crate) fn ready(&mut self, names: &[&[u8]], op: Op<'_>) -> Result<Request<A>, ToolFault>
-        ensures { ReadyGives (directions_of S.contents S.remaining) (map (λ n. n.now) names.now) (op_view op.entry)
+        ensures { ReadyGives S.talks (map (λ n. n.now) names.now) (op_view op.entry)
             self.old self.new result }
     {
         match self.reach(names, MOST_NAMES) {
@@ -186,7 +185,7 @@ impl<S: Read + Write, A: Allocator + Copy> Client<S, A> {
         others: &[&[u8]],
         op: Op<'_>,
     ) -> Result<Request<A>, ToolFault>
-        ensures { BothReady (directions_of S.contents S.remaining) (map (λ n. n.now) names.now)
+        ensures { BothReady S.talks (map (λ n. n.now) names.now)
             (map (λ n. n.now) others.now) (op_view op.entry) self.old self.new result }
     {
         let first = match self.reach(names, left_of_first(names.len(), others.len())) {

@@ -9,7 +9,6 @@ ghost use Rattle.nfs_client.specs.CompoundViews.{outcomes};
 ghost use Rattle.nfs_client.specs.GetAttr.{GetAttrAsks, attributes_of, attributes_in};
 ghost use Rattle.nfs_client.specs.GetAttrViews.{given_value};
 ghost use Rattle.nfs_client.specs.Requests.{Asks};
-ghost use Rattle.nfs_client.specs.Streams.{directions_of};
 ghost use Rattle.nfs_client.specs.Taking.{SaidGives, TakeGives, taking};
 ghost use Rattle.nfs_client.specs.Walking.{CommandTells};
 ghost use Rattle.nfs_client.specs.declared.fault.ToolFault.TheVariants.{Failed};
@@ -19,10 +18,10 @@ use crate::fault::ToolFault;
 use crate::path::Path;
 use crate::request::Request;
 use crate::taking::last;
+use crate::transport::Transport;
 use nfs_ops::{GetAttrArgs, Op, OpResult};
 use nfs_types::{Attributes, Bitmap};
 use std::alloc::{Allocator, Global};
-use std::io::{Read, Write};
 
 /// The attributes of an object that a server gave: which, and their values, one after the other by
 /// rising number (RFC 8881, section 3.3.9).
@@ -60,13 +59,13 @@ impl<A: Allocator + Copy> Reply<A> {
     }
 }
 
-impl<S: Read + Write, A: Allocator + Copy> Client<S, A> {
+impl<S: Transport, A: Allocator + Copy> Client<S, A> {
     ghost use Rattle.std.specs.Prelude.{true, List};
     ghost use Rattle.nfs_ops.specs.Operations.{Operation};
 
     fn ask_attributes(&mut self, request: Request<A>) -> Result<Given<A>, ToolFault>
         ensures { (ops : List Operation) → Asks request ops →
-            AskGives (directions_of S.contents S.remaining) (taking attributes_in given_value) (within_session ops)
+            AskGives S.talks (taking attributes_in given_value) (within_session ops)
             self.old self.new result }
     {
         let reply = match self.exchange(request) {
@@ -82,7 +81,7 @@ impl<S: Read + Write, A: Allocator + Copy> Client<S, A> {
     /// `Stat::read` reads some of them.
     pub fn attributes(&mut self, path: &[u8], asked: Bitmap) -> Result<Given<A>, ToolFault>
         ensures failed { self.old.usable ≡ false → result ≡ Err Failed }
-        ensures gives { CommandTells (directions_of S.contents S.remaining) (taking attributes_in given_value)
+        ensures gives { CommandTells S.talks (taking attributes_in given_value)
             (GetAttrAsks path.now (bitmap_value asked)) (NoPath path.now) self.old self.new result }
     {
         self.start()?;

@@ -7,7 +7,6 @@ ghost use Rattle.nfs_client.specs.Compound.{said};
 ghost use Rattle.nfs_client.specs.Paging.{PagesGive, so_far};
 ghost use Rattle.nfs_client.specs.Requests.{Asks, PutGives};
 ghost use Rattle.nfs_client.specs.RouteViews.{route_value};
-ghost use Rattle.nfs_client.specs.Streams.{directions_of};
 ghost use Rattle.nfs_client.specs.Taking.{SaidGives, taking};
 ghost use Rattle.nfs_client.specs.declared.fault.ToolFault.TheVariants.{Failed};
 
@@ -17,10 +16,10 @@ use crate::path::Path;
 use crate::request::Request;
 use crate::route::{MOST_NAMES, Route};
 use crate::taking::last;
+use crate::transport::Transport;
 use nfs_ops::{MAX_READ, Op, OpResult, ReadArgs, ReadResult};
 use nfs_types::StateId;
 use std::alloc::Allocator;
-use std::io::{Read, Write};
 
 /// The most calls of one command.
 pub(crate) const MOST_CALLS: u32 = 10_000;
@@ -65,7 +64,7 @@ impl<A: Allocator + Copy> Reply<A> {
     }
 }
 
-impl<S: Read + Write, A: Allocator + Copy> Client<S, A> {
+impl<S: Transport, A: Allocator + Copy> Client<S, A> {
     ghost use Rattle.std.specs.Prelude.{IfOk};
 
     /// The request of the bytes from an offset on.
@@ -88,7 +87,7 @@ impl<S: Read + Write, A: Allocator + Copy> Client<S, A> {
         route: &Route<'_, A>,
         bytes: &mut Vec<u8, A>,
     ) -> Result<bool, ToolFault>
-        ensures { ReadGives (directions_of S.contents S.remaining) (route_value route.now)
+        ensures { ReadGives S.talks (route_value route.now)
             (so_far self.old bytes.old.items) (so_far self.new bytes.new.items) result }
     {
         let request = self.prepare_read(route, bytes.len())?;
@@ -103,7 +102,7 @@ impl<S: Read + Write, A: Allocator + Copy> Client<S, A> {
 
     /// Reads piece after piece.
     fn read_all(&mut self, route: &Route<'_, A>) -> Result<Vec<u8, A>, ToolFault>
-        ensures { PagesGive (by_pieces (directions_of S.contents S.remaining) (route_value route.now)) (λ v. v.items)
+        ensures { PagesGive (by_pieces S.talks (route_value route.now)) (λ v. v.items)
             bytes_of self.old self.new result }
     {
         let mut bytes = Vec::new(self.alloc);
@@ -123,7 +122,7 @@ impl<S: Read + Write, A: Allocator + Copy> Client<S, A> {
     /// The bytes of a file, in at most 10,000 calls. `Reply`: the file has more bytes.
     pub fn cat(&mut self, path: &[u8]) -> Result<Vec<u8, A>, ToolFault>
         ensures failed { self.old.usable ≡ false → result ≡ Err Failed }
-        ensures gives { CatGives (directions_of S.contents S.remaining) (λ v. v.items) path.now
+        ensures gives { CatGives S.talks (λ v. v.items) path.now
             self.old self.new result }
     {
         self.start()?;

@@ -3,7 +3,6 @@ ghost use Rattle.std.specs.Prelude.{◌≡◌, false, Err};
 ghost use Rattle.nfs_types.specs.ShownViews.{shown_value};
 ghost use Rattle.nfs_client.specs.ChMod.{ChModAsks, WrongMode};
 ghost use Rattle.nfs_client.specs.Setting.{of_mode};
-ghost use Rattle.nfs_client.specs.Streams.{directions_of};
 ghost use Rattle.nfs_client.specs.Walking.{CommandGives};
 ghost use Rattle.nfs_client.specs.declared.fault.ToolFault.TheVariants.{Failed};
 
@@ -12,9 +11,9 @@ use crate::fault::ToolFault;
 use crate::modes::read_mode;
 use crate::path::Path;
 use crate::setting::{setting, values_of};
+use crate::transport::Transport;
 use nfs_types::ShownAttributes;
 use std::alloc::Allocator;
-use std::io::{Read, Write};
 
 /// The mode alone.
 fn of_mode(mode: u32) -> ShownAttributes<'static>
@@ -33,12 +32,12 @@ fn of_mode(mode: u32) -> ShownAttributes<'static>
     }
 }
 
-impl<S: Read + Write, A: Allocator + Copy> Client<S, A> {
+impl<S: Transport, A: Allocator + Copy> Client<S, A> {
     /// Sets the mode of an object to this word of one to four octal digits, and the access control
     /// list with the mode. `Entry`: the word is no mode.
     pub fn chmod(&mut self, word: &[u8], path: &[u8]) -> Result<(), ToolFault>
         ensures failed { self.old.usable ≡ false → result ≡ Err Failed }
-        ensures gives { CommandGives (directions_of S.contents S.remaining) (ChModAsks word.now path.now)
+        ensures gives { CommandGives S.talks (ChModAsks word.now path.now)
             (WrongMode word.now path.now) self.old self.new result }
     {
         self.start()?;

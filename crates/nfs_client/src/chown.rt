@@ -3,7 +3,6 @@ ghost use Rattle.std.specs.Prelude.{◌≡◌, false, Err};
 ghost use Rattle.nfs_types.specs.ShownViews.{shown_value};
 ghost use Rattle.nfs_client.specs.Access.{NoPath};
 ghost use Rattle.nfs_client.specs.ChOwn.{ChOwnAsks, ChGrpAsks, SetAsks, of_owner, of_group};
-ghost use Rattle.nfs_client.specs.Streams.{directions_of};
 ghost use Rattle.nfs_client.specs.Walking.{CommandGives};
 ghost use Rattle.nfs_client.specs.declared.fault.ToolFault.TheVariants.{Failed};
 
@@ -12,10 +11,10 @@ use crate::fault::ToolFault;
 use crate::path::Path;
 use crate::request::sendable;
 use crate::setting::{setting, values_of};
+use crate::transport::Transport;
 use nfs_ops::Bytes;
 use nfs_types::ShownAttributes;
 use std::alloc::Allocator;
-use std::io::{Read, Write};
 
 /// The owner alone.
 fn of_owner(owner: Bytes<'_>) -> ShownAttributes<'_>
@@ -51,10 +50,10 @@ fn of_group(group: Bytes<'_>) -> ShownAttributes<'_>
     }
 }
 
-impl<S: Read + Write, A: Allocator + Copy> Client<S, A> {
+impl<S: Transport, A: Allocator + Copy> Client<S, A> {
     /// Sets these attributes of an object.
     fn set_shown(&mut self, path: &[u8], shown: &ShownAttributes<'_>) -> Result<(), ToolFault>
-        ensures { CommandGives (directions_of S.contents S.remaining) (SetAsks (shown_value shown.now) path.now)
+        ensures { CommandGives S.talks (SetAsks (shown_value shown.now) path.now)
             (NoPath path.now) self.old self.new result }
     {
         let path = match Path::read(self.alloc, path) {
@@ -72,7 +71,7 @@ impl<S: Read + Write, A: Allocator + Copy> Client<S, A> {
     /// Sets the owner of an object to this text: a name and the domain of the server's book, or a number.
     pub fn chown(&mut self, owner: &[u8], path: &[u8]) -> Result<(), ToolFault>
         ensures failed { self.old.usable ≡ false → result ≡ Err Failed }
-        ensures gives { CommandGives (directions_of S.contents S.remaining) (ChOwnAsks owner.now path.now)
+        ensures gives { CommandGives S.talks (ChOwnAsks owner.now path.now)
             (NoPath path.now) self.old self.new result }
     {
         self.start()?;
@@ -83,7 +82,7 @@ impl<S: Read + Write, A: Allocator + Copy> Client<S, A> {
     /// Sets the owning group of an object to this text: a name and the domain of the server's book, or a number.
     pub fn chgrp(&mut self, group: &[u8], path: &[u8]) -> Result<(), ToolFault>
         ensures failed { self.old.usable ≡ false → result ≡ Err Failed }
-        ensures gives { CommandGives (directions_of S.contents S.remaining) (ChGrpAsks group.now path.now)
+        ensures gives { CommandGives S.talks (ChGrpAsks group.now path.now)
             (NoPath path.now) self.old self.new result }
     {
         self.start()?;

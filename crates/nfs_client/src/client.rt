@@ -4,20 +4,19 @@ ghost use Rattle.nfs_ops.specs.Operations.{Operation};
 ghost use Rattle.nfs_client.specs.Compound.{said};
 ghost use Rattle.nfs_client.specs.CompoundViews.{outcomes, Says};
 ghost use Rattle.nfs_client.specs.Requests.{Asks};
-ghost use Rattle.nfs_client.specs.Streams.{directions_of};
 ghost use Rattle.nfs_client.specs.Taking.{SaidGives, no_value};
 ghost use Rattle.nfs_client.specs.Commands.{takes_number};
 
 use crate::answer::read_answer;
 use crate::fault::ToolFault;
 use crate::request::Request;
-use crate::stream::talk;
+use crate::transport::Transport;
 use nfs_ops::{OP_SEQUENCE, Op, OpResult, SequenceArgs};
 use rpc_record::Caller;
 use std::alloc::{Allocator, Global};
-use std::io::{Read, Write};
 
-/// A client of a server at the other end of a stream, with one session of one slot.
+/// A client of a server that it calls over a stream or another transport, with one session of one
+/// slot.
 #[derive(Drop)]
 pub struct Client<S, A: Allocator = Global> {
     pub(crate) alloc: A,
@@ -70,7 +69,7 @@ fn takes_number(in_session: bool, op: u32) -> bool
     in_session && op != OP_SEQUENCE
 }
 
-impl<S: Read + Write, A: Allocator + Copy> Client<S, A> {
+impl<S: Transport, A: Allocator + Copy> Client<S, A> {
     ghost use Rattle.nfs_client.specs.Client.{ExchangeGives, next};
     ghost use Rattle.nfs_client.specs.Commands.{sequence, Concludes, Spoils, Breaks, AskGives};
     ghost use Rattle.nfs_client.specs.declared.fault.ToolFault.TheVariants.{Memory, Failed};
@@ -105,10 +104,17 @@ impl<S: Read + Write, A: Allocator + Copy> Client<S, A> {
         }
     }
 
-    /// Writes the call of a request's operations, and reads the record after it.
+    /// The stream that the client calls over.
+    pub fn into_stream(self) -> S
+        ensures { result ≡ self.stream }
+    {
+        self.stream
+    }
+
+    /// Sends the call of a request's operations, and takes the record after it.
     pub(crate) fn exchange(&mut self, request: Request<A>) -> Result<Reply<A>, ToolFault>
         ensures { (ops : List Operation) → Asks request ops →
-            ExchangeGives (directions_of S.contents S.remaining) ops self.old self.new result }
+            ExchangeGives S.talks ops self.old self.new result }
     {
         let xid = self.xid;
         let caller = Caller::new(self.uid, self.gid, &[]);
@@ -119,7 +125,7 @@ impl<S: Read + Write, A: Allocator + Copy> Client<S, A> {
         let asked = request.into_asked();
         self.usable = false;
         self.xid = xid.wrapping_add(1);
-        let heard = talk(self.alloc, &mut self.stream, &call);
+        let heard = self.stream.talk(self.alloc, &call);
         match heard {
             Ok(content) => Ok(Reply {
                 xid,
@@ -185,7 +191,7 @@ impl<S: Read + Write, A: Allocator + Copy> Client<S, A> {
     /// Asks a request's operations, where it is enough that they are OK.
     pub(crate) fn run(&mut self, request: Request<A>, in_session: bool) -> Result<(), ToolFault>
         ensures { (ops : List Operation) → Asks request ops →
-            AskGives (directions_of S.contents S.remaining) no_value (record { ops = ops; in_session = in_session })
+            AskGives S.talks no_value (record { ops = ops; in_session = in_session })
             self.old self.new result }
     {
         let reply = match self.exchange(request) {

@@ -33,7 +33,8 @@ pub enum ToolFault {
     /// An earlier command left the stream in a state in which no other command can follow.
     #[error("an earlier command failed")]
     Failed,
-    /// A call would be a record of more than 131,072 bytes, which no server takes.
+    /// A call would be a record of more than 131,072 bytes, which no server takes; or the owner of a
+    /// client has more than 1,024 bytes.
     #[error("a call is too large")]
     TooLarge,
 }

@@ -16,7 +16,6 @@ ghost use Rattle.nfs_client.specs.Compound.{said};
 ghost use Rattle.nfs_client.specs.CompoundViews.{outcomes};
 ghost use Rattle.nfs_client.specs.EntryViews.{entry_line};
 ghost use Rattle.nfs_client.specs.Requests.{Asks};
-ghost use Rattle.nfs_client.specs.Streams.{directions_of};
 ghost use Rattle.nfs_client.specs.Taking.{SaidGives, TakeGives, taking};
 ghost use Rattle.nfs_client.specs.Walking.{CommandTells};
 ghost use Rattle.nfs_client.specs.declared.fault.ToolFault.TheVariants.{Failed};
@@ -28,11 +27,11 @@ use crate::list_part::ListPart;
 use crate::path::Path;
 use crate::request::Request;
 use crate::taking::last;
+use crate::transport::Transport;
 use acl_list::EntryKind;
 use nfs_ops::{GetAttrArgs, Op, OpResult};
 use nfs_types::{Ace, Attributes, Bitmap, SeenAttributes, read_given};
 use std::alloc::Allocator;
-use std::io::{Read, Write};
 use xdr_wire::Array;
 
 /// The entries of a given list.
@@ -148,10 +147,10 @@ impl<A: Allocator + Copy> Reply<A> {
     }
 }
 
-impl<S: Read + Write, A: Allocator + Copy> Client<S, A> {
+impl<S: Transport, A: Allocator + Copy> Client<S, A> {
     fn ask_list(&mut self, part: ListPart, request: Request<A>) -> Result<Vec<u8, A>, ToolFault>
         ensures { (ops : List Operation) → Asks request ops →
-            AskGives (directions_of S.contents S.remaining) (taking (acl_in part) (λ v. v.items)) (within_session ops)
+            AskGives S.talks (taking (acl_in part) (λ v. v.items)) (within_session ops)
             self.old self.new result }
     {
         let reply = match self.exchange(request) {
@@ -166,7 +165,7 @@ impl<S: Read + Write, A: Allocator + Copy> Client<S, A> {
     /// The access control list of an object, or a part of it: a line for each entry, with a newline after it.
     pub(crate) fn get_list(&mut self, part: ListPart, path: &[u8]) -> Result<Vec<u8, A>, ToolFault>
         ensures failed { self.old.usable ≡ false → result ≡ Err Failed }
-        ensures gives { CommandTells (directions_of S.contents S.remaining) (taking (acl_in part) (λ v. v.items))
+        ensures gives { CommandTells S.talks (taking (acl_in part) (λ v. v.items))
             (GetAclAsks part path.now) (NoPath path.now) self.old self.new result }
     {
         self.start()?;
@@ -184,7 +183,7 @@ impl<S: Read + Write, A: Allocator + Copy> Client<S, A> {
     /// The access control list of an object: a line for each entry, with a newline after it.
     pub fn getacl(&mut self, path: &[u8]) -> Result<Vec<u8, A>, ToolFault>
         ensures failed { self.old.usable ≡ false → result ≡ Err Failed }
-        ensures gives { CommandTells (directions_of S.contents S.remaining)
+        ensures gives { CommandTells S.talks
             (taking (acl_in ListPart.Acl) (λ v. v.items)) (GetAclAsks ListPart.Acl path.now) (NoPath path.now)
             self.old self.new result }
     {
@@ -195,7 +194,7 @@ impl<S: Read + Write, A: Allocator + Copy> Client<S, A> {
     /// each entry, with a newline after it.
     pub fn getdacl(&mut self, path: &[u8]) -> Result<Vec<u8, A>, ToolFault>
         ensures failed { self.old.usable ≡ false → result ≡ Err Failed }
-        ensures gives { CommandTells (directions_of S.contents S.remaining)
+        ensures gives { CommandTells S.talks
             (taking (acl_in ListPart.Dacl) (λ v. v.items)) (GetAclAsks ListPart.Dacl path.now) (NoPath path.now)
             self.old self.new result }
     {
@@ -206,7 +205,7 @@ impl<S: Read + Write, A: Allocator + Copy> Client<S, A> {
     /// entry, with a newline after it.
     pub fn getsacl(&mut self, path: &[u8]) -> Result<Vec<u8, A>, ToolFault>
         ensures failed { self.old.usable ≡ false → result ≡ Err Failed }
-        ensures gives { CommandTells (directions_of S.contents S.remaining)
+        ensures gives { CommandTells S.talks
             (taking (acl_in ListPart.Sacl) (λ v. v.items)) (GetAclAsks ListPart.Sacl path.now) (NoPath path.now)
             self.old self.new result }
     {

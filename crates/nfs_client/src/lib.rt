@@ -34,6 +34,7 @@ mod stat;
 mod stream;
 mod symlink;
 mod taking;
+mod transport;
 mod words;
 
 pub use attributes::Given;
@@ -47,5 +48,6 @@ pub use modes::{mode_text, read_mode};
 pub use path::Path;
 pub use running::Answer;
 pub use stat::Stat;
-pub use stream::write_out;
+pub use stream::{read_record, write_out};
+pub use transport::Transport;
 pub use words::Command;

@@ -1,7 +1,6 @@
 //! Giving an object one more name.
 ghost use Rattle.std.specs.Prelude.{◌≡◌, false, Err};
 ghost use Rattle.nfs_client.specs.Ln.{LnAsks, WrongPaths};
-ghost use Rattle.nfs_client.specs.Streams.{directions_of};
 ghost use Rattle.nfs_client.specs.Walking.{BothGive};
 ghost use Rattle.nfs_client.specs.declared.fault.ToolFault.TheVariants.{Failed};
 
@@ -9,15 +8,15 @@ use crate::client::Client;
 use crate::fault::ToolFault;
 use crate::path::{Path, Place};
 use crate::request::sendable;
+use crate::transport::Transport;
 use nfs_ops::{LinkArgs, Op};
 use std::alloc::Allocator;
-use std::io::{Read, Write};
 
-impl<S: Read + Write, A: Allocator + Copy> Client<S, A> {
+impl<S: Transport, A: Allocator + Copy> Client<S, A> {
     /// Gives the object at the old path the new name.
     pub fn ln(&mut self, old: &[u8], new: &[u8]) -> Result<(), ToolFault>
         ensures failed { self.old.usable ≡ false → result ≡ Err Failed }
-        ensures gives { BothGive (directions_of S.contents S.remaining) (LnAsks old.now new.now)
+        ensures gives { BothGive S.talks (LnAsks old.now new.now)
             (WrongPaths old.now new.now) self.old self.new result }
     {
         self.start()?;

@@ -11,7 +11,6 @@ ghost use Rattle.nfs_client.specs.Ls.{PutsPage, PageTaken, ListGives, LinesGive,
 ghost use Rattle.nfs_client.specs.Paging.{PagesGive, so_far};
 ghost use Rattle.nfs_client.specs.Requests.{Asks, PutGives};
 ghost use Rattle.nfs_client.specs.RouteViews.{route_value};
-ghost use Rattle.nfs_client.specs.Streams.{directions_of};
 ghost use Rattle.nfs_client.specs.declared.fault.ToolFault.TheVariants.{Failed};
 
 use crate::cat::MOST_CALLS;
@@ -22,10 +21,10 @@ use crate::path::Path;
 use crate::request::Request;
 use crate::route::{MOST_NAMES, Route};
 use crate::taking::last;
+use crate::transport::Transport;
 use nfs_ops::{Bytes, Entry, Op, OpResult, ReadDirArgs, ReadDirResult};
 use nfs_types::{Attribute, Bitmap, SeenAttributes, read_given};
 use std::alloc::Allocator;
-use std::io::{Read, Write};
 use xdr_wire::Chain;
 
 /// The most bytes of one page.
@@ -134,7 +133,7 @@ impl<A: Allocator + Copy> Reply<A> {
     }
 }
 
-impl<S: Read + Write, A: Allocator + Copy> Client<S, A> {
+impl<S: Transport, A: Allocator + Copy> Client<S, A> {
     ghost use Rattle.std.specs.Prelude.{IfOk};
 
     /// The request of the entries after this cookie.
@@ -165,7 +164,7 @@ impl<S: Read + Write, A: Allocator + Copy> Client<S, A> {
         asked: Bitmap,
         listing: &mut Listing<A>,
     ) -> Result<bool, ToolFault>
-        ensures { ListGives (directions_of S.contents S.remaining) (route_value route.now) (bitmap_value asked)
+        ensures { ListGives S.talks (route_value route.now) (bitmap_value asked)
             (so_far self.old listing.old) (so_far self.new listing.new) result }
     {
         let request = self.prepare_list(route, asked, listing.cookie)?;
@@ -185,7 +184,7 @@ impl<S: Read + Write, A: Allocator + Copy> Client<S, A> {
         asked: Bitmap,
         ends: Ends,
     ) -> Result<Vec<u8, A>, ToolFault>
-        ensures { PagesGive (by_listings (directions_of S.contents S.remaining) ends (route_value route.now)
+        ensures { PagesGive (by_listings S.talks ends (route_value route.now)
             (bitmap_value asked)) (λ v. v.items) text_of self.old self.new result }
     {
         let mut listing = Listing {
@@ -209,7 +208,7 @@ impl<S: Read + Write, A: Allocator + Copy> Client<S, A> {
     /// The entries of a directory as lines with these ends.
     fn list(&mut self, path: &[u8], ends: Ends) -> Result<Vec<u8, A>, ToolFault>
         ensures failed { self.old.usable ≡ false → result ≡ Err Failed }
-        ensures gives { LinesGive (directions_of S.contents S.remaining) (λ v. v.items)
+        ensures gives { LinesGive S.talks (λ v. v.items)
             (record { path = path.now; ends = ends }) self.old self.new result }
     {
         self.start()?;
@@ -228,7 +227,7 @@ impl<S: Read + Write, A: Allocator + Copy> Client<S, A> {
     /// it (`Listed::put`). `Reply`: the directory has more entries.
     pub fn ls(&mut self, path: &[u8]) -> Result<Vec<u8, A>, ToolFault>
         ensures failed { self.old.usable ≡ false → result ≡ Err Failed }
-        ensures gives { LsGives (directions_of S.contents S.remaining) (λ v. v.items) path.now
+        ensures gives { LsGives S.talks (λ v. v.items) path.now
             self.old self.new result }
     {
         self.list(path, Ends::Blanks)
@@ -239,7 +238,7 @@ impl<S: Read + Write, A: Allocator + Copy> Client<S, A> {
     /// `Reply` also: an owner, an owning group or a name has a zero byte.
     pub fn ls_zero(&mut self, path: &[u8]) -> Result<Vec<u8, A>, ToolFault>
         ensures failed { self.old.usable ≡ false → result ≡ Err Failed }
-        ensures gives { LsZeroGives (directions_of S.contents S.remaining) (λ v. v.items) path.now
+        ensures gives { LsZeroGives S.talks (λ v. v.items) path.now
             self.old self.new result }
     {
         self.list(path, Ends::Zeros)

@@ -2,7 +2,6 @@
 ghost use Rattle.std.specs.Prelude.{◌≡◌, false, Err};
 ghost use Rattle.nfs_client.specs.MkDir.{MkDirAsks};
 ghost use Rattle.nfs_client.specs.Rm.{WrongPath};
-ghost use Rattle.nfs_client.specs.Streams.{directions_of};
 ghost use Rattle.nfs_client.specs.Walking.{CommandGives};
 ghost use Rattle.nfs_client.specs.declared.fault.ToolFault.TheVariants.{Failed};
 
@@ -10,16 +9,16 @@ use crate::client::Client;
 use crate::fault::ToolFault;
 use crate::path::Place;
 use crate::request::sendable;
+use crate::transport::Transport;
 use nfs_ops::{CreateArgs, CreateType, Op};
 use nfs_types::{Attributes, Bitmap};
 use std::alloc::Allocator;
-use std::io::{Read, Write};
 
-impl<S: Read + Write, A: Allocator + Copy> Client<S, A> {
+impl<S: Transport, A: Allocator + Copy> Client<S, A> {
     /// Creates a directory, which inherits its access control list.
     pub fn mkdir(&mut self, path: &[u8]) -> Result<(), ToolFault>
         ensures failed { self.old.usable ≡ false → result ≡ Err Failed }
-        ensures gives { CommandGives (directions_of S.contents S.remaining) (MkDirAsks path.now) (WrongPath path.now)
+        ensures gives { CommandGives S.talks (MkDirAsks path.now) (WrongPath path.now)
             self.old self.new result }
     {
         self.start()?;

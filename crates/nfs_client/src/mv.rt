@@ -1,7 +1,6 @@
 //! Moving a name.
 ghost use Rattle.std.specs.Prelude.{◌≡◌, false, Err};
 ghost use Rattle.nfs_client.specs.Mv.{MvAsks, WrongNames};
-ghost use Rattle.nfs_client.specs.Streams.{directions_of};
 ghost use Rattle.nfs_client.specs.Walking.{BothGive};
 ghost use Rattle.nfs_client.specs.declared.fault.ToolFault.TheVariants.{Failed};
 
@@ -9,15 +8,15 @@ use crate::client::Client;
 use crate::fault::ToolFault;
 use crate::path::Place;
 use crate::request::sendable;
+use crate::transport::Transport;
 use nfs_ops::{Op, RenameArgs};
 use std::alloc::Allocator;
-use std::io::{Read, Write};
 
-impl<S: Read + Write, A: Allocator + Copy> Client<S, A> {
+impl<S: Transport, A: Allocator + Copy> Client<S, A> {
     /// Moves the old name to the new one.
     pub fn mv(&mut self, old: &[u8], new: &[u8]) -> Result<(), ToolFault>
         ensures failed { self.old.usable ≡ false → result ≡ Err Failed }
-        ensures gives { BothGive (directions_of S.contents S.remaining) (MvAsks old.now new.now)
+        ensures gives { BothGive S.talks (MvAsks old.now new.now)
             (WrongNames old.now new.now) self.old self.new result }
     {
         self.start()?;

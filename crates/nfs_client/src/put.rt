@@ -17,7 +17,6 @@ ghost use Rattle.nfs_client.specs.Put.{open_along, PutAlong, PutCommandGives};
 ghost use Rattle.nfs_client.specs.PutViews.{open_value};
 ghost use Rattle.nfs_client.specs.RouteViews.{route_value};
 ghost use Rattle.nfs_client.specs.Requests.{Asks, PutGives};
-ghost use Rattle.nfs_client.specs.Streams.{directions_of};
 ghost use Rattle.nfs_client.specs.Taking.{SaidGives, TakeGives, taking};
 ghost use Rattle.nfs_client.specs.declared.fault.ToolFault.TheVariants.{Failed};
 
@@ -29,12 +28,12 @@ use crate::request::{Request, sendable};
 use crate::route::{MOST_BEFORE_TWO, Route, handle_sent};
 use crate::setting::{values_of, with_size};
 use crate::taking::{before_last, last, last_two};
+use crate::transport::Transport;
 use nfs_ops::{
     CloseArgs, Op, OpResult, OpenArgs, OpenClaim, OpenHow, PutFhArgs, StableHow, WriteArgs,
 };
 use nfs_types::{Attributes, Handle, ShownAttributes, StateId};
 use std::alloc::Allocator;
-use std::io::{Read, Write};
 use xdr_wire::Opaque;
 
 /// Opened for writing, OPEN4_SHARE_ACCESS_WRITE.
@@ -232,10 +231,10 @@ impl<A: Allocator + Copy> Request<A> {
     }
 }
 
-impl<S: Read + Write, A: Allocator + Copy> Client<S, A> {
+impl<S: Transport, A: Allocator + Copy> Client<S, A> {
     fn open_file(&mut self, request: Request<A>) -> Result<Opened<A>, ToolFault>
         ensures { (ops : List Operation) → Asks request ops →
-            AskGives (directions_of S.contents S.remaining) (taking open_in open_value) (within_session ops)
+            AskGives S.talks (taking open_in open_value) (within_session ops)
             self.old self.new result }
     {
         let reply = match self.exchange(request) {
@@ -283,7 +282,7 @@ impl<S: Read + Write, A: Allocator + Copy> Client<S, A> {
         bytes: &[u8],
     ) -> Result<usize, ToolFault>
         requires { offset + length bytes.now < 2 ^ 64 }
-        ensures { WriteGives (directions_of S.contents S.remaining) over (open_value opened.now) offset bytes.now
+        ensures { WriteGives S.talks over (open_value opened.now) offset bytes.now
             self.old self.new result }
     {
         let request = self.prepare_write(over, opened, offset, bytes)?;
@@ -303,7 +302,7 @@ impl<S: Read + Write, A: Allocator + Copy> Client<S, A> {
         opened: &Opened<A>,
         text: &[u8],
     ) -> Result<(), ToolFault>
-        ensures { TextGives (directions_of S.contents S.remaining) over (open_value opened.now) text.now
+        ensures { TextGives S.talks over (open_value opened.now) text.now
             self.old self.new result }
     {
         let mut done = 0;
@@ -333,7 +332,7 @@ impl<S: Read + Write, A: Allocator + Copy> Client<S, A> {
 
     /// Closes a file.
     fn close(&mut self, opened: &Opened<A>) -> Result<(), ToolFault>
-        ensures { CloseGives (directions_of S.contents S.remaining) (open_value opened.now) self.old self.new result }
+        ensures { CloseGives S.talks (open_value opened.now) self.old self.new result }
     {
         let request = self.prepare_close(opened)?;
         self.run(request, true)
@@ -346,7 +345,7 @@ impl<S: Read + Write, A: Allocator + Copy> Client<S, A> {
         opened: &Opened<A>,
         written: Result<(), ToolFault>,
     ) -> Result<(), ToolFault>
-        ensures { ClosesBehind (directions_of S.contents S.remaining) (open_value opened.now) written
+        ensures { ClosesBehind S.talks (open_value opened.now) written
             self.old self.new result }
     {
         match written {
@@ -361,7 +360,7 @@ impl<S: Read + Write, A: Allocator + Copy> Client<S, A> {
 
     /// Writes a text to an open file, and closes it.
     fn fill(&mut self, over: OldBytes, opened: &Opened<A>, text: &[u8]) -> Result<(), ToolFault>
-        ensures { FileGives (directions_of S.contents S.remaining) over (open_value opened.now) text.now
+        ensures { FileGives S.talks over (open_value opened.now) text.now
             self.old self.new result }
     {
         let written = self.write_all(over, opened, text);
@@ -388,7 +387,7 @@ impl<S: Read + Write, A: Allocator + Copy> Client<S, A> {
         over: OldBytes,
         text: &[u8],
     ) -> Result<(), ToolFault>
-        ensures { PutAlong (directions_of S.contents S.remaining) (map (λ n. n.now) names.now)
+        ensures { PutAlong S.talks (map (λ n. n.now) names.now)
             (record { opens = op_view op.entry; text = record { over = over; bytes = text.now } })
             self.old self.new result }
     {
@@ -408,7 +407,7 @@ impl<S: Read + Write, A: Allocator + Copy> Client<S, A> {
 
     /// Makes a text the bytes of a file, on a client that is usable.
     fn put_over(&mut self, over: OldBytes, path: &[u8], text: &[u8]) -> Result<(), ToolFault>
-        ensures { PutCommandGives (directions_of S.contents S.remaining) path.now
+        ensures { PutCommandGives S.talks path.now
             (record { over = over; bytes = text.now }) self.old self.new result }
     {
         let place = match Place::read(self.alloc, path) {
@@ -429,7 +428,7 @@ impl<S: Read + Write, A: Allocator + Copy> Client<S, A> {
     /// and it has the bytes of the WRITEs before. `replace` is careful with old bytes.
     pub fn put(&mut self, path: &[u8], text: &[u8]) -> Result<(), ToolFault>
         ensures failed { self.old.usable ≡ false → result ≡ Err Failed }
-        ensures gives { PutCommandGives (directions_of S.contents S.remaining) path.now
+        ensures gives { PutCommandGives S.talks path.now
             (record { over = OldBytes.Dropped; bytes = text.now }) self.old self.new result }
     {
         self.start()?;
@@ -445,7 +444,7 @@ impl<S: Read + Write, A: Allocator + Copy> Client<S, A> {
     /// where this call created it. Where a later one is refused it has a front of the text.
     pub fn replace(&mut self, path: &[u8], text: &[u8]) -> Result<(), ToolFault>
         ensures failed { self.old.usable ≡ false → result ≡ Err Failed }
-        ensures gives { PutCommandGives (directions_of S.contents S.remaining) path.now
+        ensures gives { PutCommandGives S.talks path.now
             (record { over = OldBytes.Kept; bytes = text.now }) self.old self.new result }
     {
         self.start()?;

@@ -7,7 +7,6 @@ ghost use Rattle.nfs_client.specs.Compound.{said};
 ghost use Rattle.nfs_client.specs.CompoundViews.{outcomes};
 ghost use Rattle.nfs_client.specs.ReadLink.{ReadLinkAsks, text_of, text_in};
 ghost use Rattle.nfs_client.specs.Requests.{Asks};
-ghost use Rattle.nfs_client.specs.Streams.{directions_of};
 ghost use Rattle.nfs_client.specs.Taking.{SaidGives, TakeGives, taking};
 ghost use Rattle.nfs_client.specs.Walking.{CommandTells};
 ghost use Rattle.nfs_client.specs.declared.fault.ToolFault.TheVariants.{Failed};
@@ -17,9 +16,9 @@ use crate::fault::ToolFault;
 use crate::path::Path;
 use crate::request::Request;
 use crate::taking::last;
+use crate::transport::Transport;
 use nfs_ops::{Op, OpResult};
 use std::alloc::Allocator;
-use std::io::{Read, Write};
 
 /// The text in a result.
 fn text_in<A: Allocator>(alloc: A, found: Option<OpResult<'_>>) -> Result<Vec<u8, A>, ToolFault>
@@ -46,13 +45,13 @@ impl<A: Allocator + Copy> Reply<A> {
     }
 }
 
-impl<S: Read + Write, A: Allocator + Copy> Client<S, A> {
+impl<S: Transport, A: Allocator + Copy> Client<S, A> {
     ghost use Rattle.std.specs.Prelude.{true, List};
     ghost use Rattle.nfs_ops.specs.Operations.{Operation};
 
     fn ask_link(&mut self, request: Request<A>) -> Result<Vec<u8, A>, ToolFault>
         ensures { (ops : List Operation) → Asks request ops →
-            AskGives (directions_of S.contents S.remaining) (taking text_in (λ v. v.items)) (within_session ops)
+            AskGives S.talks (taking text_in (λ v. v.items)) (within_session ops)
             self.old self.new result }
     {
         let reply = match self.exchange(request) {
@@ -67,7 +66,7 @@ impl<S: Read + Write, A: Allocator + Copy> Client<S, A> {
     /// The text of a symbolic link.
     pub fn readlink(&mut self, path: &[u8]) -> Result<Vec<u8, A>, ToolFault>
         ensures failed { self.old.usable ≡ false → result ≡ Err Failed }
-        ensures gives { CommandTells (directions_of S.contents S.remaining) (taking text_in (λ v. v.items))
+        ensures gives { CommandTells S.talks (taking text_in (λ v. v.items))
             (ReadLinkAsks path.now) (NoPath path.now) self.old self.new result }
     {
         self.start()?;

@@ -1,7 +1,6 @@
 //! Removing a name.
 ghost use Rattle.std.specs.Prelude.{◌≡◌, false, Err};
 ghost use Rattle.nfs_client.specs.Rm.{RmAsks, WrongPath};
-ghost use Rattle.nfs_client.specs.Streams.{directions_of};
 ghost use Rattle.nfs_client.specs.Walking.{CommandGives};
 ghost use Rattle.nfs_client.specs.declared.fault.ToolFault.TheVariants.{Failed};
 
@@ -9,15 +8,15 @@ use crate::client::Client;
 use crate::fault::ToolFault;
 use crate::path::Place;
 use crate::request::sendable;
+use crate::transport::Transport;
 use nfs_ops::{Op, RemoveArgs};
 use std::alloc::Allocator;
-use std::io::{Read, Write};
 
-impl<S: Read + Write, A: Allocator + Copy> Client<S, A> {
+impl<S: Transport, A: Allocator + Copy> Client<S, A> {
     /// Removes a name.
     pub fn rm(&mut self, path: &[u8]) -> Result<(), ToolFault>
         ensures failed { self.old.usable ≡ false → result ≡ Err Failed }
-        ensures gives { CommandGives (directions_of S.contents S.remaining) (RmAsks path.now) (WrongPath path.now)
+        ensures gives { CommandGives S.talks (RmAsks path.now) (WrongPath path.now)
             self.old self.new result }
     {
         self.start()?;

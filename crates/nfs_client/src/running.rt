@@ -2,16 +2,15 @@
 ghost use Rattle.std.specs.Prelude.{◌≡◌, false, Err};
 ghost use Rattle.nfs_client.specs.AnswerTexts.{answer_text, rights_line, says_ok, says_rights, says_text, SaysAs};
 ghost use Rattle.nfs_client.specs.AnswerTexts.{NewlineGives};
-ghost use Rattle.nfs_client.specs.Streams.{directions_of};
 ghost use Rattle.nfs_client.specs.declared.fault.ToolFault.TheVariants.{Failed};
 
 use crate::client::Client;
 use crate::entry_text::hex_word;
 use crate::fault::ToolFault;
+use crate::transport::Transport;
 use crate::words::Command;
 use nfs_ops::AccessResult;
 use std::alloc::{Allocator, Global};
-use std::io::{Read, Write};
 
 /// The bytes of the line of rights.
 const RIGHTS_LINE: usize = 25;
@@ -92,13 +91,13 @@ fn with_newline<A: Allocator>(bytes: Vec<u8, A>) -> Result<Answer<A>, ToolFault>
     Ok(Answer::Text(text))
 }
 
-impl<S: Read + Write, A: Allocator + Copy> Client<S, A> {
+impl<S: Transport, A: Allocator + Copy> Client<S, A> {
     ghost use Rattle.nfs_client.specs.WordViews.{command_line};
     ghost use Rattle.nfs_client.specs.Running.{CatTells, Runs};
 
     /// The bytes of a file, with a newline after them.
     fn cat_text(&mut self, path: &[u8]) -> Result<Answer<A>, ToolFault>
-        ensures { CatTells (directions_of S.contents S.remaining) path.now self.old self.new result }
+        ensures { CatTells S.talks path.now self.old self.new result }
     {
         match self.cat(path) {
             Ok(bytes) => {
@@ -112,7 +111,7 @@ impl<S: Read + Write, A: Allocator + Copy> Client<S, A> {
 
     /// Runs a command, and gives its answer as text.
     fn answered(&mut self, command: Command<'_>) -> Result<Answer<A>, ToolFault>
-        ensures { Runs (directions_of S.contents S.remaining) (command_line command.entry) self.old self.new result }
+        ensures { Runs S.talks (command_line command.entry) self.old self.new result }
     {
         match command {
             Command::Ls(path) => lines(self.ls(path)),
@@ -134,7 +133,7 @@ impl<S: Read + Write, A: Allocator + Copy> Client<S, A> {
     /// any other command it is `ok`. The text of a fault is `ToolFault::text`.
     pub fn answer(&mut self, command: Command<'_>) -> Result<Answer<A>, ToolFault>
         ensures failed { self.old.usable ≡ false → result ≡ Err Failed }
-        ensures gives { Runs (directions_of S.contents S.remaining) (command_line command.entry)
+        ensures gives { Runs S.talks (command_line command.entry)
             self.old self.new result }
     {
         match self.start() {

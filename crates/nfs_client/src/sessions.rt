@@ -1,5 +1,5 @@
 //! Opening a session, and ending it.
-ghost use Rattle.std.specs.Prelude.{◌≡◌, ◌∷◌, [], None, Err, IfOk, false, option_map, option_and_then};
+ghost use Rattle.std.specs.Prelude.{◌≡◌, ◌∷◌, [], None, Err, IfOk, false, true, option_map, option_and_then};
 ghost use Rattle.xdr_wire.specs.Wire.{array_values};
 ghost use Rattle.nfs_ops.specs.Forms.{callback_security};
 ghost use Rattle.nfs_ops.specs.ResultViews.{read_view};
@@ -7,8 +7,7 @@ ghost use Rattle.nfs_client.specs.Compound.{said};
 ghost use Rattle.nfs_client.specs.Requests.{Asks, PutGives};
 ghost use Rattle.nfs_client.specs.Sessions.{exchange_id, create_session, destroy_session, destroy_client, record_of};
 ghost use Rattle.nfs_client.specs.Sessions.{record_in, record_value, session_of, session_in, session_value, OpenGives};
-ghost use Rattle.nfs_client.specs.Sessions.{EndGives, MadeKnown, SessionMade, Ends};
-ghost use Rattle.nfs_client.specs.Streams.{directions_of};
+ghost use Rattle.nfs_client.specs.Sessions.{Begins, EndGives, MadeKnown, SessionMade, Ends};
 ghost use Rattle.nfs_client.specs.Taking.{SaidGives, taking};
 ghost use Rattle.nfs_client.specs.declared.fault.ToolFault.TheVariants.{Failed};
 
@@ -16,13 +15,16 @@ use crate::client::{Client, Reply};
 use crate::fault::ToolFault;
 use crate::request::Request;
 use crate::taking::last;
+use crate::transport::Transport;
 use nfs_ops::{
     CallbackSecurity, Channel, CreateSessionArgs, DestroyClientIdArgs, DestroySessionArgs,
     ExchangeIdArgs, Op, OpResult,
 };
 use std::alloc::Allocator;
-use std::io::{Read, Write};
 use xdr_wire::{Array, Opaque, Reader, Wire, XdrFault};
+
+/// The most bytes of an owner.
+const MOST_OF_OWNER: u32 = 1024;
 
 /// The limits of calls and replies: 65,536 bytes, 16 operations, one slot.
 const FORE: Channel = Channel {
@@ -118,18 +120,16 @@ fn no_credentials() -> Result<Array<'static, CallbackSecurity<'static>, 8>, XdrF
     Wire::read(&mut Reader::new(NO_CREDENTIALS))
 }
 
-/// The request that registers the client. `Memory`: also where the owner has more than 1,024 bytes.
+/// The request that registers the client.
 fn registering<A: Allocator + Copy>(
     alloc: A,
-    owner: &[u8],
+    owner: Opaque<'_, MOST_OF_OWNER>,
     verifier: [u8; 8],
 ) -> Result<Request<A>, ToolFault>
-    ensures asks { IfOk result (λ r. Asks r (exchange_id (record { id = owner.now; verifier = verifier }) ∷ [])) }
+    ensures asks { IfOk result
+        (λ r. Asks r (exchange_id (record { id = owner.entry.bytes.now; verifier = verifier }) ∷ [])) }
     ensures memory { PutGives result }
 {
-    let Some(owner) = Opaque::new(owner) else {
-        return Err(ToolFault::Memory);
-    };
     let mut request = Request::new(alloc)?;
     request.put(Op::ExchangeId(ExchangeIdArgs {
         verifier,
@@ -184,10 +184,14 @@ fn forgetting<A: Allocator + Copy>(alloc: A, client: u64) -> Result<Request<A>, 
     Ok(request)
 }
 
-impl<S: Read + Write, A: Allocator + Copy> Client<S, A> {
+impl<S: Transport, A: Allocator + Copy> Client<S, A> {
     /// Registers the client.
-    fn register(&mut self, owner: &[u8], verifier: [u8; 8]) -> Result<Registration, ToolFault>
-        ensures { MadeKnown (directions_of S.contents S.remaining) (record { id = owner.now; verifier = verifier })
+    fn register(
+        &mut self,
+        owner: Opaque<'_, MOST_OF_OWNER>,
+        verifier: [u8; 8],
+    ) -> Result<Registration, ToolFault>
+        ensures { MadeKnown S.talks (record { id = owner.entry.bytes.now; verifier = verifier })
             self.old self.new result }
     {
         let request = registering(self.alloc, owner, verifier)?;
@@ -202,7 +206,7 @@ impl<S: Read + Write, A: Allocator + Copy> Client<S, A> {
 
     /// Creates a session.
     fn make_session(&mut self, registration: Registration) -> Result<[u8; 16], ToolFault>
-        ensures { SessionMade (directions_of S.contents S.remaining) registration self.old self.new result }
+        ensures { SessionMade S.talks registration self.old self.new result }
     {
         let request = creating(self.alloc, registration)?;
         let reply = match self.exchange(request) {
@@ -214,13 +218,49 @@ impl<S: Read + Write, A: Allocator + Copy> Client<S, A> {
         told
     }
 
+    /// Registers the client, and creates its session.
+    fn begun(&mut self, owner: &[u8], verifier: [u8; 8]) -> Result<(), ToolFault>
+        ensures { Begins S.talks (record { id = owner.now; verifier = verifier }) self.old self.new result }
+    {
+        let Some(owner) = Opaque::new(owner) else {
+            return Err(ToolFault::TooLarge);
+        };
+        let registration = match self.register(owner, verifier) {
+            Ok(registration) => registration,
+            Err(fault) => return Err(fault),
+        };
+        let session = match self.make_session(registration) {
+            Ok(session) => session,
+            Err(fault) => return Err(fault),
+        };
+        self.client = registration.client;
+        self.session = session;
+        self.number = 1;
+        Ok(())
+    }
+
+    /// Begins a session of the client's own: EXCHANGE_ID, then CREATE_SESSION, as `Client::open`
+    /// does. It is for a client of `Client::resume` whose stream is wanted back by
+    /// `Client::into_stream`, whatever comes. `TooLarge`: the owner has more than 1,024 bytes, and
+    /// nothing is sent.
+    pub fn begin(&mut self, owner: &[u8], verifier: [u8; 8]) -> Result<(), ToolFault>
+        ensures failed { self.old.usable ≡ false → (result ≡ Err Failed) × (self.new ≡ self.old) }
+        ensures gives { self.old.usable ≡ true →
+            Begins S.talks (record { id = owner.now; verifier = verifier }) self.old self.new result }
+    {
+        match self.start() {
+            Ok(()) => self.begun(owner, verifier),
+            Err(fault) => Err(fault),
+        }
+    }
+
     /// A client with a session of its own: EXCHANGE_ID, then CREATE_SESSION. The client calls as
     /// this user and in this group alone.
     ///
     /// The owner says which client this is to the server, and the verifier which start of the
     /// client (RFC 8881, section 2.4). Clients that run beside each other have an owner each: a
     /// start of an owner ends what an earlier start has open. No other user may start that owner.
-    /// `Memory`: also where the owner has more than 1,024 bytes.
+    /// `TooLarge`: the owner has more than 1,024 bytes, and nothing is sent.
     pub fn open(
         alloc: A,
         stream: S,
@@ -231,27 +271,19 @@ impl<S: Read + Write, A: Allocator + Copy> Client<S, A> {
     ) -> Result<Self, ToolFault>
     where
         S: Drop,
-        ensures { OpenGives (directions_of S.contents S.remaining) stream uid gid
+        ensures { OpenGives S.talks stream uid gid
             (record { id = owner.now; verifier = verifier }) result }
     {
         let mut client = Client::resume(alloc, stream, uid, gid, 0, [0; 16], 0);
-        let registration = match client.register(owner, verifier) {
-            Ok(registration) => registration,
-            Err(fault) => return Err(fault),
-        };
-        let session = match client.make_session(registration) {
-            Ok(session) => session,
-            Err(fault) => return Err(fault),
-        };
-        client.client = registration.client;
-        client.session = session;
-        client.number = 1;
-        Ok(client)
+        match client.begun(owner, verifier) {
+            Ok(()) => Ok(client),
+            Err(fault) => Err(fault),
+        }
     }
 
     /// Destroys the client at the server.
     fn forget(&mut self) -> Result<(), ToolFault>
-        ensures { Ends (directions_of S.contents S.remaining) (destroy_client self.old.client)
+        ensures { Ends S.talks (destroy_client self.old.client)
             self.old self.new result }
     {
         let request = forgetting(self.alloc, self.client)?;
@@ -260,7 +292,7 @@ impl<S: Read + Write, A: Allocator + Copy> Client<S, A> {
 
     /// Destroys the session.
     fn end_session(&mut self) -> Result<(), ToolFault>
-        ensures { Ends (directions_of S.contents S.remaining) (destroy_session self.old.session)
+        ensures { Ends S.talks (destroy_session self.old.session)
             self.old self.new result }
     {
         let request = ending(self.alloc, self.session)?;
@@ -270,7 +302,7 @@ impl<S: Read + Write, A: Allocator + Copy> Client<S, A> {
     /// Ends the session and the client: DESTROY_SESSION, then DESTROY_CLIENTID.
     pub fn end(&mut self) -> Result<(), ToolFault>
         ensures failed { self.old.usable ≡ false → result ≡ Err Failed }
-        ensures gives { EndGives (directions_of S.contents S.remaining) self.old self.new result }
+        ensures gives { EndGives S.talks self.old self.new result }
     {
         self.start()?;
         match self.end_session() {

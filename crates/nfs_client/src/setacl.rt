@@ -6,7 +6,6 @@ ghost use Rattle.nfs_client.specs.Acls.{ace_of, kind_number, EntriesGive, SetAcl
 ghost use Rattle.nfs_client.specs.EntryViews.{entry_line};
 ghost use Rattle.nfs_client.specs.Requests.{PutGives};
 ghost use Rattle.nfs_client.specs.Setting.{of_entries};
-ghost use Rattle.nfs_client.specs.Streams.{directions_of};
 ghost use Rattle.nfs_client.specs.Walking.{CommandGives};
 ghost use Rattle.nfs_client.specs.declared.fault.ToolFault.TheVariants.{Entry, Failed};
 
@@ -17,10 +16,10 @@ use crate::list_part::ListPart;
 use crate::path::Path;
 use crate::request::sendable;
 use crate::setting::{setting, values_of};
+use crate::transport::Transport;
 use acl_list::EntryKind;
 use nfs_types::{Ace, Aces, Acl41, ShownAttributes};
 use std::alloc::Allocator;
-use std::io::{Read, Write};
 
 /// The number of an entry's type.
 fn kind_number(kind: EntryKind) -> u32
@@ -108,7 +107,7 @@ fn of_aces<'a>(part: ListPart, aces: &'a [Ace<'a>]) -> Result<ShownAttributes<'a
     Ok(shown_as(part, entries))
 }
 
-impl<S: Read + Write, A: Allocator + Copy> Client<S, A> {
+impl<S: Transport, A: Allocator + Copy> Client<S, A> {
     /// Sets the access control list of an object, or a part of it, to these entries, each as text.
     /// `Entry`: an entry can't be read, or there is none.
     pub(crate) fn set_list(
@@ -118,7 +117,7 @@ impl<S: Read + Write, A: Allocator + Copy> Client<S, A> {
         texts: &[&[u8]],
     ) -> Result<(), ToolFault>
         ensures failed { self.old.usable ≡ false → result ≡ Err Failed }
-        ensures gives { CommandGives (directions_of S.contents S.remaining)
+        ensures gives { CommandGives S.talks
             (SetAclAsks part path.now (map (λ t. t.now) texts.now)) (WrongList path.now (map (λ t. t.now) texts.now))
             self.old self.new result }
     {
@@ -145,7 +144,7 @@ impl<S: Read + Write, A: Allocator + Copy> Client<S, A> {
     /// can't be read, or there is none.
     pub fn setacl(&mut self, path: &[u8], texts: &[&[u8]]) -> Result<(), ToolFault>
         ensures failed { self.old.usable ≡ false → result ≡ Err Failed }
-        ensures gives { CommandGives (directions_of S.contents S.remaining)
+        ensures gives { CommandGives S.talks
             (SetAclAsks ListPart.Acl path.now (map (λ t. t.now) texts.now))
             (WrongList path.now (map (λ t. t.now) texts.now)) self.old self.new result }
     {
@@ -156,7 +155,7 @@ impl<S: Read + Write, A: Allocator + Copy> Client<S, A> {
     /// entries, each as text. `Entry`: an entry can't be read, or there is none.
     pub fn setdacl(&mut self, path: &[u8], texts: &[&[u8]]) -> Result<(), ToolFault>
         ensures failed { self.old.usable ≡ false → result ≡ Err Failed }
-        ensures gives { CommandGives (directions_of S.contents S.remaining)
+        ensures gives { CommandGives S.talks
             (SetAclAsks ListPart.Dacl path.now (map (λ t. t.now) texts.now))
             (WrongList path.now (map (λ t. t.now) texts.now)) self.old self.new result }
     {
@@ -167,7 +166,7 @@ impl<S: Read + Write, A: Allocator + Copy> Client<S, A> {
     /// each as text. `Entry`: an entry can't be read, or there is none.
     pub fn setsacl(&mut self, path: &[u8], texts: &[&[u8]]) -> Result<(), ToolFault>
         ensures failed { self.old.usable ≡ false → result ≡ Err Failed }
-        ensures gives { CommandGives (directions_of S.contents S.remaining)
+        ensures gives { CommandGives S.talks
             (SetAclAsks ListPart.Sacl path.now (map (λ t. t.now) texts.now))
             (WrongList path.now (map (λ t. t.now) texts.now)) self.old self.new result }
     {

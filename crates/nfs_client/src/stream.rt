@@ -2,7 +2,7 @@
 ghost use Rattle.std.specs.Prelude.{◌≡◌, ◌≤◌, ◌++◌, List, ℕ};
 ghost use Rattle.std.specs.Io.KnownBytes.{Appends};
 ghost use Rattle.rpc_record.specs.Framer.{Stands};
-ghost use Rattle.nfs_client.specs.Streams.{WriteGives, PieceGives, RecordGives, TalkGives, directions_of};
+ghost use Rattle.nfs_client.specs.Streams.{WriteGives, PieceGives, RecordGives};
 
 use crate::fault::ToolFault;
 use rpc_record::{Framer, Step, a_framer_stands_for_a_rest};
@@ -64,7 +64,7 @@ fn take_piece<A: Allocator>(
 
 /// Reads a record, in at most 200,000 reads. `Read`: the stream failed or ended, or the record took
 /// more reads. `Reply`: the stream breaks in the record, or bytes come after it.
-fn read_record<A: Allocator, R: Read>(alloc: A, stream: &mut R) -> Result<Vec<u8, A>, ToolFault>
+pub fn read_record<A: Allocator, R: Read>(alloc: A, stream: &mut R) -> Result<Vec<u8, A>, ToolFault>
     ensures { RecordGives (λ v. v.items) (R.remaining stream.old) (R.remaining stream.new) result }
 {
     a_framer_stands_for_a_rest();
@@ -85,18 +85,4 @@ fn read_record<A: Allocator, R: Read>(alloc: A, stream: &mut R) -> Result<Vec<u8
         }
     }
     Err(ToolFault::Read)
-}
-
-/// Writes a call, and reads the record after it.
-pub(crate) fn talk<A: Allocator, S: Read + Write>(
-    alloc: A,
-    stream: &mut S,
-    call: &[u8],
-) -> Result<Vec<u8, A>, ToolFault>
-    ensures { TalkGives (directions_of S.contents S.remaining) (λ v. v.items) stream.old stream.new call.now result }
-{
-    match write_out(stream, call) {
-        Ok(()) => read_record(alloc, stream),
-        Err(fault) => Err(fault),
-    }
 }

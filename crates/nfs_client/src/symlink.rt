@@ -4,7 +4,6 @@ ghost use Rattle.nfs_ops.specs.OpViews.{op_view};
 ghost use Rattle.nfs_client.specs.SymLink.{SymLinkAsks, create_link};
 ghost use Rattle.nfs_client.specs.Requests.{PutGives};
 ghost use Rattle.nfs_client.specs.Rm.{WrongPath};
-ghost use Rattle.nfs_client.specs.Streams.{directions_of};
 ghost use Rattle.nfs_client.specs.Walking.{CommandGives};
 ghost use Rattle.nfs_client.specs.declared.fault.ToolFault.TheVariants.{Failed};
 
@@ -12,10 +11,10 @@ use crate::client::Client;
 use crate::fault::ToolFault;
 use crate::path::Place;
 use crate::request::sendable;
+use crate::transport::Transport;
 use nfs_ops::{CreateArgs, CreateType, Op};
 use nfs_types::{Attributes, Bitmap};
 use std::alloc::Allocator;
-use std::io::{Read, Write};
 
 /// CREATE of a symbolic link of this name with this text.
 fn creating<'a>(text: &'a [u8], name: &'a [u8]) -> Result<Op<'a>, ToolFault>
@@ -33,11 +32,11 @@ fn creating<'a>(text: &'a [u8], name: &'a [u8]) -> Result<Op<'a>, ToolFault>
     }))
 }
 
-impl<S: Read + Write, A: Allocator + Copy> Client<S, A> {
+impl<S: Transport, A: Allocator + Copy> Client<S, A> {
     /// Creates a symbolic link with this text, which the server takes as it is: of 1 to 1,024 bytes.
     pub fn symlink(&mut self, text: &[u8], path: &[u8]) -> Result<(), ToolFault>
         ensures failed { self.old.usable ≡ false → result ≡ Err Failed }
-        ensures gives { CommandGives (directions_of S.contents S.remaining) (SymLinkAsks text.now path.now)
+        ensures gives { CommandGives S.talks (SymLinkAsks text.now path.now)
             (WrongPath path.now) self.old self.new result }
     {
         self.start()?;

@@ -1,6 +1,5 @@
 use Rattle.std.proofs.Common.{Err, sym, subst}
 use Rattle.nfs_client.specs.Running.{Runs}
-use Rattle.nfs_client.specs.Streams.{directions_of}
 use Rattle.nfs_client.specs.WordViews.{command_line}
 use Rattle.nfs_client.specs.declared.fault.ToolFault.{ToolFault}
 use Rattle.nfs_client.proofs.Telling.{none_runs}
@@ -8,5 +7,5 @@ use Rattle.nfs_client.proofs.client.Client.answer.Goals as goal
 
 pub returns-in-Err-clause-gives : goal.returns-in-Err-clause-gives
 returns-in-Err-clause-gives g c =
-    subst (λ (f : ToolFault). Runs (directions_of g.S.Write.contents g.S.Read.remaining) (command_line c.args.command) c.args.self.now c.args.self.now (Err f)) (sym c.in-Err.ensures.0)
-    (none_runs (directions_of g.S.Write.contents g.S.Read.remaining) (command_line c.args.command) c.args.self.now c.in-Err.ensures.1)
+    subst (λ (f : ToolFault). Runs g.S.Transport.talks (command_line c.args.command) c.args.self.now c.args.self.now (Err f)) (sym c.in-Err.ensures.0)
+    (none_runs g.S.Transport.talks (command_line c.args.command) c.args.self.now c.in-Err.ensures.1)

@@ -1,16 +1,15 @@
 use Rattle.std.proofs.Common.{ℕ, Vec, true}
 use Rattle.nfs_client.specs.Approach.{approach, handle_in}
 use Rattle.nfs_client.specs.RouteViews.{route_from}
-use Rattle.nfs_client.specs.Streams.{directions_of}
 use Rattle.nfs_client.proofs.Commands.{concluded, unasked}
 use Rattle.nfs_client.proofs.client.Client.approach.Goals as goal
 
 pub returns-in-Err : goal.returns-in-Err
 returns-in-Err g c =
     let ops = approach c.args.self.now (route_from c.args.start.now c.args.names.now) in
-    unasked (directions_of g.S.Write.contents g.S.Read.remaining) handle_in (λ (v : Vec ℕ g.row.A.Denot). v.items) true ops c.args.self.now c.exchange.new.self c.in-Err.fault (c.in-Err.ensures ops c.in_ok-request.ensures.asks)
+    unasked g.S.Transport.talks handle_in (λ (v : Vec ℕ g.row.A.Denot). v.items) true ops c.args.self.now c.exchange.new.self c.in-Err.fault (c.in-Err.ensures ops c.in_ok-request.ensures.asks)
 
 pub returns : goal.returns
 returns g c =
     let ops = approach c.args.self.now (route_from c.args.start.now c.args.names.now) in
-    concluded (directions_of g.S.Write.contents g.S.Read.remaining) handle_in ops c.args.self.now c.exchange.new.self c.in-Ok.reply (c.in-Ok.ensures ops c.in_ok-request.ensures.asks) (λ v. v.items) true c.reached-told.result c.conclude.new.self c.reached-told.ensures c.conclude.ensures
+    concluded g.S.Transport.talks handle_in ops c.args.self.now c.exchange.new.self c.in-Ok.reply (c.in-Ok.ensures ops c.in_ok-request.ensures.asks) (λ v. v.items) true c.reached-told.result c.conclude.new.self c.reached-told.ensures c.conclude.ensures

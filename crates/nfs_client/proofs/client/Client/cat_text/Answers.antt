@@ -1,7 +1,6 @@
-use Rattle.nfs_client.specs.Streams.{directions_of}
 use Rattle.nfs_client.proofs.Telling.{newline_told}
 use Rattle.nfs_client.proofs.client.Client.cat_text.Goals as goal
 
 pub returns-in-Ok : goal.returns-in-Ok
 returns-in-Ok g c =
-    newline_told (directions_of g.S.Write.contents g.S.Read.remaining) c.args.path.now c.args.self.now c.cat.new.self c.spoil.new.self c.in-Ok.bytes c.with_newline-told.result c.in-Ok.ensures.gives c.with_newline-told.ensures c.spoil.ensures
+    newline_told g.S.Transport.talks c.args.path.now c.args.self.now c.cat.new.self c.spoil.new.self c.in-Ok.bytes c.with_newline-told.result c.in-Ok.ensures.gives c.with_newline-told.ensures c.spoil.ensures

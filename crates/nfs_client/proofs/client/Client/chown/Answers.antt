@@ -2,11 +2,10 @@ use Rattle.std.proofs.Common.{subst, ap, ◌∙◌}
 use Rattle.nfs_types.specs.Seen.{Seen}
 use Rattle.nfs_client.specs.Access.{NoPath}
 use Rattle.nfs_client.specs.ChOwn.{SetAsks, of_owner}
-use Rattle.nfs_client.specs.Streams.{directions_of}
 use Rattle.nfs_client.specs.Walking.{CommandGives}
 use Rattle.nfs_client.proofs.client.Client.chown.Goals as goal
 
 pub returns-clause-gives : goal.returns-clause-gives
 returns-clause-gives g c =
-    subst (λ (s : Seen). CommandGives (directions_of g.S.Write.contents g.S.Read.remaining) (SetAsks s c.args.path.now) (NoPath c.args.path.now) c.args.self.now c.set_shown.new.self c.set_shown.result)
+    subst (λ (s : Seen). CommandGives g.S.Transport.talks (SetAsks s c.args.path.now) (NoPath c.args.path.now) c.args.self.now c.set_shown.new.self c.set_shown.result)
     (c.of_owner-shown.ensures ∙ ap of_owner c.in_ok-sendable.ensures) c.set_shown.ensures

@@ -1,9 +1,8 @@
 use Rattle.nfs_client.specs.PutViews.{open_value}
-use Rattle.nfs_client.specs.Streams.{directions_of}
 use Rattle.nfs_client.proofs.Putting.{filled}
 use Rattle.nfs_client.proofs.client.Client.fill.Goals as goal
 
 pub returns : goal.returns
 returns g c =
-    filled (directions_of g.S.Write.contents g.S.Read.remaining) c.args.over (open_value c.args.opened.now) c.args.text.now c.args.self.now c.write_all-written.new.self c.close_behind-told.new.self c.break_off.new.self c.write_all-written.result c.write_all-written.ensures
+    filled g.S.Transport.talks c.args.over (open_value c.args.opened.now) c.args.text.now c.args.self.now c.write_all-written.new.self c.close_behind-told.new.self c.break_off.new.self c.write_all-written.result c.write_all-written.ensures
     c.close_behind-told.result c.close_behind-told.ensures c.break_off.ensures

@@ -7,7 +7,6 @@ use Rattle.nfs_types.specs.declared.ace.Ace.{Ace}
 use Rattle.nfs_ops.specs.OpViews.{op_view}
 use Rattle.nfs_client.specs.Acls.{SetAclAsks, WrongList}
 use Rattle.nfs_client.specs.Setting.{set_by, set_attributes, of_entries}
-use Rattle.nfs_client.specs.Streams.{directions_of}
 use Rattle.nfs_client.specs.Taking.{no_value}
 use Rattle.nfs_client.proofs.Walks.{command_runs, command_stops, command_unset}
 use Rattle.xdr_wire.specs.Buffer.{Buffer}
@@ -23,14 +22,14 @@ pub returns-in-Ok-ready-clause-gives : goal.returns-in-Ok-ready-clause-gives
 returns-in-Ok-ready-clause-gives g c =
     let shown = c.in_ok-shown.ensures.shown ∙ ap (λ (aces : List Ace). of_entries c.args.part (map ace_value aces)) c.deref.ensures.value in
     let is = c.in_ok-op.ensures.asks ∙ ap (set_by (shown_value c.in_ok-shown.shown)) (c.bytes.ensures ∙ c.in_ok-values.ensures) ∙ ap set_attributes shown in
-    command_runs (directions_of g.S.Write.contents g.S.Read.remaining) no_value (SetAclAsks c.args.part c.args.path.now (map (λ t. t.now) c.args.texts.now)) (WrongList c.args.path.now (map (λ t. t.now) c.args.texts.now)) c.args.self.now c.run.new.self c.ready.new.self c.in-Ok-ready.request c.in-Ok.path (op_view c.in_ok-op.op) c.run.result
+    command_runs g.S.Transport.talks no_value (SetAclAsks c.args.part c.args.path.now (map (λ t. t.now) c.args.texts.now)) (WrongList c.args.path.now (map (λ t. t.now) c.args.texts.now)) c.args.self.now c.run.new.self c.ready.new.self c.in-Ok-ready.request c.in-Ok.path (op_view c.in_ok-op.op) c.run.result
     (map ace_value c.in-Ok-read_entries.aces.items, c.in-Ok.ensures, some_texts c.args.texts.now c.in_ok-some_entry.ensures, c.in-Ok-read_entries.ensures, is) (rw c.names.ensures at c.in-Ok-ready.ensures) c.run.ensures
 
 pub returns-clause-gives : goal.returns-clause-gives
 returns-clause-gives g c =
     let shown = c.in_ok-shown.ensures.shown ∙ ap (λ (aces : List Ace). of_entries c.args.part (map ace_value aces)) c.deref.ensures.value in
     let is = c.in_ok-op.ensures.asks ∙ ap (set_by (shown_value c.in_ok-shown.shown)) (c.bytes.ensures ∙ c.in_ok-values.ensures) ∙ ap set_attributes shown in
-    command_stops {X = Unit {0}} (directions_of g.S.Write.contents g.S.Read.remaining) no_value (SetAclAsks c.args.part c.args.path.now (map (λ t. t.now) c.args.texts.now)) (WrongList c.args.path.now (map (λ t. t.now) c.args.texts.now)) c.args.self.now c.ready.new.self c.in-Ok.path (op_view c.in_ok-op.op) c.in-Err-ready.fault
+    command_stops {X = Unit {0}} g.S.Transport.talks no_value (SetAclAsks c.args.part c.args.path.now (map (λ t. t.now) c.args.texts.now)) (WrongList c.args.path.now (map (λ t. t.now) c.args.texts.now)) c.args.self.now c.ready.new.self c.in-Ok.path (op_view c.in_ok-op.op) c.in-Err-ready.fault
     (map ace_value c.in-Ok-read_entries.aces.items, c.in-Ok.ensures, some_texts c.args.texts.now c.in_ok-some_entry.ensures, c.in-Ok-read_entries.ensures, is) (rw c.names.ensures at c.in-Err-ready.ensures)
 
 pub returns-in_err-values-clause-gives : goal.returns-in_err-values-clause-gives
@@ -39,5 +38,5 @@ returns-in_err-values-clause-gives g c =
     let aces = map ace_value c.in-Ok-read_entries.aces.items in
     let answer : c.from_residual-in_err-values.result ≡ Err f = search rules in
     let shown = c.in_ok-shown.ensures.shown ∙ ap (λ (aces : List Ace). of_entries c.args.part (map ace_value aces)) c.deref.ensures.value in
-    rw answer (command_unset {X = Unit {0}} (directions_of g.S.Write.contents g.S.Read.remaining) no_value (SetAclAsks c.args.part c.args.path.now (map (λ t. t.now) c.args.texts.now)) (WrongList c.args.path.now (map (λ t. t.now) c.args.texts.now)) c.args.self.now c.args.self.now (λ (w : Buffer). w.bytes) c.in-Ok.path (of_entries c.args.part aces) f
+    rw answer (command_unset {X = Unit {0}} g.S.Transport.talks no_value (SetAclAsks c.args.part c.args.path.now (map (λ t. t.now) c.args.texts.now)) (WrongList c.args.path.now (map (λ t. t.now) c.args.texts.now)) c.args.self.now c.args.self.now (λ (w : Buffer). w.bytes) c.in-Ok.path (of_entries c.args.part aces) f
     (aces, c.in-Ok.ensures, some_texts c.args.texts.now c.in_ok-some_entry.ensures, c.in-Ok-read_entries.ensures, refl) (subst (λ (s : Seen). ValuesGive (λ (w : Buffer). w.bytes) s (Err f)) shown c.in_err-values.ensures))

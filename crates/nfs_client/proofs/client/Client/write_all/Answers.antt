@@ -2,7 +2,6 @@ use Rattle.std.proofs.Common.{ℕ, List, ◌-◌, ◌≤◌, ◌∷◌, length, 
 use Rattle.std.proofs.lemmas.List.{length-drop, take_all}
 use Rattle.nfs_client.specs.Put.{piece}
 use Rattle.nfs_client.specs.PutViews.{open_value}
-use Rattle.nfs_client.specs.Streams.{directions_of}
 use Rattle.nfs_client.proofs.Putting.{wrote_more, wrote_within, write_fails}
 use Rattle.nfs_client.proofs.client.Client.write_all.Goals as goal
 
@@ -16,7 +15,7 @@ overflow_add-done g c =
     let done = c.loop-done.done in
     let inv = c.loop-done.invariant in
     let within =
-    wrote_within (directions_of g.S.Write.contents g.S.Read.remaining) c.args.over (open_value c.args.opened.now) text c.piece.result.now c.args.self.now c.loop-done.self c.write_piece.new.self inv.0 done inv.1 inv.2
+    wrote_within g.S.Transport.talks c.args.over (open_value c.args.opened.now) text c.piece.result.now c.args.self.now c.loop-done.self c.write_piece.new.self inv.0 done inv.1 inv.2
     (c.piece.ensures ∙ ap piece (take_all (length text - done) (drop done text) (left text done))) c.in-Ok.count c.loop-done-test.true c.in-Ok.ensures in
     omega (arith, within.1)
 
@@ -26,7 +25,7 @@ loop-done-smaller g c =
     let done = c.loop-done.done in
     let inv = c.loop-done.invariant in
     let within =
-    wrote_within (directions_of g.S.Write.contents g.S.Read.remaining) c.args.over (open_value c.args.opened.now) text c.piece.result.now c.args.self.now c.loop-done.self c.write_piece.new.self inv.0 done inv.1 inv.2
+    wrote_within g.S.Transport.talks c.args.over (open_value c.args.opened.now) text c.piece.result.now c.args.self.now c.loop-done.self c.write_piece.new.self inv.0 done inv.1 inv.2
     (c.piece.ensures ∙ ap piece (take_all (length text - done) (drop done text) (left text done))) c.in-Ok.count c.loop-done-test.true c.in-Ok.ensures in
     omega (arith, within.0, within.1)
 
@@ -37,10 +36,10 @@ loop-done-preserved g c =
     let inv = c.loop-done.invariant in
     let is = c.piece.ensures ∙ ap piece (take_all (length text - done) (drop done text) (left text done)) in
     let more =
-    wrote_more (directions_of g.S.Write.contents g.S.Read.remaining) c.args.over (open_value c.args.opened.now) text c.piece.result.now c.args.self.now c.loop-done.self c.write_piece.new.self inv.0 done inv.1 inv.2
+    wrote_more g.S.Transport.talks c.args.over (open_value c.args.opened.now) text c.piece.result.now c.args.self.now c.loop-done.self c.write_piece.new.self inv.0 done inv.1 inv.2
     is c.in-Ok.count c.in-Ok.ensures in
     let within =
-    wrote_within (directions_of g.S.Write.contents g.S.Read.remaining) c.args.over (open_value c.args.opened.now) text c.piece.result.now c.args.self.now c.loop-done.self c.write_piece.new.self inv.0 done inv.1 inv.2
+    wrote_within g.S.Transport.talks c.args.over (open_value c.args.opened.now) text c.piece.result.now c.args.self.now c.loop-done.self c.write_piece.new.self inv.0 done inv.1 inv.2
     is c.in-Ok.count c.loop-done-test.true c.in-Ok.ensures in
     (c.in-Ok.count ∷ inv.0, more.0, more.1, within.1)
 
@@ -49,5 +48,5 @@ returns-in-Err g c =
     let text = c.args.text.now in
     let done = c.loop-done.done in
     let inv = c.loop-done.invariant in
-    write_fails (directions_of g.S.Write.contents g.S.Read.remaining) c.args.over (open_value c.args.opened.now) text c.piece.result.now c.args.self.now c.loop-done.self c.write_piece.new.self inv.0 done inv.1 inv.2
+    write_fails g.S.Transport.talks c.args.over (open_value c.args.opened.now) text c.piece.result.now c.args.self.now c.loop-done.self c.write_piece.new.self inv.0 done inv.1 inv.2
     (c.piece.ensures ∙ ap piece (take_all (length text - done) (drop done text) (left text done))) c.in-Err.fault c.in-Err.ensures
