@@ -1,2 +1,4 @@
 pub mod ScriptTexts
 pub mod Scripts
+pub mod Visiting
+pub mod Taking

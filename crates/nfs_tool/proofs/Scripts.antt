@@ -1,5 +1,5 @@
 -- The effects and the answers of a script by its lines.
-use Rattle.std.proofs.Common.{◌≡◌, ◌≢◌, ℕ, ◌+◌, ◌<◌, ◌≤◌, ◌==◌, ◌&&◌, Bool, true, false, List, [], ◌∷◌, ◌++◌, take, codes, Option, Some, Result, Ok, Err, refl, sym, ap, subst, ◌∙◌, append_assoc, arith, inl, inr}
+use Rattle.std.proofs.Common.{◌≡◌, ◌≢◌, ℕ, ◌+◌, ◌<◌, ◌≤◌, ◌==◌, ◌&&◌, Bool, true, false, List, [], ◌∷◌, ◌++◌, length, suc, take, codes, Option, Some, Result, Ok, Err, refl, sym, ap, subst, ◌∙◌, append_assoc, arith, inl, inr}
 use Rattle.std.specs.List.{concat, flat_map}
 use Rattle.std.specs.Fmt.{decimal}
 use Rattle.std.specs.Io.KnownBytes.{Appends, Consumes, IsAtEnd, Keeps}
@@ -19,7 +19,7 @@ use Rattle.nfs_hub.specs.declared.hub.Hub.{Hub}
 use Rattle.nfs_hub.proofs.TurnLaws.{consumes_kept}
 use Rattle.nfs_tool.specs.Reloading.{Giving, Lent, Loads}
 use Rattle.nfs_tool.specs.ScriptLines.{Said, Run, Reload, is_skipped, line_in}
-use Rattle.nfs_tool.specs.Script.{is_answered, is_loaded, load_text, told_text, Tells, LineWrites, LinePrints, Print, is_within, joined, IsCut, IsScriptFault, Stands, Begins, Answered, Answers, GoesOn, Puts, IsTrailOf, WritesTrail, trail_line, trail_text, Finished, Finishes, Reads, ScriptGives, output, printing, underway, unread, past}
+use Rattle.nfs_tool.specs.Script.{is_answered, is_loaded, load_text, told_text, Tells, LineWrites, LinePrints, Print, RunGives, is_within, joined, IsCut, IsScriptFault, Stands, IsFresh, Answered, Answers, GoesOn, Puts, IsTrailOf, WritesTrail, trail_line, trail_text, Finished, Finishes, Reads, ScriptGives, output, printing, underway, unread, past}
 use Rattle.nfs_tool.specs.declared.reloading.LoadFault.{LoadFault}
 use Rattle.nfs_client.specs.declared.running.Answer.{Answer}
 use Rattle.nfs_tool.specs.declared.scripting.Progress.{Progress}
@@ -27,28 +27,31 @@ use Rattle.nfs_client.specs.declared.fault.ToolFault.{ToolFault}
 
 -- ---- one line
 
-pub asked_told : {A T : Type 0} (gives : Giving T) (old new : Lent A T) (line : List ℕ) (held held' : Option (List ℕ)) (said : Said) (told : Result (Answer A) ToolFault) (result : Result Bool ToolFault)
-    → is_skipped line ≡ false → line_in line ≡ Some (Run said) → new.texts ≡ old.texts → Tells (output (told_text told) (is_answered told)) held held' result → LineWrites gives (printing old held) (printing new held') line result
-asked_told gives old new line held held' said told (Ok good) asks is stays tells =
-    (told_text told, inr (inr (inl (record { asks = asks; said = said; is = is; told = told; text = refl; answered = tells.0; stays = stays }))), tells.1)
-asked_told gives old new line held held' said told (Err fault) asks is stays tells = subst IsScriptFault (sym tells) tt
+pub asked_told : {A T : Type 0} (gives : Giving T) (number : ℕ) (old new : Lent A T) (line : List ℕ) (held held' : Option (List ℕ)) (said : Said) (told : Result (Answer A) ToolFault) (result : Result Bool ToolFault)
+    → is_skipped line ≡ false → line_in line ≡ Some (Run said) → new.texts ≡ old.texts → RunGives number said old.hub new.hub told → Tells (output (told_text told) (is_answered told)) held held' result → LineWrites gives number (printing old held) (printing new held') line result
+asked_told gives number old new line held held' said told (Ok good) asks is stays runs tells =
+    (told_text told, inr (inr (inl (record { asks = asks; said = said; is = is; told = told; runs = runs; text = refl; answered = tells.0; stays = stays }))), tells.1)
+asked_told gives number old new line held held' said told (Err fault) asks is stays runs tells = subst IsScriptFault (sym tells) tt
 
-pub reload_told : {A T : Type 0} (gives : Giving T) (old new : Lent A T) (line : List ℕ) (held held' : Option (List ℕ)) (name : List ℕ) (told : Result (Unit {0}) LoadFault) (result : Result Bool ToolFault)
-    → is_skipped line ≡ false → line_in line ≡ Some (Reload name) → Loads gives name old new told → Tells (output (load_text told) (is_loaded told)) held held' result → LineWrites gives (printing old held) (printing new held') line result
-reload_told gives old new line held held' name told (Ok good) asks is loads tells =
+pub reload_told : {A T : Type 0} (gives : Giving T) (number : ℕ) (old new : Lent A T) (line : List ℕ) (held held' : Option (List ℕ)) (name : List ℕ) (told : Result (Unit {0}) LoadFault) (result : Result Bool ToolFault)
+    → is_skipped line ≡ false → line_in line ≡ Some (Reload name) → Loads gives name old new told → Tells (output (load_text told) (is_loaded told)) held held' result → LineWrites gives number (printing old held) (printing new held') line result
+reload_told gives number old new line held held' name told (Ok good) asks is loads tells =
     (load_text told, inr (inr (inr (record { asks = asks; name = name; is = is; told = told; loads = loads; text = refl; answered = tells.0 }))), tells.1)
-reload_told gives old new line held held' name told (Err fault) asks is loads tells = subst IsScriptFault (sym tells) tt
+reload_told gives number old new line held held' name told (Err fault) asks is loads tells = subst IsScriptFault (sym tells) tt
 
 -- a line is answered after earlier lines
-pub line_answered : {A T : Type 0} (gives : Giving T) (old new : Lent A T) (p q : Progress A) (line : List ℕ) (good : Bool) (held held' : Option (List ℕ)) → line ≡ p.line.items → LineWrites gives (printing old held) (printing new held') line (Ok good)
-    → q.is_good ≡ (p.is_good && good) → q.line ≡ p.line → Answers gives (underway p (printing old held)) (underway q (printing new held')) (Ok tt)
-line_answered {A = A} gives old new p q line good held held' is writes both same first whole out before =
-    let P : List ℕ → Type 0 = λ l. LinePrints gives old new l (output writes.0 good) in
+pub line_answered : {A T : Type 0} (gives : Giving T) (number : ℕ) (old new : Lent A T) (p q : Progress A) (line : List ℕ) (good : Bool) (held held' : Option (List ℕ)) → line ≡ p.line.items → LineWrites gives number (printing old held) (printing new held') line (Ok good)
+    → q.is_good ≡ (p.is_good && good) → q.line ≡ p.line → number ≡ p.lines + 1 → q.lines ≡ number → Answers gives (underway p (printing old held)) (underway q (printing new held')) (Ok tt)
+line_answered {A = A} gives number old new p q line good held held' is writes both same next counts first whole out before counted =
+    let P : List ℕ → Type 0 = λ l. LinePrints gives number old new l (output writes.0 good) in
+    let behind : number ≡ length whole + 1 = next ∙ ap (λ n. n + 1) counted in
+    let N : ℕ → Type 0 = λ n. LinePrints gives n old new p.line.items (output writes.0 good) in
     record {
       printed = writes.0;
       wrote = writes.2;
-      prints = (old, output out p.is_good, output writes.0 good, before, subst P is writes.1, refl, both);
+      prints = (old, output out p.is_good, output writes.0 good, before, subst N behind (subst P is writes.1), refl, both);
       line = same;
+      counted = counts ∙ behind;
     }
 
 -- ---- bytes
@@ -71,24 +74,28 @@ cut_line text lines last cut = record {
 }
 
 -- a byte is appended to the part of a line that was read
-pub byte_taken : {A T : Type 0} (gives : Giving T) (lent : Lent A T) (p q : Progress A) (b : ℕ) (held : Option (List ℕ)) → b ≢ 10 → q.line.items ≡ p.line.items ++ b ∷ [] → q.is_good ≡ p.is_good
+pub byte_taken : {A T : Type 0} (gives : Giving T) (lent : Lent A T) (p q : Progress A) (b : ℕ) (held : Option (List ℕ)) → b ≢ 10 → q.line.items ≡ p.line.items ++ b ∷ [] → q.is_good ≡ p.is_good → q.lines ≡ p.lines
     → GoesOn gives (underway p (printing lent held)) (underway q (printing lent held)) (b ∷ []) (Ok tt)
-byte_taken {A = A} {T = T} gives lent p q b held other line good before stands =
+byte_taken {A = A} {T = T} gives lent p q b held other line good counts before stands =
     let Q : List ℕ → Type 0 = λ l. IsCut (before.read ++ b ∷ []) stands.whole l in
     let R : Bool → Type 0 = λ g. Print gives before.first lent stands.whole (output before.printed g) in
     let S : List ℕ → Type 0 = λ o. Stands gives (past before.first (before.read ++ b ∷ []) o) (underway q (printing lent held)) in
     let taken : Stands gives (past before.first (before.read ++ b ∷ []) before.printed) (underway q (printing lent held)) = record {
       whole = stands.whole;
       cut = subst Q (sym line) (cut_byte before.read stands.whole p.line.items b other stands.cut);
+      counted = counts ∙ stands.counted;
       prints = subst R (sym good) stands.prints;
     } in
     ([], appends_none held, subst S (sym (append-nil before.printed)) taken)
 
+add_one : (n : ℕ) → n + 1 ≡ suc n
+add_one n = omega arith
+
 -- a line ends
-pub line_ended : {A T : Type 0} (gives : Giving T) (old new : Lent A T) (p mid q : Progress A) (b : ℕ) (held held' : Option (List ℕ)) → b ≡ 10 → Answers gives (underway p (printing old held)) (underway mid (printing new held')) (Ok tt) → q.line.items ≡ [] → q.is_good ≡ mid.is_good
+pub line_ended : {A T : Type 0} (gives : Giving T) (old new : Lent A T) (p mid q : Progress A) (b : ℕ) (held held' : Option (List ℕ)) → b ≡ 10 → Answers gives (underway p (printing old held)) (underway mid (printing new held')) (Ok tt) → q.line.items ≡ [] → q.is_good ≡ mid.is_good → q.lines ≡ mid.lines
     → GoesOn gives (underway p (printing old held)) (underway q (printing new held')) (b ∷ []) (Ok tt)
-line_ended {A = A} {T = T} gives old new p mid q b held held' newline answers line good before stands =
-    let a : Answered gives (past before.first stands.whole before.printed) (underway p (printing old held)) (underway mid (printing new held')) = answers before.first stands.whole before.printed stands.prints in
+line_ended {A = A} {T = T} gives old new p mid q b held held' newline answers line good counts before stands =
+    let a : Answered gives (past before.first stands.whole before.printed) (underway p (printing old held)) (underway mid (printing new held')) = answers before.first stands.whole before.printed stands.prints stands.counted in
     let N : ℕ → Type 0 = λ n. IsCut (before.read ++ n ∷ []) (p.line.items ∷ stands.whole) q.line.items in
     let Q : List ℕ → Type 0 = λ l. IsCut (before.read ++ 10 ∷ []) (p.line.items ∷ stands.whole) l in
     let R : Bool → Type 0 = λ g. Print gives before.first new (p.line.items ∷ stands.whole) (output (before.printed ++ a.printed) g) in (
@@ -97,6 +104,7 @@ line_ended {A = A} {T = T} gives old new p mid q b held held' newline answers li
       record {
         whole = p.line.items ∷ stands.whole;
         cut = subst N (sym newline) (subst Q (sym line) (cut_line before.read stands.whole p.line.items stands.cut));
+        counted = counts ∙ a.counted ∙ add_one (length stands.whole);
         prints = subst R (sym good) a.prints;
       },
     )
@@ -176,7 +184,7 @@ pub record Running {A T : Type 0} (gives : Giving T) (old new : Lent A T) (p : P
   pub wrote : Appends held held' out
   pub stands : Stands gives (past old (concat reads.pieces) out) (underway p (printing new held'))
 
-pub runs_none : {A T : Type 0} (gives : Giving T) (lent : Lent A T) (p : Progress A) (left held : Option (List ℕ)) → Begins p → Running gives lent lent p 0 left left held held
+pub runs_none : {A T : Type 0} (gives : Giving T) (lent : Lent A T) (p : Progress A) (left held : Option (List ℕ)) → IsFresh p → Running gives lent lent p 0 left left held held
 runs_none gives lent p left held begins =
     let Q : List ℕ → Type 0 = λ l. IsCut [] [] l in
     let R : Bool → Type 0 = λ g. Print gives lent lent [] (output [] g) in
@@ -184,7 +192,7 @@ runs_none gives lent p left held begins =
       reads = record { pieces = []; are = All-nil IsPiece; few = omega arith; read = consumes_none left };
       out = [];
       wrote = appends_none held;
-      stands = record { whole = []; cut = subst Q (sym begins.0) (record { parts = refl; are_lines = tt; is_line = refl }); prints = subst R (sym begins.1) (refl, refl, refl) };
+      stands = record { whole = []; cut = subst Q (sym begins.0) (record { parts = refl; are_lines = tt; is_line = refl }); prints = subst R (sym begins.2) (refl, refl, refl); counted = begins.1 };
     }
 
 pub runs_further : {A T : Type 0} (gives : Giving T) (x y z : Lent A T) (p q : Progress A) (count : ℕ) (piece : List ℕ) (left left' left'' held held' held'' : Option (List ℕ)) → Running gives x y p count left left' held held'

@@ -1,4 +1,3 @@
-pub mod LocalFaults
 pub mod LocalStreams
 pub mod ScriptLines
 pub mod ScriptViews

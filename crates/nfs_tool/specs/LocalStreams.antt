@@ -1,16 +1,18 @@
--- A stream over a connection of a hub: a write is one piece of the connection, and a read is one taking.
-use Rattle.std.specs.Prelude.{◌≡◌, ◌≢◌, ◌↔◌, ℕ, true, false, List, ◌∷◌, length, Option, Some, None, IsNone, IfOk}
-use Rattle.std.specs.Prelude.{IsErrOf, is_err, option_map, Result, Ok, Err}
-use Rattle.std.specs.IoError.{error_kind}
-use Rattle.std.specs.declared.io.Error.{Error}
+-- A connection of a hub as the transport of a client: a call is one piece of the connection, and the
+-- record after it is taken of the replies that are pending then.
+use Rattle.std.specs.Prelude.{◌≡◌, ◌≢◌, ◌↔◌, ◌⊎◌, ℕ, ◌+◌, true, false, List, ◌∷◌, length, Option, Some, None}
+use Rattle.std.specs.Prelude.{IsNone, IsErrOf, is_err, option_map, Result, Ok, Err}
 use Rattle.nfs_types.specs.declared.moment.Moment.{Moment}
 use Rattle.nfs_hub.specs.Answer.{Served}
 use Rattle.nfs_hub.specs.Machine.{Event, Piece, Take}
-use Rattle.nfs_hub.specs.Hub.{LeadsTo, Goes, TakeGives, BreaksSo, broken_at, pending_at}
+use Rattle.nfs_hub.specs.Hub.{LeadsTo, Goes, BreaksSo, broken_at, pending_at}
 use Rattle.nfs_hub.specs.declared.hub.Hub.{Hub}
 use Rattle.nfs_hub.specs.declared.fault.HubFault.{HubFault}
 use Rattle.nfs_hub.specs.declared.fault.HubFault.TheVariants.{TooMany, NoSuch, Broken, Exhausted}
-use Rattle.nfs_tool.specs.LocalFaults.{kind_of}
+use Rattle.nfs_client.specs.Paging.{itself}
+use Rattle.nfs_client.specs.Streams.{RecordGives}
+use Rattle.nfs_client.specs.declared.fault.ToolFault.{ToolFault}
+use Rattle.nfs_client.specs.declared.fault.ToolFault.TheVariants.{Read, Write}
 use Rattle.nfs_tool.specs.declared.local.Local.{Local}
 
 -- the same connection of the same hub, at the same moment
@@ -24,47 +26,43 @@ pub record IsMomentOf {A : Type 0} (l : Local A) (moment : Moment) : Type 0 wher
   pub seconds : moment.seconds ≡ l.seconds
   pub whole : moment.nanoseconds ≡ 0
 
--- The bytes that were written to a connection aren't known.
-abbrev pub unknown : {A : Type 0} → Local A → Option (List ℕ)
-unknown l = None
-
--- the bytes that can be read of a connection are its pending bytes
-abbrev pub pending_of : {A : Type 0} → Local A → Option (List ℕ)
-pending_of l = pending_at l.hub.now l.conn
-
--- the number of bytes where the hub took or gave them, and a refusal of the hub as an error of its
--- kind
-abbrev pub ToldAs : {X : Type 0} → (X → ℕ) → Result X HubFault → Result ℕ Error → Type 0
-ToldAs count (Ok x) (Ok n) = n ≡ count x
-ToldAs count (Err fault) (Err error) = error_kind error ≡ kind_of fault
-ToldAs count (Ok x) (Err error) = ⊥
-ToldAs count (Err fault) (Ok n) = ⊥
-
 -- these events lead on from the hub before to the hub after
 pub record LeadsOn {A : Type 0} (event : Event) (old new : Hub A) : Type 0 where
   pub goes : Goes event old new
   pub leads : (first : Served) (events : List Event) → LeadsTo first events old → LeadsTo first (event ∷ events) new
 
-abbrev pub as_many : ℕ → ℕ
-as_many n = n
-
--- A read is one taking, with its result.
-pub record Taken {A : Type 0} (old new : Local A) (buf buf' : List ℕ) (result : Result ℕ Error) : Type 0 where
-  pub told : Result ℕ HubFault
-  pub gives : TakeGives old.conn told old.hub.now new.hub.now buf buf'
-  pub leads : IfOk told (λ n. LeadsOn (Take old.conn n) old.hub.now new.hub.now)
-  pub tells : ToldAs as_many told result
-
--- A write is one piece at the stream's moment, with the result of feeding it.
-pub record Fed {A : Type 0} (old new : Local A) (piece : List ℕ) (result : Result ℕ Error) : Type 0 where
-  pub told : Result (Unit {0}) HubFault
+-- A piece comes to the connection at the stream's moment, and the hub answers this.
+pub record Fed {A : Type 0} (l : Local A) (old : Hub A) (piece : List ℕ) (told : Result (Unit {0}) HubFault)
+    (new : Hub A) : Type 0 where
   pub moment : Moment
-  pub is_moment : IsMomentOf old moment
-  pub leads : LeadsOn (Piece old.conn piece moment) old.hub.now new.hub.now
-  pub no_such : IsErrOf told NoSuch ↔ IsNone (broken_at old.hub.now old.conn)
-  pub broken : broken_at new.hub.now old.conn ≡ option_map (λ was. is_err told) (broken_at old.hub.now old.conn)
-  pub stays : broken_at old.hub.now old.conn ≡ Some true → told ≡ Err Broken
-  pub breaks : told ≡ Err Broken → broken_at old.hub.now old.conn ≡ Some false
-      → BreaksSo old.conn piece moment old.hub.now new.hub.now
+  pub is_moment : IsMomentOf l moment
+  pub leads : LeadsOn (Piece l.conn piece moment) old new
+  pub no_such : IsErrOf told NoSuch ↔ IsNone (broken_at old l.conn)
+  pub broken : broken_at new l.conn ≡ option_map (λ was. is_err told) (broken_at old l.conn)
+  pub stays : broken_at old l.conn ≡ Some true → told ≡ Err Broken
+  pub breaks : told ≡ Err Broken → broken_at old l.conn ≡ Some false → BreaksSo l.conn piece moment old new
   pub faults : (told ≢ Err TooMany) × (told ≢ Err Exhausted)
-  pub tells : ToldAs (λ done. length piece) told result
+
+-- The first of the pending bytes are taken: a record, or bytes that are none.
+pub record TakesOf {A : Type 0} (conn : ℕ) (pending : List ℕ) (old : Hub A) (result : Result (List ℕ) ToolFault)
+    (new : Hub A) : Type 0 where
+  pub left : List ℕ
+  pub read : RecordGives itself (Some pending) (Some left) result
+  pub count : ℕ
+  pub counted : count + length left ≡ length pending
+  pub leads : LeadsOn (Take conn count) old new
+  pub stays : pending_at new conn ≡ Some left
+
+-- the first record of what is pending on the connection is taken, if the connection is open
+abbrev pub TakesRecord : {A : Type 0} → ℕ → Hub A → Result (List ℕ) ToolFault → Hub A → Type 0
+TakesRecord conn old result new =
+    ((pending_at old conn ≡ None) × (result ≡ Err Read) × (new ≡ old))
+    ⊎ ((pending : List ℕ) × (pending_at old conn ≡ Some pending) × TakesOf conn pending old result new)
+
+-- The call is refused as a piece; or it comes as one piece, and the first record that is pending
+-- then is taken.
+abbrev pub LocalTalks : {A : Type 0} → Local A → List ℕ → Result (List ℕ) ToolFault → Local A → Type 0
+LocalTalks {A} old call result new =
+    IsSameStream old new
+    × (((fault : HubFault) × Fed old old.hub.now call (Err fault) new.hub.now × (result ≡ Err Write))
+    ⊎ ((mid : Hub A) × Fed old old.hub.now call (Ok tt) mid × TakesRecord old.conn mid result new.hub.now))

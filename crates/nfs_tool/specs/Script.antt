@@ -1,12 +1,13 @@
 -- The effects and the answers of a script: the answer to each line, and after the last line the trail.
 use Rattle.std.specs.Prelude.{◌≡◌, ◌⊎◌, ℕ, ◌-◌, ◌≤◌, ◌==◌, ◌&&◌, not, Bool, true, false, List, [], ◌∷◌, ◌++◌, length}
-use Rattle.std.specs.Prelude.{codes, decimal, Option, Some, None, Result, Ok, Err}
+use Rattle.std.specs.Prelude.{◌+◌, codes, decimal, pos, Option, Some, None, Result, Ok, Err}
+use Rattle.std.specs.Int.{w64, to_be_bytes}
 use Rattle.std.specs.List.{All, concat, flat_map, list_all}
 use Rattle.std.specs.Io.KnownBytes.{Appends, Consumes, IsAtEnd}
 use Rattle.access_guard.specs.Text.{line_text}
 use Rattle.access_guard.specs.declared.line.Line.{Line}
-use Rattle.nfs_hub.specs.Machine.{State}
-use Rattle.nfs_hub.specs.Hub.{IsHub}
+use Rattle.nfs_hub.specs.Machine.{State, Connect, Close}
+use Rattle.nfs_hub.specs.Hub.{IsHub, ConnectGives}
 use Rattle.nfs_hub.specs.Served.{IsPiece}
 use Rattle.nfs_hub.specs.declared.hub.Hub.{Hub}
 use Rattle.nfs_hub.specs.declared.fault.HubFault.{HubFault}
@@ -18,9 +19,12 @@ use Rattle.nfs_client.specs.FaultTexts.{fault_text}
 use Rattle.nfs_tool.specs.Reloading.{Giving, Lent, Loads}
 use Rattle.nfs_client.specs.Running.{Runs}
 use Rattle.nfs_tool.specs.ScriptLines.{Said, Run, Reload, is_skipped, line_in}
-use Rattle.nfs_client.specs.Sessions.{OpenGives}
-use Rattle.nfs_client.specs.Streams.{Directions}
+use Rattle.nfs_client.specs.Sessions.{ClientOwner, Begins, EndGives}
+use Rattle.nfs_client.specs.Talking.{Talking}
+use Rattle.nfs_client.specs.Words.{CommandLine}
 use Rattle.nfs_client.specs.declared.client.Client.{Client}
+use Rattle.nfs_tool.specs.LocalStreams.{LeadsOn, LocalTalks}
+use Rattle.nfs_tool.specs.declared.local.Local.{Local}
 use Rattle.nfs_tool.specs.declared.reloading.LoadFault.{LoadFault}
 use Rattle.nfs_tool.specs.declared.reloading.LoadFault.TheVariants.{NoText, NoBook, Exhausted}
 use Rattle.nfs_client.specs.declared.running.Answer.{Answer}
@@ -34,16 +38,15 @@ use Rattle.nfs_client.specs.declared.fault.ToolFault.TheVariants.{Refused, Read,
 abbrev pub owner : List ℕ
 owner = codes "nfsc"
 
--- the command of a client with a session of its own, over a stream; or no session is opened
-abbrev pub RunsOver : {S A : Type 0} → Directions S → S → Said → List ℕ → Result (Answer A) ToolFault → Type 0
-RunsOver {S} {A} directions stream said verifier told =
-    ((fault : ToolFault)
-    × OpenGives {S = S} {A = A} directions stream said.uid said.gid (record { id = owner; verifier = verifier })
-    (Err fault)
-    × (told ≡ Err fault))
-    ⊎ ((old : Client S A) × (new : Client S A)
-    × OpenGives directions stream said.uid said.gid (record { id = owner; verifier = verifier }) (Ok old)
-    × Runs directions said.command old new told)
+-- A client that begins with a session runs a command, and ends its session; or no session begins.
+abbrev pub RunsOver : {S A : Type 0} → Talking S → CommandLine → ClientOwner → Client S A → Client S A
+    → Result (Answer A) ToolFault → Type 0
+RunsOver {S} {A} talks command start old new told =
+    ((fault : ToolFault) × Begins talks start old new (Err fault) × (told ≡ Err fault))
+    ⊎ ((begun : Client S A) × (ran : Client S A) × (ended : Result (Unit {0}) ToolFault)
+    × Begins talks start old begun (Ok tt)
+    × Runs talks command begun ran told
+    × EndGives talks ran new ended)
 
 -- a client whose connection isn't opened can't write to it
 abbrev pub unconnected : HubFault → ToolFault
@@ -52,6 +55,49 @@ unconnected hub_fault.TooMany = Write
 unconnected hub_fault.Exhausted = Write
 unconnected hub_fault.NoSuch = Write
 unconnected hub_fault.Broken = Write
+
+-- A new client of this user and group, whose calls come to this connection of the hub at the moment
+-- of as many whole seconds.
+pub record IsCaller {A : Type 0} (conn number : ℕ) (said : Said) (hub : Hub A) (client : Client (Local A) A)
+    : Type 0 where
+  pub user : client.uid ≡ said.uid
+  pub group : client.gid ≡ said.gid
+  pub usable : client.usable ≡ true
+  pub over : client.stream.hub.now ≡ hub
+  pub on : client.stream.conn ≡ conn
+  pub seconds : client.stream.seconds ≡ pos number
+
+-- Over a connection that is open the client of a line has its session and runs the line's command.
+-- Its exchanges lead from the hub before to the hub after. No two lines have one verifier.
+pub record Visits {A : Type 0} (conn number : ℕ) (said : Said) (old new : Hub A) (told : Result (Answer A) ToolFault)
+    : Type 0 where
+  pub first : Client (Local A) A
+  pub last : Client (Local A) A
+  pub caller : IsCaller conn number said old first
+  pub runs : RunsOver LocalTalks said.command (record { id = owner; verifier = to_be_bytes w64 number }) first last told
+  pub after : last.stream.hub.now ≡ new
+
+-- A connection is opened, a client runs a command over it, and it is closed.
+pub record Connects {A : Type 0} (number : ℕ) (said : Said) (old new : Hub A) (told : Result (Answer A) ToolFault)
+    : Type 0 where
+  pub conn : ℕ
+  pub opened : Hub A
+  pub opens : LeadsOn Connect old opened
+  pub is_open : ConnectGives (Ok conn) old opened
+  pub last : Hub A
+  pub visits : Visits conn number said opened last told
+  pub closes : LeadsOn (Close conn) last new
+
+-- the hub refuses a connection
+pub record IsKeptOut {A : Type 0} (old new : Hub A) (told : Result (Answer A) ToolFault) : Type 0 where
+  pub why : HubFault
+  pub tries : LeadsOn Connect old new
+  pub refused : ConnectGives (Err why) old new
+  pub answer : told ≡ Err (unconnected why)
+
+-- the effect on the hub of the command in the line of this number, and its answer
+abbrev pub RunGives : {A : Type 0} → ℕ → Said → Hub A → Hub A → Result (Answer A) ToolFault → Type 0
+RunGives number said old new told = IsKeptOut old new told ⊎ Connects number said old new told
 
 -- ---- the text that is printed
 
@@ -109,12 +155,13 @@ pub record Output : Type 0 where
 abbrev pub output : List ℕ → Bool → Output
 output text good = record { text = text; good = good }
 
--- the answer to a command is printed; the texts stay
-pub record Asked {A T : Type 0} (old new : Lent A T) (line : List ℕ) (out : Output) : Type 0 where
+-- the command of the line of this number runs over the hub, and its answer is printed; the texts stay
+pub record Asked {A T : Type 0} (number : ℕ) (old new : Lent A T) (line : List ℕ) (out : Output) : Type 0 where
   pub asks : is_skipped line ≡ false
   pub said : Said
   pub is : line_in line ≡ Some (Run said)
   pub told : Result (Answer A) ToolFault
+  pub runs : RunGives number said old.hub new.hub told
   pub text : out.text ≡ told_text told
   pub answered : out.good ≡ is_answered told
   pub stays : new.texts ≡ old.texts
@@ -130,22 +177,22 @@ pub record Reloaded {A T : Type 0} (gives : Giving T) (old new : Lent A T) (line
   pub text : out.text ≡ load_text told
   pub answered : out.good ≡ is_loaded told
 
--- The effect and the output of a line. A skipped line prints no text.
-abbrev pub LinePrints : {A T : Type 0} → Giving T → Lent A T → Lent A T → List ℕ → Output → Type 0
-LinePrints gives old new line out =
+-- The effect and the output of the line of this number. A skipped line prints no text.
+abbrev pub LinePrints : {A T : Type 0} → Giving T → ℕ → Lent A T → Lent A T → List ℕ → Output → Type 0
+LinePrints gives number old new line out =
     ((is_skipped line ≡ true) × (out.text ≡ []) × (out.good ≡ true) × (new ≡ old))
     ⊎ ((is_skipped line ≡ false) × (line_in line ≡ None) × (out.text ≡ bad_line) × (out.good ≡ false) × (new ≡ old))
-    ⊎ Asked old new line out
+    ⊎ Asked number old new line out
     ⊎ Reloaded gives old new line out
 
 -- ---- lines, the last of them first
 
--- the effects and the outputs of lines in order
+-- the effects and the outputs of lines in order, which are numbered from 1 on
 abbrev pub Print : {A T : Type 0} → Giving T → Lent A T → Lent A T → List (List ℕ) → Output → Type 0
 Print gives old new [] out = (new ≡ old) × (out.text ≡ []) × (out.good ≡ true)
 Print {A = A} {T = T} gives old new (line ∷ before) out =
     (mid : Lent A T) × (earlier : Output) × (printed : Output) × Print gives old mid before earlier
-    × LinePrints gives mid new line printed × (out.text ≡ earlier.text ++ printed.text)
+    × LinePrints gives (length before + 1) mid new line printed × (out.text ≡ earlier.text ++ printed.text)
     × (out.good ≡ (earlier.good && printed.good))
 
 abbrev pub is_within : ℕ → Bool
@@ -226,11 +273,12 @@ past first read printed = record { first = first; read = read; printed = printed
 pub record Stands {A T : Type 0} (gives : Giving T) (before : Past A T (List ℕ)) (here : Underway A T) : Type 0 where
   pub whole : List (List ℕ)
   pub cut : IsCut before.read whole here.progress.line.items
+  pub counted : here.progress.lines ≡ length whole
   pub prints : Print gives before.first here.printing.lent whole (output before.printed here.progress.is_good)
 
 -- no bytes were read
-abbrev pub Begins : {A : Type 0} → Progress A → Type 0
-Begins p = (p.line.items ≡ []) × (p.is_good ≡ true)
+abbrev pub IsFresh : {A : Type 0} → Progress A → Type 0
+IsFresh p = (p.line.items ≡ []) × (p.lines ≡ 0) × (p.is_good ≡ true)
 
 -- a text is printed, or the writer fails
 abbrev pub Puts : {X : Type 0} → List ℕ → Option (List ℕ) → Option (List ℕ) → Result X ToolFault → Type 0
@@ -246,13 +294,13 @@ abbrev pub Tells : Output → Option (List ℕ) → Option (List ℕ) → Result
 Tells out held held' (Ok told) = (told ≡ out.good) × Appends held held' out.text
 Tells out held held' (Err fault) = fault ≡ Write
 
--- the text of a line is written
-abbrev pub LineWrites : {A T : Type 0} → Giving T → Printing A T → Printing A T → List ℕ → Result Bool ToolFault
+-- the text of the line of this number is written
+abbrev pub LineWrites : {A T : Type 0} → Giving T → ℕ → Printing A T → Printing A T → List ℕ → Result Bool ToolFault
     → Type 0
-LineWrites gives old new line (Ok good) =
-    (printed : List ℕ) × LinePrints gives old.lent new.lent line (output printed good)
+LineWrites gives number old new line (Ok good) =
+    (printed : List ℕ) × LinePrints gives number old.lent new.lent line (output printed good)
     × Appends old.held new.held printed
-LineWrites gives old new line (Err fault) = IsScriptFault fault
+LineWrites gives number old new line (Err fault) = IsScriptFault fault
 
 -- the line that was read so far is answered after these lines, and stays
 pub record Answered {A T : Type 0} (gives : Giving T) (before : Past A T (List (List ℕ)))
@@ -262,11 +310,12 @@ pub record Answered {A T : Type 0} (gives : Giving T) (before : Past A T (List (
   pub prints : Print gives before.first new.printing.lent (old.progress.line.items ∷ before.read)
       (output (before.printed ++ printed) new.progress.is_good)
   pub line : new.progress.line ≡ old.progress.line
+  pub counted : new.progress.lines ≡ length before.read + 1
 
 abbrev pub Answers : {A T : Type 0} → Giving T → Underway A T → Underway A T → Result (Unit {0}) ToolFault → Type 0
 Answers {A = A} {T = T} gives old new (Ok done) =
     (first : Lent A T) → (whole : List (List ℕ)) → (out : List ℕ)
-    → Print gives first old.printing.lent whole (output out old.progress.is_good)
+    → Print gives first old.printing.lent whole (output out old.progress.is_good) → old.progress.lines ≡ length whole
     → Answered gives (past first whole out) old new
 Answers gives old new (Err fault) = IsScriptFault fault
 

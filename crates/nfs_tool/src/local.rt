@@ -1,42 +1,29 @@
-//! A stream over a connection of a hub.
+//! A connection of a hub as the transport of a client.
 ghost use Rattle.std.specs.Prelude.{◌≡◌};
-ghost use Rattle.std.specs.IoError.{error_kind};
-ghost use Rattle.nfs_tool.specs.LocalFaults.{kind_of};
 
+use nfs_client::{ToolFault, Transport, read_record};
 use nfs_hub::{ConnId, Hub, HubFault};
 use nfs_types::Moment;
 use std::alloc::{Allocator, Global};
-use std::io::{self, ErrorKind, Read, Write};
 
-/// A stream over a connection of a hub, which is lent. The bytes of a write come to the connection
-/// as a piece. The bytes of a read are taken from the replies that are pending on it. A read gives
-/// no bytes where none are pending.
+/// A connection of a hub, which is lent. A call comes to the connection as one piece. The record
+/// after it is taken from the replies that are pending on it then.
 #[derive(Drop)]
 pub struct Local<'h, A: Allocator + Copy = Global> {
-    hub: &'h mut Hub<A>,
+    pub(crate) hub: &'h mut Hub<A>,
     conn: ConnId,
     /// The moment of each piece, in whole seconds since the epoch.
     seconds: i64,
 }
 
-/// The error for a refusal of the hub: `NotConnected` where no such connection is open,
-/// `BrokenPipe` where the connection is broken, and `OutOfMemory`.
-fn error_of(fault: HubFault) -> io::Error
-    ensures { error_kind result ≡ kind_of fault }
-{
-    io::Error::from(match fault {
-        HubFault::NoSuch => ErrorKind::NotConnected,
-        HubFault::Broken => ErrorKind::BrokenPipe,
-        HubFault::Memory => ErrorKind::OutOfMemory,
-        HubFault::TooMany => ErrorKind::QuotaExceeded,
-        HubFault::Exhausted => ErrorKind::AddrNotAvailable,
-    })
-}
-
 impl<'h, A: Allocator + Copy> Local<'h, A> {
-    ghost use Rattle.nfs_tool.specs.LocalStreams.{IsMomentOf};
+    ghost use Rattle.std.specs.Prelude.{MatchOption, Err};
+    ghost use Rattle.nfs_client.specs.Talking.{as_read};
+    ghost use Rattle.nfs_client.specs.declared.fault.ToolFault.TheVariants.{Read};
+    ghost use Rattle.nfs_hub.specs.Hub.{pending_at};
+    ghost use Rattle.nfs_tool.specs.LocalStreams.{IsMomentOf, IsSameStream, Fed, TakesRecord};
 
-    /// A stream over the connection of this number; each of its pieces comes this many whole
+    /// A transport over the connection of this number; each of its pieces comes this many whole
     /// seconds after the epoch.
     pub fn new(hub: &'h mut Hub<A>, conn: ConnId, seconds: i64) -> Self
         ensures same_hub { result.hub.ghost_name ≡ hub.entry.ghost_name }
@@ -55,52 +42,45 @@ impl<'h, A: Allocator + Copy> Local<'h, A> {
             nanoseconds: 0,
         }
     }
-}
 
-impl<A: Allocator + Copy> Read for Local<'_, A> {
-    ghost use Rattle.std.specs.Io.{ReadsAtMost};
-    ghost use Rattle.std.specs.Io.KnownBytes.{ReadConsumes};
-    ghost use Rattle.nfs_tool.specs.LocalStreams.{pending_of, IsSameStream, Taken};
-
-    ghost remaining = { pending_of };
-
-    /// Moves as many of the first pending bytes as fit to the front of the buffer, by one `Hub::take_out`.
-    fn read(&mut self, buf: &mut [u8]) -> io::Result<usize>
-        ensures bound { ReadsAtMost result buf.new }
-        ensures bytes { ReadConsumes (pending_of self.old) (pending_of self.new) result buf.new }
+    /// Feeds bytes to the connection as one piece.
+    fn feed(&mut self, bytes: &[u8]) -> Result<(), HubFault>
         ensures same { IsSameStream self.old self.new }
-        ensures taken { Taken self.old self.new buf.old buf.new result }
-    {
-        self.hub.take_out(self.conn, buf).map_err(error_of)
-    }
-}
-
-impl<A: Allocator + Copy> Write for Local<'_, A> {
-    ghost use Rattle.std.specs.Io.{WritesAtMost};
-    ghost use Rattle.std.specs.Io.KnownBytes.{WriteAppends, Keeps};
-    ghost use Rattle.nfs_tool.specs.LocalStreams.{unknown, IsSameStream, Fed};
-
-    ghost contents = { unknown };
-
-    /// Feeds the bytes as one piece, by one `Hub::feed`: all of them are written, or the connection is broken.
-    fn write(&mut self, buf: &[u8]) -> io::Result<usize>
-        ensures bound { WritesAtMost result buf.now }
-        ensures bytes { WriteAppends (unknown self.old) (unknown self.new) result buf.now }
-        ensures same { IsSameStream self.old self.new }
-        ensures fed { Fed self.old self.new buf.now result }
+        ensures fed { Fed self.old self.old.hub.now bytes.now result self.new.hub.now }
     {
         let moment = self.moment();
-        match self.hub.feed(self.conn, buf, moment) {
-            Ok(()) => Ok(buf.len()),
-            Err(fault) => Err(error_of(fault)),
-        }
+        self.hub.feed(self.conn, bytes, moment)
     }
 
-    /// No bytes are held back.
-    fn flush(&mut self) -> io::Result<()>
-        ensures bytes { Keeps (unknown self.old) (unknown self.new) }
-        ensures same { self.new ≡ self.old }
+    /// Takes the first record of the pending bytes. `Read`: they are no whole record.
+    fn take_record<B: Allocator>(&mut self, alloc: B) -> Result<Vec<u8, B>, ToolFault>
+        ensures same { IsSameStream self.old self.new }
+        ensures takes { TakesRecord self.old.conn self.old.hub.now (as_read (λ v. v.items) result) self.new.hub.now }
     {
-        Ok(())
+        let Some(pending) = self.hub.pending(self.conn) else {
+            return Err(ToolFault::Read);
+        };
+        let mut left = pending;
+        let told = read_record(alloc, &mut left);
+        let taken = pending.len() - left.len();
+        match self.hub.consume(self.conn, taken) {
+            Ok(_) => told,
+            Err(_) => Err(ToolFault::Read),
+        }
+    }
+}
+
+impl<A: Allocator + Copy> Transport for Local<'_, A> {
+    ghost use Rattle.nfs_tool.specs.LocalStreams.{LocalTalks};
+
+    ghost talks = { LocalTalks };
+
+    /// Feeds the call as one piece, and takes the record that is pending then. `Write`: the hub
+    /// refused the piece.
+    fn talk<B: Allocator>(&mut self, alloc: B, call: &[u8]) -> Result<Vec<u8, B>, ToolFault> {
+        match self.feed(call) {
+            Ok(()) => self.take_record(alloc),
+            Err(_) => Err(ToolFault::Write),
+        }
     }
 }

@@ -2,11 +2,13 @@
 //! lines that load another book.
 ghost use Rattle.std.specs.Prelude.{◌≡◌, ◌∷◌, [], ◌&&◌, ◌++◌, false, true, Ok, map, option_map, length, codes, decimal};
 ghost use Rattle.std.specs.List.{flat_map};
-ghost use Rattle.nfs_client.specs.Streams.{directions_of};
+ghost use Rattle.nfs_client.specs.WordViews.{command_line};
 ghost use Rattle.nfs_tool.specs.Reloading.{lent};
-ghost use Rattle.nfs_tool.specs.Script.{RunsOver, unconnected, is_refusal, is_answered, is_loaded, fault_line};
-ghost use Rattle.nfs_tool.specs.Script.{bad_line, book_number, book_text, told_text, load_text, trail_line, Puts};
-ghost use Rattle.nfs_tool.specs.Script.{WritesLine, Tells, LineWrites, Begins, Answers, GoesOn, WritesTrail, Finishes};
+ghost use Rattle.nfs_tool.specs.Script.{RunsOver, Visits, RunGives, owner, unconnected, is_refusal, is_answered};
+ghost use Rattle.nfs_tool.specs.Script.{is_loaded};
+ghost use Rattle.nfs_tool.specs.Script.{fault_line, bad_line, book_number, book_text, told_text, load_text};
+ghost use Rattle.nfs_tool.specs.Script.{trail_line, Puts};
+ghost use Rattle.nfs_tool.specs.Script.{WritesLine, Tells, LineWrites, IsFresh, Answers, GoesOn, WritesTrail, Finishes};
 ghost use Rattle.nfs_tool.specs.Script.{ScriptGives, output, printing, underway, unread};
 ghost use Rattle.nfs_tool.specs.ScriptLines.{is_skipped, words_in, line_in};
 ghost use Rattle.nfs_tool.specs.ScriptViews.{said_line, wish_line};
@@ -16,8 +18,8 @@ use crate::reloading::{LoadFault, Texts, load};
 use crate::script_line::{Said, Wish, is_skipped, is_text, words_in};
 use access_guard::{Guard, write_line};
 use itoa::Buffer;
-use nfs_client::{Answer, Client, ToolFault, write_out};
-use nfs_hub::{Hub, HubFault};
+use nfs_client::{Answer, Client, Command, ToolFault, Transport, write_out};
+use nfs_hub::{ConnId, Hub, HubFault};
 use std::alloc::{Allocator, Global};
 use std::io::{Read, Write};
 use who_book::BookFault;
@@ -54,40 +56,61 @@ fn unconnected(fault: HubFault) -> ToolFault
     }
 }
 
-/// Runs a command by a client and a session of its own. The session is ended after the command,
-/// also where the command was refused.
-fn run_over<S: Read + Write + Drop, A: Allocator + Copy>(
-    alloc: A,
-    stream: S,
-    said: Said<'_>,
+/// Runs a command by a session of the client's own. The session is ended after the command, also
+/// where the command was refused.
+fn run_over<S: Transport, A: Allocator + Copy>(
+    client: &mut Client<S, A>,
+    command: Command<'_>,
     verifier: [u8; 8],
 ) -> Result<Answer<A>, ToolFault>
-    ensures { RunsOver (directions_of S.contents S.remaining) stream (said_line said.entry) verifier result }
+    requires { client.old.usable ≡ true }
+    ensures { RunsOver S.talks (command_line command.entry) (record { id = owner; verifier = verifier })
+        client.old client.new result }
 {
-    let mut client = match Client::open(alloc, stream, said.uid, said.gid, OWNER, verifier) {
-        Ok(client) => client,
+    match client.begin(OWNER, verifier) {
+        Ok(()) => {}
         Err(fault) => return Err(fault),
-    };
-    let told = client.answer(said.command);
+    }
+    let told = client.answer(command);
     let _ = client.end();
     told
 }
 
-/// Runs the command of the line of this number over a connection of its own, at the moment of that
-/// many seconds. No two lines have one verifier.
+/// Runs the command of the line of this number over a connection, at the moment of that many
+/// seconds. No two lines have one verifier.
+fn visit<A: Allocator + Copy>(
+    alloc: A,
+    hub: &mut Hub<A>,
+    conn: ConnId,
+    said: Said<'_>,
+    number: u32,
+) -> Result<Answer<A>, ToolFault>
+    ensures { Visits conn number (said_line said.entry) hub.old hub.new result }
+{
+    let local = Local::new(hub, conn, i64::from(number));
+    let mut client = Client::resume(alloc, local, said.uid, said.gid, 0, [0; 16], 0);
+    let verifier = u64::from(number).to_be_bytes();
+    let told = run_over(&mut client, said.command, verifier);
+    let Local { hub, .. } = client.into_stream();
+    // No effect at run time. The proof reads what the client left of the hub from this use.
+    let _ = &*hub;
+    told
+}
+
+/// Runs the command of the line of this number over a connection of its own.
 fn run<A: Allocator + Copy>(
     alloc: A,
     hub: &mut Hub<A>,
     said: Said<'_>,
     number: u32,
-) -> Result<Answer<A>, ToolFault> {
+) -> Result<Answer<A>, ToolFault>
+    ensures { RunGives number (said_line said.entry) hub.old hub.new result }
+{
     let conn = match hub.connect() {
         Ok(conn) => conn,
         Err(fault) => return Err(unconnected(fault)),
     };
-    let verifier = u64::from(number).to_be_bytes();
-    let local = Local::new(hub, conn, i64::from(number));
-    let told = run_over(alloc, local, said, verifier);
+    let told = visit(alloc, hub, conn, said, number);
     let _ = hub.close(conn);
     told
 }
@@ -220,7 +243,7 @@ fn answer_words<A: Allocator + Copy, T: Texts, W: Write>(
     writer: &mut W,
 ) -> Result<bool, ToolFault>
     requires { is_skipped line.now ≡ false }
-    ensures { LineWrites T.text_gives (printing (lent hub.old texts.old) (W.contents writer.old))
+    ensures { LineWrites T.text_gives number (printing (lent hub.old texts.old) (W.contents writer.old))
         (printing (lent hub.new texts.new) (W.contents writer.new)) line.now result }
 {
     let words = words_in(alloc, line)?;
@@ -241,7 +264,7 @@ fn answer_line<A: Allocator + Copy, T: Texts, W: Write>(
     number: u32,
     writer: &mut W,
 ) -> Result<bool, ToolFault>
-    ensures { LineWrites T.text_gives (printing (lent hub.old texts.old) (W.contents writer.old))
+    ensures { LineWrites T.text_gives number (printing (lent hub.old texts.old) (W.contents writer.old))
         (printing (lent hub.new texts.new) (W.contents writer.new)) line.now result }
 {
     if is_skipped(line) {
@@ -259,7 +282,7 @@ fn both(first: bool, second: bool) -> bool
 
 impl<A: Allocator + Copy> Progress<A> {
     fn new(alloc: A) -> Self
-        ensures { Begins result }
+        ensures { IsFresh result }
     {
         Progress {
             line: Vec::new(alloc),

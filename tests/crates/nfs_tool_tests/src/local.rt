@@ -1,225 +1,165 @@
-//! A stream over a connection of a hub, with the bytes of its calls by hand (RFC 5531, sections 9 and 11).
+//! A connection of a hub as a transport, with the bytes of its calls by hand (RFC 5531, sections 9 and 11).
 
 use crate::plain::{
     Deed, changed_at, close, connect, end, open, put, root_alone, run_over, sample,
 };
 use crate::replies::{BROKEN, DONE, NULL};
 use nfs_hub::{ConnId, Hub, HubFault};
-use nfs_tool::{Local, ToolFault};
+use nfs_tool::{Local, ToolFault, Transport};
 use std::alloc::Global;
 use std::hash::RandomState;
-use std::io::{ErrorKind, Read, Write};
 use std::process::Abort;
 use std::test::Fail;
 
-/// How many bytes were written or read, or the kind of the error.
-type Moved = Result<usize, ErrorKind>;
+/// Whether the record after a call is the reply of procedure 0; or the fault.
+type Told = Result<bool, ToolFault>;
 
-/// Writes bytes to a connection.
-fn written(hub: &mut Hub, conn: ConnId, bytes: &[u8]) -> Moved {
+/// Sends bytes as a call over a connection.
+fn sent(alloc: Global, hub: &mut Hub, conn: ConnId, bytes: &[u8]) -> Told {
     let mut local = Local::new(hub, conn, 5);
-    local.write(bytes).map_err(|error| error.kind())
-}
-
-/// Reads a connection.
-fn read(hub: &mut Hub, conn: ConnId, buf: &mut [u8]) -> Moved {
-    let mut local = Local::new(hub, conn, 5);
-    local.read(buf).map_err(|error| error.kind())
-}
-
-/// The first so many bytes.
-fn front(bytes: &[u8], count: usize) -> &[u8] {
-    &bytes[..count.min(bytes.len())]
-}
-
-/// The bytes behind the first so many.
-fn behind(bytes: &[u8], count: usize) -> &[u8] {
-    &bytes[count.min(bytes.len())..]
-}
-
-/// Writes a call in two pieces, with a read of at most 20 bytes before, between and behind them.
-fn call_in_pieces(hub: &mut Hub, conn: ConnId, buf: &mut [u8]) -> [Moved; 5] {
-    [
-        read(hub, conn, buf),
-        written(hub, conn, front(NULL, 7)),
-        read(hub, conn, buf),
-        written(hub, conn, behind(NULL, 7)),
-        read(hub, conn, buf),
-    ]
-}
-
-/// The outcome of a call in two pieces, and of the reads behind it; and the bytes of its reads.
-#[derive(Clone, Copy)]
-struct Pieces {
-    told: [Moved; 5],
-    first: [u8; 20],
-    rest: [Moved; 2],
-    second: [u8; 20],
-}
-
-fn call_and_read(hub: &mut Hub, conn: ConnId) -> Pieces {
-    let mut buf = [9; 20];
-    let told = call_in_pieces(hub, conn, &mut buf);
-    let first = buf;
-    let rest = [read(hub, conn, &mut buf), read(hub, conn, &mut buf)];
-    Pieces {
-        told,
-        first,
-        rest,
-        second: buf,
+    match local.talk(alloc, bytes) {
+        Ok(content) => Ok(content.as_slice() == &DONE[4..]),
+        Err(fault) => Err(fault),
     }
 }
 
-fn pieces_of_new(hub: &mut Hub) -> Result<Pieces, HubFault> {
-    let conn = connect(hub)?;
-    Ok(call_and_read(hub, conn))
-}
-
-/// A call in two pieces on a new connection.
-#[derive(Clone, Copy)]
-struct InPieces {
-    seen: Result<Pieces, HubFault>,
-}
-
-impl Deed for InPieces {
-    fn run(&mut self, hub: &mut Hub) {
-        self.seen = pieces_of_new(hub);
-    }
-}
-
-fn see_pieces(rt: &impl Abort, seen: &Pieces) {
-    assert!(rt; seen.told == [Ok(0), Ok(7), Ok(0), Ok(37), Ok(20)]);
-    assert!(rt; seen.first.as_slice() == front(DONE, 20));
-    assert!(rt; seen.rest == [Ok(8), Ok(0)]);
-    assert!(rt; front(&seen.second, 8) == behind(DONE, 20));
-    assert!(rt; behind(&seen.second, 8) == behind(front(DONE, 20), 8));
-}
-
-/// A reply comes behind its whole call alone, in two reads of at most 20 bytes.
-#[test]
-fn a_reply_is_read_in_pieces(rt: HostRuntime) -> Result<(), Fail> {
-    let mut call = InPieces {
-        seen: Err(HubFault::Memory),
-    };
-    run_over(sample(rt.alloc(), RandomState::new(&rt)?), &mut call)?;
-    see_pieces(&rt, &call.seen?);
-    Ok(())
-}
-
-/// Writes a call to one connection, and reads another and that one.
-fn apart(hub: &mut Hub, first: ConnId, second: ConnId) -> [Moved; 3] {
-    let mut buf = [0; 64];
-    [
-        written(hub, first, NULL),
-        read(hub, second, &mut buf),
-        read(hub, first, &mut buf),
-    ]
-}
-
-fn apart_on_new(hub: &mut Hub) -> Result<[Moved; 3], HubFault> {
+/// Sends calls over two new connections in turn, and no bytes over the first.
+fn apart(alloc: Global, hub: &mut Hub) -> Result<[Told; 4], HubFault> {
     let first = connect(hub)?;
     let second = connect(hub)?;
-    Ok(apart(hub, first, second))
+    Ok([
+        sent(alloc, hub, first, NULL),
+        sent(alloc, hub, second, NULL),
+        sent(alloc, hub, first, NULL),
+        sent(alloc, hub, first, &[]),
+    ])
 }
 
-/// A call of one of two new connections.
+/// Calls of two new connections.
 #[derive(Clone, Copy)]
-struct TwoCalls {
-    seen: Result<[Moved; 3], HubFault>,
+struct TwoCallers {
+    alloc: Global,
+    seen: Result<[Told; 4], HubFault>,
 }
 
-impl Deed for TwoCalls {
+impl Deed for TwoCallers {
     fn run(&mut self, hub: &mut Hub) {
-        self.seen = apart_on_new(hub);
+        self.seen = apart(self.alloc, hub);
     }
 }
 
-/// The reply to a call of one connection is read of that connection, and not of another.
+/// Each call has its reply, of which nothing is left. Without a call there is none.
 #[test]
-fn connections_are_apart(rt: HostRuntime) -> Result<(), Fail> {
-    let mut calls = TwoCalls {
+fn each_call_has_its_reply(rt: HostRuntime) -> Result<(), Fail> {
+    let alloc = rt.alloc();
+    let mut calls = TwoCallers {
+        alloc,
         seen: Err(HubFault::Memory),
     };
-    run_over(sample(rt.alloc(), RandomState::new(&rt)?), &mut calls)?;
-    assert!(rt; calls.seen == Ok([Ok(44), Ok(0), Ok(28)]));
+    run_over(sample(alloc, RandomState::new(&rt)?), &mut calls)?;
+    assert!(rt; calls.seen == Ok([Ok(true), Ok(true), Ok(true), Err(ToolFault::Read)]));
     Ok(())
 }
 
-/// Writes bytes that break a connection, twice, and reads it.
-fn broken(hub: &mut Hub, conn: ConnId) -> [Moved; 3] {
-    let mut buf = [0; 64];
-    [
-        written(hub, conn, BROKEN),
-        written(hub, conn, BROKEN),
-        read(hub, conn, &mut buf),
-    ]
+/// Sends a call in two pieces, each as one call.
+fn call_in_halves(alloc: Global, hub: &mut Hub) -> Result<[Told; 2], HubFault> {
+    let conn = connect(hub)?;
+    Ok([
+        sent(alloc, hub, conn, &NULL[..7]),
+        sent(alloc, hub, conn, &NULL[7..]),
+    ])
 }
 
-fn broken_on_new(hub: &mut Hub) -> Result<[Moved; 3], HubFault> {
+/// The two halves of a call on a new connection.
+#[derive(Clone, Copy)]
+struct Halves {
+    alloc: Global,
+    seen: Result<[Told; 2], HubFault>,
+}
+
+impl Deed for Halves {
+    fn run(&mut self, hub: &mut Hub) {
+        self.seen = call_in_halves(self.alloc, hub);
+    }
+}
+
+/// A reply comes after the whole of its call alone.
+#[test]
+fn a_reply_comes_after_its_whole_call(rt: HostRuntime) -> Result<(), Fail> {
+    let alloc = rt.alloc();
+    let mut call = Halves {
+        alloc,
+        seen: Err(HubFault::Memory),
+    };
+    run_over(sample(alloc, RandomState::new(&rt)?), &mut call)?;
+    assert!(rt; call.seen == Ok([Err(ToolFault::Read), Ok(true)]));
+    Ok(())
+}
+
+/// Sends bytes that break a connection, twice.
+fn broken(alloc: Global, hub: &mut Hub) -> Result<[Told; 2], HubFault> {
     let conn = connect(hub)?;
-    Ok(broken(hub, conn))
+    Ok([
+        sent(alloc, hub, conn, BROKEN),
+        sent(alloc, hub, conn, BROKEN),
+    ])
 }
 
 /// Bytes that break a new connection.
 #[derive(Clone, Copy)]
 struct BreakingBytes {
-    seen: Result<[Moved; 3], HubFault>,
+    alloc: Global,
+    seen: Result<[Told; 2], HubFault>,
 }
 
 impl Deed for BreakingBytes {
     fn run(&mut self, hub: &mut Hub) {
-        self.seen = broken_on_new(hub);
+        self.seen = broken(self.alloc, hub);
     }
 }
 
-/// A record above 131,072 bytes breaks the connection. The bytes pending before are still read.
+/// A record above 131,072 bytes breaks the connection, which takes no call then.
 #[test]
 fn a_broken_connection_takes_nothing(rt: HostRuntime) -> Result<(), Fail> {
+    let alloc = rt.alloc();
     let mut bytes = BreakingBytes {
+        alloc,
         seen: Err(HubFault::Memory),
     };
-    run_over(sample(rt.alloc(), RandomState::new(&rt)?), &mut bytes)?;
-    let wanted = [
-        Err(ErrorKind::BrokenPipe),
-        Err(ErrorKind::BrokenPipe),
-        Ok(28),
-    ];
-    assert!(rt; bytes.seen == Ok(wanted));
+    run_over(sample(alloc, RandomState::new(&rt)?), &mut bytes)?;
+    assert!(rt; bytes.seen == Ok([Err(ToolFault::Write), Err(ToolFault::Write)]));
     Ok(())
 }
 
-/// Writes no bytes to a connection, and reads it.
-fn moved(hub: &mut Hub, conn: ConnId) -> [Moved; 2] {
-    let mut buf = [0; 64];
-    [written(hub, conn, &[]), read(hub, conn, &mut buf)]
-}
-
-fn closed_on_new(hub: &mut Hub) -> Result<[Moved; 2], HubFault> {
+/// Sends a call over a connection that is closed.
+fn call_after_close(alloc: Global, hub: &mut Hub) -> Result<Told, HubFault> {
     let conn = connect(hub)?;
     close(hub, conn)?;
-    Ok(moved(hub, conn))
+    Ok(sent(alloc, hub, conn, NULL))
 }
 
-/// No bytes on a connection that is closed.
+/// A call on a connection that is closed.
 #[derive(Clone, Copy)]
 struct Closed {
-    seen: Result<[Moved; 2], HubFault>,
+    alloc: Global,
+    seen: Result<Told, HubFault>,
 }
 
 impl Deed for Closed {
     fn run(&mut self, hub: &mut Hub) {
-        self.seen = closed_on_new(hub);
+        self.seen = call_after_close(self.alloc, hub);
     }
 }
 
 #[test]
 fn a_closed_connection_is_none(rt: HostRuntime) -> Result<(), Fail> {
+    let alloc = rt.alloc();
     let mut none = Closed {
+        alloc,
         seen: Err(HubFault::Memory),
     };
-    run_over(sample(rt.alloc(), RandomState::new(&rt)?), &mut none)?;
-    let wanted = [Err(ErrorKind::NotConnected), Err(ErrorKind::NotConnected)];
-    assert!(rt; none.seen == Ok(wanted));
+    run_over(sample(alloc, RandomState::new(&rt)?), &mut none)?;
+    assert!(rt; none.seen == Ok(Err(ToolFault::Write)));
     Ok(())
 }
 

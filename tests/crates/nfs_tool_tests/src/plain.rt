@@ -2,7 +2,7 @@
 
 use crate::replies::SESSION;
 use nfs_hub::{ConnId, Hub, HubFault};
-use nfs_tool::{Client, Local, Texts, ToolFault, script};
+use nfs_tool::{Client, Local, Texts, ToolFault, Transport, script};
 use std::alloc::{AllocError, Allocator, Global};
 use std::hash::RandomState;
 use std::io::{Read, Write};
@@ -50,11 +50,11 @@ pub(crate) fn cat<S: Read + Write>(client: &mut Client<S>) -> Result<usize, Tool
     }
 }
 
-pub(crate) fn put<S: Read + Write>(client: &mut Client<S>) -> Result<(), ToolFault> {
+pub(crate) fn put<S: Transport>(client: &mut Client<S>) -> Result<(), ToolFault> {
     client.put(b"/f", b"hi")
 }
 
-pub(crate) fn end<S: Read + Write>(client: &mut Client<S>) -> Result<(), ToolFault> {
+pub(crate) fn end<S: Transport>(client: &mut Client<S>) -> Result<(), ToolFault> {
     client.end()
 }
 

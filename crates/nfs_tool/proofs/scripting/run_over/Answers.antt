@@ -1,8 +1,5 @@
-use Rattle.std.proofs.Common.{refl, inl, inr}
+use Rattle.std.proofs.Common.{inr}
 use Rattle.nfs_tool.proofs.scripting.run_over.Goals as goal
 
-pub returns-in-Err : goal.returns-in-Err
-returns-in-Err g c = inl (c.in-Err.fault, c.in-Err.ensures, refl)
-
 pub returns : goal.returns
-returns g c = inr (c.in-Ok.client, c.answer-told.new.self, c.in-Ok.ensures, c.answer-told.ensures.gives)
+returns g c = inr (c.begin.new.self, c.answer-told.new.self, c.end.result, c.in-Ok.ensures.gives c.requires, c.answer-told.ensures.gives, c.end.ensures.gives)

@@ -1,0 +1,13 @@
+use Rattle.std.proofs.Common.{inr}
+use Rattle.nfs_tool.proofs.scripting.run.Goals as goal
+
+pub returns : goal.returns
+returns g c = inr (record {
+  conn = c.in-Ok.conn;
+  opened = c.connect.new.self;
+  opens = record { goes = c.connect.ensures.goes; leads = c.connect.ensures.leads };
+  is_open = c.in-Ok.ensures.gives;
+  last = c.visit-told.new.hub;
+  visits = c.visit-told.ensures;
+  closes = record { goes = c.close.ensures.goes; leads = c.close.ensures.leads };
+})
