@@ -1,6 +1,6 @@
 //! Calls that are kept are run again as a server starts (RFC 8881, section 2.10.6.5).
 //!
-//! They lead to a state that covers that of the server: all is the same, but slots may lag.
+//! The state after them covers the server's: all is the same, except that slots may lag.
 ghost use Rattle.std.specs.Prelude.{◌≡◌, ℕ, false, List, IsSome};
 ghost use Rattle.session_slots.specs.Registry.{Session};
 ghost use Rattle.session_slots.specs.Repeating.{Runs as IsRun};

@@ -1,5 +1,5 @@
--- A state that a start gives stands for the state of a server: all is the same, but slots may lag
--- (RFC 8881, section 2.10.6.5).
+-- A state after a restart covers the state of the server before it: all is the same, except that
+-- slots may lag (RFC 8881, section 2.10.6.5).
 use Rattle.std.specs.Prelude.{◌≡◌, ◌≤◌, ℕ, List}
 use Rattle.session_slots.specs.Covering.{SessionsCover}
 use Rattle.session_slots.specs.Registry.{Session}

@@ -1,5 +1,5 @@
--- What is told of a call that was answered, for the record of it: whether it is kept over a restart,
--- and which of its operations found no memory.
+-- An answered call, with the facts that its record needs: whether it is kept over a restart, and
+-- which of its operations found no memory.
 use Rattle.std.specs.Prelude.{◌≡◌, ◌≤◌, ℕ, Bool, false, List, length, Option, Some, None}
 use Rattle.xdr_wire.specs.Buffer.{Buffer, Appends}
 use Rattle.session_slots.specs.declared.session.Begin.{Begin}
@@ -31,7 +31,7 @@ abbrev pub RanCall : Call → State → Reply → Ran → State → Type 0
 RanCall call old reply ran new =
     (runs : RunsCall call old reply new) × IsRan ran (keeps call old reply new runs) (delayed call old reply new runs)
 
--- a call of this fate is answered, and told so
+-- a call of this fate is answered, with these facts
 abbrev pub AnswersBy : Fate Reply → Call → State → Reply → Ran → State → Type 0
 AnswersBy Runs call old reply ran new = RanCall call old reply ran new
 AnswersBy (Repeats kept) call old reply ran new = (reply ≡ kept) × (new ≡ old) × IsRan ran false None

@@ -9,7 +9,7 @@ use nfs_ops::{
 };
 use nfs_types::Status;
 
-/// What a record has to know of a call that was answered.
+/// The facts of an answered call that its record needs.
 #[derive(Clone, Copy, Debug, PartialEq, Eq)]
 pub struct Ran {
     /// The call is kept over a restart: an operation that changes something was OK, a client or a

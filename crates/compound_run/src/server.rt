@@ -227,9 +227,9 @@ impl<A: Allocator + Copy> Server<A> {
         }
     }
 
-    /// Runs a COMPOUND as [`Server::run`] does, and tells what its record has to know, where a
-    /// server outlives a restart. `None`: the tag, the minor version or the number of operations
-    /// can't be read, and there are no results.
+    /// Runs a COMPOUND as [`Server::run`] does, and returns the facts that a record of the call needs.
+    /// `None`: the tag, the minor version or the number of operations can't be read, and there are no
+    /// results.
     #[tactic(auto, unfolding(crate::specs::InSession::fate))]
     pub fn run_recorded(
         &mut self,
@@ -254,9 +254,9 @@ impl<A: Allocator + Copy> Server<A> {
         Some(self.realm.answer_in_session(call, out))
     }
 
-    /// Runs a call that was kept again, as [`Server::run_recorded`] runs it, where its slot lags: the
-    /// slot may have accepted calls after the one that it keeps, which weren't kept. So the call is
-    /// new where its sequence ID is 1 to 2^20 ahead.
+    /// Runs a kept call again, as [`Server::run_recorded`] does, after its slot is marked as lagging:
+    /// the slot may have accepted calls that weren't kept. So the call is new where its sequence ID is
+    /// 1 to 2^20 ahead of the one that the slot keeps.
     #[tactic(auto, unfolding(crate::specs::InSession::fate, crate::specs::Replaying::ready))]
     pub fn replay(
         &mut self,
@@ -274,7 +274,7 @@ impl<A: Allocator + Copy> Server<A> {
         self.run_recorded(args, caller, now, out)
     }
 
-    /// The slot of a call lags, if the call has one.
+    /// Marks the slot of a call as lagging, if the call has one.
     fn lag(&mut self, args: Args<'_>)
         ensures { self.new ≡ ready_of (args_in (read_at args_form args.entry.bytes.now)) self.old }
     {
@@ -302,8 +302,8 @@ impl<A: Allocator + Copy> Server<A> {
         self.realm.clients.silent(second(now), LEASE)
     }
 
-    /// Says the second of a clock that only goes forward. From now on clients are heard and silent by
-    /// it, and not by the moments of calls, whose clock can be set. It is in no model.
+    /// Sets the second of a monotonic clock. From now on leases are renewed and expire by it (RFC 8881,
+    /// section 8.3), and not by the moments of calls, whose clock can be set. It is in no model.
     pub fn set_second(&mut self, second: u64)
         ensures { self.new ≡ self.old }
     {

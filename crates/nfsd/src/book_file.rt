@@ -22,7 +22,7 @@ struct Held<F> {
     stamp: Stamp,
 }
 
-/// What a name leads to.
+/// The file that a name leads to, if there is one.
 #[derive(Drop)]
 enum Found {
     /// Nothing is there.
@@ -199,7 +199,7 @@ impl<'a, R: Files + Alloc + Eprint + Clock> BookFile<'a, R> {
         }
     }
 
-    /// What is to be done about a file of this stamp.
+    /// The plan for a file of this stamp.
     fn plan(&self, seen: &Stamp) -> Plan {
         let last = self.last.as_ref().map(|held| held.stamp);
         plan_for(&last, seen, second(self.rt))

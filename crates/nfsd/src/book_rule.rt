@@ -54,7 +54,7 @@ pub(crate) enum Plan {
     Load(Change),
 }
 
-/// What a start of a home does about its book.
+/// How a start of a home treats its book.
 #[derive(Clone, Copy, Debug)]
 pub(crate) enum Start {
     /// It reads the book.
@@ -142,9 +142,9 @@ pub(crate) fn may_follow(change: Change, had_members: bool, has_members: bool) -
     }
 }
 
-/// What a start of a home does, by whether the book is there and whether the home had one before.
-/// Without its `members` who says a gid is in that group, so a home that had a book isn't served
-/// without it.
+/// How a start of a home treats its book, by whether the book is there and whether the home had one
+/// before. Without the `members` of a book each caller is in the groups that it claims. So a home
+/// that had a book isn't served without it.
 pub(crate) fn start_for(is_there: bool, was_there: bool) -> Start
     ensures { result ≡ start is_there was_there }
 {

@@ -11,7 +11,7 @@ use std::{fs, io};
 /// The mode of a home that is made: its owner's alone.
 const MODE: u32 = 0o700;
 
-/// What the note of a home says.
+/// The text of a home's note.
 const NOTE: &[u8] =
     b"nfsd has served this folder with a book. While this file is here, it doesn't serve it without one.\n";
 
@@ -61,7 +61,7 @@ impl<'a> Home<'a> {
         }
     }
 
-    /// What a start does about the book, by what is in the folder.
+    /// How a start treats the book, by what is in the folder.
     pub(crate) fn start<R: Files>(&self, rt: &R) -> Start {
         start_for(
             is_there(rt, self.book.as_str()),

@@ -31,8 +31,8 @@ fn stop_of(alloc: Global, folder: &mut StoreFolder, fault: StoreFault) -> StoreS
     }
 }
 
-/// The hub over what was found, whose clients were heard in this second of the clock that only goes
-/// forward; over a root alone, where nothing was.
+/// The hub over what was found, or over a root alone where nothing was. The leases of its clients
+/// begin in this second of the monotonic clock.
 fn hub_over(
     alloc: Global,
     folder: &mut StoreFolder,

@@ -1,14 +1,14 @@
--- Sessions that a start gives stand for those of a server: all is the same, but slots may lag
--- (RFC 8881, section 2.10.6.5). Such a slot keeps an earlier call, after which calls came that
--- changed nothing and weren't kept.
+-- Sessions after a restart cover those of the server before it: each is the same, except that slots
+-- may lag (RFC 8881, section 2.10.6.5). A slot lags where it keeps an earlier call than the last one
+-- that it accepted. The calls after the earlier one changed nothing and weren't kept.
 use Rattle.std.specs.Prelude.{◌≡◌, ◌⊎◌, ◌<◌, ℕ, ◌/◌, ◌^◌, true, false, List, [], ◌∷◌, Option}
 use Rattle.session_slots.specs.Counting.{last_number}
 use Rattle.session_slots.specs.Limits.{MOST_AHEAD}
 use Rattle.session_slots.specs.Registry.{Session, Registry, with_session, with_place}
 use Rattle.session_slots.specs.Slots.{Kept, Place, number_of}
 
--- The present slot has accepted a later call than this one, whose number is in the same span of
--- 2^20. It lags no more, since it did so.
+-- The slot has accepted a later call than the earlier one, and doesn't lag. Both numbers are in the
+-- same span of 2^20.
 pub record IsLater (p : Place) (earlier : Option Kept) : Type 0 where
   pub lags : p.lags ≡ false
   pub later : last_number number_of earlier < last_number number_of p.kept
@@ -39,7 +39,7 @@ SessionsCover [] (e ∷ sessions) = ⊥
 SessionsCover (d ∷ others) [] = ⊥
 SessionsCover (d ∷ others) (e ∷ sessions) = (d.0 ≡ e.0) × SessionCovers d.1 e.1 × SessionsCover others sessions
 
--- ---- a slot of which a call is run again
+-- ---- the slot of a call that is replayed
 
 abbrev pub lagging : Place → Place
 lagging p = record p { lags = true }

@@ -156,8 +156,8 @@ impl<A: Allocator + Copy> Clients<A> {
 
     // ---- over a restart
 
-    /// Whether the number of a slot passes a multiple of 2^20 by a call with this sequence ID. Such
-    /// a call is kept over a restart, whatever it changes.
+    /// Whether a call with this sequence ID takes the number of its slot past a multiple of 2^20. The
+    /// call is then kept over a restart, whatever it changes.
     pub fn passes(&self, session: u64, slot: u32, number: u32) -> bool
         ensures { result ≡ passes (last_at self.now session slot) number }
     {
@@ -171,8 +171,8 @@ impl<A: Allocator + Copy> Clients<A> {
         self.registry.is_created(client, sequence)
     }
 
-    /// A slot lags, if it is there: it may have accepted calls after the one that it keeps. So each
-    /// call that is 1 to 2^20 ahead of that one is new.
+    /// Marks a slot as lagging, if it is there: it may have accepted calls after the one that it
+    /// keeps. From now on a call is new where its sequence ID is 1 to 2^20 ahead of the kept one.
     pub fn lag(&mut self, session: u64, slot: u32)
         ensures { self.new ≡ lagging_at session slot self.old }
     {
@@ -305,8 +305,9 @@ impl<A: Allocator + Copy> Clients<A> {
 
     // ---- clients that are let go
 
-    /// Says the second of a clock that only goes forward, from any start. From now on clients are heard and silent by
-    /// it, and not by the seconds that calls give, since their clock can be set. It is no part of the model.
+    /// Sets the second of a monotonic clock, from any start. From now on leases are renewed and expire
+    /// by it (RFC 8881, section 8.3), and not by the seconds of calls, whose clock can be set. It is no
+    /// part of the model.
     pub fn set_second(&mut self, second: u64)
         ensures { self.new ≡ self.old }
     {

@@ -26,8 +26,8 @@ pub struct Exchange<'a> {
     pub flags: u32,
     /// Whether the owner's confirmed record has opens.
     pub has_opens: bool,
-    /// The second of the server's clock, in which the client counts as heard where no other is said
-    /// ([`crate::Clients::set_second`]).
+    /// The second of the server's clock. The client's lease begins in it, unless a monotonic second
+    /// is set ([`crate::Clients::set_second`]).
     pub now: u64,
 }
 

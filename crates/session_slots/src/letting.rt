@@ -8,15 +8,15 @@ use crate::registry::Registry;
 use std::alloc::Allocator;
 
 impl<A: Allocator + Copy> Registry<A> {
-    /// Says the second of a clock that only goes forward, by which clients are heard and silent from now on.
+    /// Sets the second of a monotonic clock, by which leases are renewed and expire from now on.
     pub fn set_second(&mut self, second: u64)
         ensures { self.new ≡ self.old }
     {
         self.steady = Some(second);
     }
 
-    /// The second of the clock that only goes forward, where one was said; else this second.
-    pub fn second_at(&self, now: u64) -> u64 {
+    /// The second of the monotonic clock where one was set, else `now`.
+    pub(crate) fn second_at(&self, now: u64) -> u64 {
         self.steady.unwrap_or(now)
     }
 

@@ -28,7 +28,7 @@ pub struct Registry<A: Allocator = Global> {
     pub(crate) sessions: BTreeMap<u64, Session<A>, A>,
     pub(crate) next_client: u64,
     pub(crate) next_session: u64,
-    // the second of a clock that only goes forward, where one is said; it is no part of the model
+    // the second of a monotonic clock, where one is set; it is no part of the model
     pub(crate) steady: Option<u64>,
 }
 
@@ -153,7 +153,7 @@ impl<A: Allocator + Copy> Registry<A> {
         }
     }
 
-    /// A slot lags, if it is there.
+    /// Marks a slot as lagging, if it is there.
     pub fn lag(&mut self, session: u64, slot: u32)
         ensures { self.new ≡ lagging_at session slot self.old }
     {

@@ -52,8 +52,8 @@ pub struct Sequence<'a> {
     pub arguments: CallBytes<'a>,
     /// The caller.
     pub caller: &'a Caller,
-    /// The second of the server's clock, in which the client counts as heard where the call is new or a repeat, and no
-    /// other second is said ([`crate::Clients::set_second`]).
+    /// The second of the server's clock. A new call and a repeat renew the client's lease in it, unless
+    /// a monotonic second is set ([`crate::Clients::set_second`]).
     pub now: u64,
 }
 
@@ -149,7 +149,7 @@ fn keep_at<A: Allocator + Copy>(slots: &mut Vec<Slot<A>, A>, index: usize, resul
     slot.keep(results);
 }
 
-/// One of these slots lags.
+/// Marks one of these slots as lagging.
 #[tactic(auto, using(crate::proofs::Places::changed_there, crate::proofs::Places::is_there))]
 fn lag_at<A: Allocator + Copy>(slots: &mut Vec<Slot<A>, A>, index: usize)
     requires within { index < length slots.old.items }
@@ -316,7 +316,7 @@ impl<A: Allocator + Copy> Session<A> {
         keep_at(&mut self.slots, number as usize, results);
     }
 
-    /// A slot lags, if it is there.
+    /// Marks a slot as lagging, if it is there.
     #[tactic(auto, using(crate::proofs::Places::lagging_has_slots, crate::proofs::Places::none_there))]
     pub fn lag(&mut self, number: u32)
         ensures { self.new ≡ with_place number lagging self.old }

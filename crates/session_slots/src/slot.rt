@@ -139,7 +139,8 @@ impl<A: Allocator + Copy> Slot<A> {
         }
     }
 
-    /// The slot may have accepted calls after the one that it keeps, as one of before a restart.
+    /// Marks the slot as lagging: it may have accepted calls after the one that it keeps, as after a
+    /// restart.
     pub fn lag(&mut self)
         ensures { self.new ≡ lagging self.old }
     {
