@@ -1,0 +1,107 @@
+-- The entries of a log: what a server was given, so that it is given that again.
+use Rattle.std.specs.Prelude.{◌<◌, ◌^◌, ℕ, zero, suc, List, [], ◌∷◌, length, Option, Some, None, IfSome, Ok, Err}
+use Rattle.std.specs.Prelude.{FitsSigned}
+use Rattle.std.specs.Int.{w64}
+use Rattle.std.specs.Option.{option_map}
+use Rattle.std.proofs.Common.{inl, inr}
+use Rattle.std.proofs.lemmas.Bool.{cases_lt}
+use Rattle.xdr_wire.specs.Xdr.{Value, spelling}
+use Rattle.xdr_wire.specs.Reading.{Read, read_at}
+use Rattle.nfs_types.specs.Forms.{time}
+use Rattle.nfs_types.specs.MomentView.{moment_value}
+use Rattle.nfs_types.specs.declared.moment.Moment.{Moment}
+use Rattle.log_entries.specs.Forms.{call, entry}
+
+-- a call that is kept
+pub record Called : Type 0 where
+  -- the moment at which it ran
+  pub now : Moment
+  -- its record as it came: the header with the caller, and the arguments (RFC 5531, section 9)
+  pub bytes : List ℕ
+  -- which of the operations after SEQUENCE found no memory, counted from 0
+  pub delayed : Option ℕ
+  -- a checksum of its results
+  pub checksum : ℕ
+
+pub data Entry : Type 0 where
+  -- a call was made
+  Call : Called → Entry
+  -- the client of this number was let go
+  LetGo : ℕ → Entry
+  -- a book of names was loaded, of this text
+  Loaded : List ℕ → Entry
+
+-- ---- writing
+
+abbrev pub call_value : Called → Value call
+call_value c = (moment_value c.now, (c.bytes, (c.delayed, c.checksum)))
+
+abbrev pub entry_value : Entry → Value entry
+entry_value (Call c) = inl (call_value c)
+entry_value (LetGo client) = inr (inl client)
+entry_value (Loaded text) = inr (inr (inl text))
+
+-- an entry as it stands in a record of the log
+unfoldable pub entry_bytes : Entry → List ℕ
+entry_bytes e = spelling entry (entry_value e)
+
+-- the calls that can be written
+pub record IsCalled (c : Called) : Type 0 where
+  pub seconds : FitsSigned w64 c.now.seconds
+  pub bytes : length c.bytes < 2 ^ 32
+  pub delayed : IfSome c.delayed (λ place. place < 2 ^ 32)
+  pub checksum : c.checksum < 2 ^ 64
+
+-- the entries that can be written
+abbrev pub IsEntry : Entry → Type 0
+IsEntry (Call c) = IsCalled c
+IsEntry (LetGo client) = client < 2 ^ 64
+IsEntry (Loaded text) = length text < 2 ^ 32
+
+-- ---- reading
+
+-- the moment of these seconds and nanoseconds, which are fewer than a billion
+abbrev pub moment_in : Value time → Option Moment
+moment_in v =
+    elim (cases_lt v.1 1000000000) [
+      | inl few ↦ Some (record { seconds = v.0; nanoseconds = v.1; is_fraction = few })
+      | inr many ↦ None
+    ]
+
+abbrev pub call_with : Value call → Moment → Called
+call_with v now = record { now = now; bytes = v.1.0; delayed = v.1.1.0; checksum = v.1.1.1 }
+
+abbrev pub call_in : Value call → Option Called
+call_in v = option_map (call_with v) (moment_in v.0)
+
+abbrev pub entry_in : Value entry → Option Entry
+entry_in (inl v) = option_map Call (call_in v)
+entry_in (inr (inl client)) = Some (LetGo client)
+entry_in (inr (inr (inl text))) = Some (Loaded text)
+entry_in (inr (inr (inr none))) = elim none [ ]
+
+-- what a value that was read means, where it means something, and the bytes after it
+abbrev pub meant : {V M : Type 0} → (V → Option M) → Read V → Option (M × List ℕ)
+meant meaning (Ok x) = option_map (λ m. (m, x.1)) (meaning x.0)
+meant meaning (Err e) = None
+
+-- The entry at the front of the bytes, and the bytes after it. There is none where no entry stands there: the bytes end
+-- inside it, its kind is another one, or its moment has a billion nanoseconds or more.
+unfoldable pub entry_at : List ℕ → Option (Entry × List ℕ)
+entry_at bytes = meant entry_in (read_at entry bytes)
+
+-- an entry that was read, and those of the bytes after it
+abbrev pub then_others : (List ℕ → Option (List Entry)) → Option (Entry × List ℕ) → Option (List Entry)
+then_others others None = None
+then_others others (Some x) = option_map (λ es. x.0 ∷ es) (others x.1)
+
+-- the entries of the bytes, which are at most this many
+abbrev pub entries_by : ℕ → List ℕ → Option (List Entry)
+entries_by n [] = Some []
+entries_by zero (b ∷ bytes) = None
+entries_by (suc n) (b ∷ bytes) = then_others (entries_by n) (entry_at (b ∷ bytes))
+
+-- All entries of a record of the log, in their order: none where something is left that is no entry. Each of them has
+-- some bytes, so that they are at most as many as the bytes.
+unfoldable pub entries_in : List ℕ → Option (List Entry)
+entries_in bytes = entries_by (length bytes) bytes

@@ -1,0 +1,4 @@
+pub mod Forms
+pub mod Entries
+pub mod Checksum
+pub mod Views

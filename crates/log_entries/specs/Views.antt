@@ -1,0 +1,14 @@
+-- What an entry of the program is.
+use Rattle.log_entries.specs.Entries.{Called, Entry}
+use Rattle.log_entries.specs.Entries as entries
+use Rattle.log_entries.specs.declared.entry.CallEntry.{CallEntry}
+use Rattle.log_entries.specs.declared.entry.Entry.{Entry as Lent}
+use Rattle.log_entries.specs.declared.entry.Entry.TheVariants as lent
+
+abbrev pub called_of : CallEntry → Called
+called_of c = record { now = c.now; bytes = c.bytes.bytes.now; delayed = c.delayed; checksum = c.checksum }
+
+abbrev pub entry_of : Lent → Entry
+entry_of (lent.Call c) = entries.Call (called_of c)
+entry_of (lent.LetGo client) = entries.LetGo client
+entry_of (lent.Book text) = entries.Loaded text.bytes.now
