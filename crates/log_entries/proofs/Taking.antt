@@ -1,5 +1,5 @@
 -- What is at the front of bytes, by the kind that stands first.
-use Rattle.std.proofs.Common.{◌≡◌, ◌<◌, ◌+◌, ◌-◌, ◌∙◌, ℕ, List, ◌++◌, length, drop, Option, Some, None, Ok, Err, refl, ap, sym, inl, arith, length-append}
+use Rattle.std.proofs.Common.{◌≡◌, ◌<◌, ◌+◌, ◌∙◌, ℕ, List, ◌++◌, length, drop, Option, Some, None, Ok, Err, refl, ap, sym, inl, arith, length-append}
 use Rattle.std.specs.Option.{option_map}
 use Rattle.std.proofs.Math.Seq.{drop-append_seam}
 use Rattle.std.specs.Prelude.{Result}
@@ -78,9 +78,10 @@ shorter bytes rest e is =
     omega (arith, whole, l.some)
 
 -- the bytes after an entry are what is left when as many are dropped as it takes
-pub rest_is : (bytes rest : List ℕ) (e : Entry) → entry_at bytes ≡ Some (e, rest) → drop (length bytes - length rest) bytes ≡ rest
-rest_is bytes rest e is =
+pub rest_is : (bytes rest : List ℕ) (e : Entry) (n : ℕ) → n + length rest ≡ length bytes → entry_at bytes ≡ Some (e, rest) → Some (e, drop n bytes) ≡ entry_at bytes
+rest_is bytes rest e n taken is =
     let l = entry_leaves bytes rest e is in
     let whole : length bytes ≡ length l.front + length rest = ap length l.parts ∙ length-append l.front rest in
-    let count : length bytes - length rest ≡ length l.front = omega (arith, whole) in
-    ap (λ (n : ℕ). drop n bytes) count ∙ ap (drop (length l.front)) l.parts ∙ drop-append_seam l.front rest
+    let count : n ≡ length l.front = omega (arith, taken, whole) in
+    let same : drop n bytes ≡ rest = ap (λ (k : ℕ). drop k bytes) count ∙ ap (drop (length l.front)) l.parts ∙ drop-append_seam l.front rest in
+    ap (λ (r : List ℕ). let o : Option (Entry × List ℕ) = Some (e, r) in o) same ∙ sym is

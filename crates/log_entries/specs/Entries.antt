@@ -18,7 +18,7 @@ pub record Called : Type 0 where
   pub now : Moment
   -- its record as it came: the header with the caller, and the arguments (RFC 5531, section 9)
   pub bytes : List ℕ
-  -- which of the operations after SEQUENCE found no memory, counted from 0
+  -- the place of the operation that found no memory: 0 is the first after SEQUENCE, or the only one
   pub delayed : Option ℕ
   -- a checksum of its results
   pub checksum : ℕ

@@ -16,7 +16,7 @@ pub struct CallEntry<'a> {
     pub now: Moment,
     /// Its record as it came: the header with the caller, and the arguments (RFC 5531, section 9).
     pub bytes: Opaque<'a, 0xffff_ffff>,
-    /// Which of the operations after SEQUENCE found no memory, counted from 0.
+    /// The place of the operation that found no memory: 0 is the first after SEQUENCE, or the only one.
     pub delayed: Option<u32>,
     /// The checksum of its results ([`crate::results_checksum`]).
     pub checksum: u64,

@@ -3,7 +3,7 @@ ghost use Rattle.std.specs.Prelude.{◌≡◌, ◌≤◌, ◌<◌, ◌↔◌, []
 ghost use Rattle.std.specs.Option.{option_map};
 ghost use Rattle.xdr_wire.specs.Reading.{read_at};
 ghost use Rattle.log_entries.specs.Forms.{call};
-ghost use Rattle.log_entries.specs.Entries.{moment_in, call_in, meant, entry_at};
+ghost use Rattle.log_entries.specs.Entries.{moment_in, call_in, meant, entry_at, entries_in};
 ghost use Rattle.log_entries.specs.Views.{called_of, entry_of};
 
 use crate::entry::{CallEntry, Entry};
@@ -64,7 +64,8 @@ impl<'a> Entry<'a> {
     {
         let mut reader = Reader::new(bytes);
         let entry = take(&mut reader)?;
-        Some((entry, bytes.len() - reader.len()))
+        let taken = bytes.len() - reader.len();
+        Some((entry, taken))
     }
 }
 
@@ -108,4 +109,19 @@ impl<'a> Entries<'a> {
         self.rest = reader.rest();
         Some(entry)
     }
+}
+
+/// How many entries the bytes of a record are. `None`: something is left that is no entry.
+pub fn count_entries(bytes: &[u8]) -> Option<usize>
+    ensures { result ≡ option_map length (entries_in bytes.now) }
+{
+    let mut entries = Entries::new(bytes);
+    let mut count = 0;
+    while !entries.is_empty() {
+        let Some(_) = entries.next() else {
+            return None;
+        };
+        count += 1;
+    }
+    Some(count)
 }
