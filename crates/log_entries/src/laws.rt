@@ -15,10 +15,19 @@ pub fn all_that_is_written_is_read()
     ensures { (es : List Entry) → AllByRecursion IsEntry es → entries_in (flat_map entry_bytes es) ≡ Some es }
 {}
 
-/// Among lists of bytes an entry has one spelling, the one that is written.
+/// Among lists of bytes an entry has one spelling, the one that is written. What is read can be written.
 pub fn an_entry_has_one_spelling()
-    ensures { (e : Entry) (bytes rest : List ℕ) → AreBytes bytes → entry_at bytes ≡ Some (e, rest) →
+    ensures bytes { (e : Entry) (bytes rest : List ℕ) → AreBytes bytes → entry_at bytes ≡ Some (e, rest) →
         bytes ≡ entry_bytes e ++ rest }
+    ensures fits { (e : Entry) (bytes rest : List ℕ) → AreBytes bytes → entry_at bytes ≡ Some (e, rest) → IsEntry e }
+{}
+
+/// So have the entries of a record: they can be written, and its bytes are those that are written.
+pub fn a_record_has_one_spelling()
+    ensures bytes { (es : List Entry) (bytes : List ℕ) → AreBytes bytes → entries_in bytes ≡ Some es →
+        bytes ≡ flat_map entry_bytes es }
+    ensures fits { (es : List Entry) (bytes : List ℕ) → AreBytes bytes → entries_in bytes ≡ Some es →
+        AllByRecursion IsEntry es }
 {}
 
 /// All entries of a record are read by taking one after the other.

@@ -10,8 +10,8 @@ mod room;
 pub use checksum::results_checksum;
 pub use entry::{CallEntry, Entry};
 pub use laws::{
-    all_that_is_written_is_read, an_entry_has_one_spelling, entries_are_read_in_turn,
-    what_is_written_is_read,
+    a_record_has_one_spelling, all_that_is_written_is_read, an_entry_has_one_spelling,
+    entries_are_read_in_turn, what_is_written_is_read,
 };
 pub use reading::{Entries, count_entries};
 pub use room::call_room;
