@@ -26,3 +26,7 @@ settled keep log = record {
   trail = if keep then keep_last MOST_KEPT (log.trail ++ log.held) else log.trail;
   total = if keep then min (log.total + length log.held) (2 ^ 64 - 1) else log.total;
 }
+
+-- no line was written yet
+abbrev pub no_lines : Log
+no_lines = record { held = []; trail = []; total = 0 }

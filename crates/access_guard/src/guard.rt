@@ -10,7 +10,7 @@ ghost use Rattle.access_guard.specs.Asker.{asker};
 ghost use Rattle.access_guard.specs.Lists.{granted_at};
 ghost use Rattle.access_guard.specs.Decisions.{decision, is_granted};
 ghost use Rattle.access_guard.specs.Lines.{lines, most_lines};
-ghost use Rattle.access_guard.specs.Log.{held, settled};
+ghost use Rattle.access_guard.specs.Log.{held, no_lines, settled};
 ghost use Rattle.node_tree.specs.World.{World};
 ghost use Rattle.who_book.specs.Content.{Content};
 ghost use Rattle.who_book.specs.Members.{member};
@@ -268,5 +268,12 @@ impl<A: Allocator + Copy> Guard<A> {
         ensures { self.new ≡ record self.old { log = settled keep self.old.log } }
     {
         self.trail.settle(keep);
+    }
+
+    /// Forgets all lines, and counts from 0 again, as after a start. It takes no memory.
+    pub fn forget(&mut self)
+        ensures { self.new ≡ record self.old { log = no_lines } }
+    {
+        self.trail.forget();
     }
 }

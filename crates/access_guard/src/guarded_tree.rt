@@ -18,7 +18,7 @@ ghost use Rattle.node_tree.specs.Notes.{begun_notes, cleared};
 ghost use Rattle.access_guard.specs.Lists.{granted_at};
 ghost use Rattle.access_guard.specs.Decisions.{decision, is_granted};
 ghost use Rattle.access_guard.specs.Lines.{lines, most_lines};
-ghost use Rattle.access_guard.specs.Log.{held, settled};
+ghost use Rattle.access_guard.specs.Log.{held, no_lines, settled};
 ghost use Rattle.access_guard.specs.Memory.{Agrees};
 ghost use Rattle.access_guard.specs.Guarded.{unjudged};
 ghost use Rattle.access_guard.specs.Epochs as epochs;
@@ -117,6 +117,13 @@ impl<A: Allocator + Copy> GuardedTree<A> {
         ensures { self.new ≡ record self.old { log = settled keep self.old.log } }
     {
         self.guard.settle(keep);
+    }
+
+    /// Forgets all lines, and counts from 0 again, as after a start. It takes no memory.
+    pub fn forget(&mut self)
+        ensures { self.new ≡ record self.old { log = no_lines } }
+    {
+        self.guard.forget();
     }
 
     /// The guard, which agrees with the tree and the book.

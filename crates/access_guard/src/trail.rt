@@ -8,7 +8,7 @@ ghost use Rattle.access_guard.specs.Decisions.{is_granted};
 ghost use Rattle.access_guard.specs.Lines.{watch_line, lines_of, deny_lines};
 ghost use Rattle.acl_shape.specs.declared.bounds.TheConstants.{MAX_ENTRIES};
 ghost use Rattle.access_guard.specs.Lines as specs;
-ghost use Rattle.access_guard.specs.Log.{held, settled};
+ghost use Rattle.access_guard.specs.Log.{held, no_lines, settled};
 
 use crate::decision::{Cause, Decision};
 use crate::line::{Line, LineKind};
@@ -91,6 +91,15 @@ impl<A: Allocator + Copy> Trail<A> {
             self.kept.extend_from_slice(self.held.as_slice());
         }
         self.held.clear();
+    }
+
+    /// Forgets all lines, and counts from 0 again. It takes no memory.
+    pub(crate) fn forget(&mut self)
+        ensures { self.new ≡ no_lines }
+    {
+        self.held.clear();
+        self.kept.clear();
+        self.total = 0;
     }
 
     fn hold(&mut self, line: Line)

@@ -20,3 +20,7 @@ content_in book = record {
   groups = book.groups;
   members = option_map (memberships_in book.users) book.members;
 }
+
+-- the text that the book was read from, if there is one
+abbrev pub text_in : Inside → Option (List ℕ)
+text_in book = option_map string_bytes book.text

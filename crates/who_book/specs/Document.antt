@@ -9,7 +9,7 @@ use Rattle.std.specs.Str.{bytes_eq}
 use Rattle.toml.specs.Data.{Data, Items, no_items, item, Members, no_members, member, get_member, as_str, as_integer}
 use Rattle.toml.specs.Data.{as_array, as_table}
 use Rattle.toml.specs.Parse.{parse_document}
-use Rattle.who_book.specs.Content.{Content, is_domain}
+use Rattle.who_book.specs.Content.{Content, is_domain, nameless}
 use Rattle.who_book.specs.Members.{Rolls, memberships, are_rolls}
 use Rattle.who_book.specs.Names.{Rows, is_name}
 use Rattle.who_book.specs.declared.fault.BookFault.{BookFault}
@@ -191,10 +191,20 @@ book_in (Some document) = said_by (outline document)
 abbrev pub book_of : List ℕ → Result Content BookFault
 book_of text = book_in (parse_document text)
 
+-- the book of a server with this text, or its first fault; where there is no text, that of a server without a book
+abbrev pub book_from : Option (List ℕ) → Result Content BookFault
+book_from None = Ok nameless
+book_from (Some text) = book_of text
+
 -- a reader's answer to a text: its book or fault, or that memory ran out
 abbrev pub Answers : List ℕ → Result Content BookFault → Type 0
 Answers text (Ok book) = book_of text ≡ Ok book
 Answers text (Err fault) = (fault ≡ Memory) ⊎ (book_of text ≡ Err fault)
+
+-- so of a text that may be missing
+abbrev pub AnswersFrom : Option (List ℕ) → Result Content BookFault → Type 0
+AnswersFrom text (Ok book) = book_from text ≡ Ok book
+AnswersFrom text (Err fault) = (fault ≡ Memory) ⊎ (book_from text ≡ Err fault)
 
 -- the answer by the reader's steps: that the text is TOML, and the book of values in range
 abbrev pub Parses : {T : Type 0} → (T → Members) → List ℕ → Result T BookFault → Type 0

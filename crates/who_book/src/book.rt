@@ -1,9 +1,9 @@
 //! The book: how it is read, and its content.
-ghost use Rattle.std.specs.Prelude.{◌≡◌, IfOk, IfSome, true, option_map, codes};
+ghost use Rattle.std.specs.Prelude.{◌≡◌, Ok, IfOk, IfSome, true, option_map, codes};
 ghost use Rattle.toml.specs.Parse.{parse_document};
 ghost use Rattle.toml.specs.View.{table_view};
 ghost use Rattle.who_book.specs.Content.{IsBook, nameless, table_of};
-ghost use Rattle.who_book.specs.Document.{Answers, Parses, Fills, is_in_range, is_up_to, natural};
+ghost use Rattle.who_book.specs.Document.{Answers, AnswersFrom, Parses, Fills, book_from, book_of, filled, is_in_range, is_up_to, natural};
 ghost use Rattle.who_book.specs.Members.{member};
 ghost use Rattle.who_book.specs.Names.{name_at, number_at};
 ghost use Rattle.who_book.specs.Outlines.{outline_of, rows_of, rolls_of, IsAscending};
@@ -34,6 +34,8 @@ pub struct Book {
     users: Names,
     groups: Names,
     members: Option<Members>,
+    /// The text that it was read from; None is the book without a file.
+    text: Option<String>,
 }
 
 impl Model for Book {
@@ -42,7 +44,9 @@ impl Model for Book {
     ghost Value = { Content };
 
     ghost use Rattle.who_book.specs.Content.{IsBook};
-    ghost use Rattle.who_book.specs.Books.{content_in};
+    ghost use Rattle.who_book.specs.Books.{content_in, text_in};
+    ghost use Rattle.who_book.specs.Document.{book_from};
+    ghost use Rattle.std.specs.Prelude.{◌≡◌, Ok};
     ghost use Rattle.who_book.specs.Indexes.{KnowsMembers};
 
     ghost view = { content_in };
@@ -50,6 +54,7 @@ impl Model for Book {
     ghost invariant = { λ b. record {
       book : IsBook (content_in b);
       members : KnowsMembers b.users b.members;
+      text : book_from (text_in b) ≡ Ok (content_in b);
     } };
 }
 
@@ -69,7 +74,26 @@ impl Book {
             users: Names::new(alloc),
             groups: Names::new(alloc),
             members: None,
+            text: None,
         }
+    }
+
+    /// The book of a text, as [`Book::read`] reads it; without a text the default one.
+    pub fn from_text(alloc: Global, text: Option<&str>) -> Result<Book, BookFault>
+        ensures answer { AnswersFrom (option_map (λ t. t.now) text.entry) result }
+        ensures book { IfOk result IsBook }
+    {
+        match text {
+            Some(text) => Book::read(alloc, text),
+            None => Ok(Book::default(alloc)),
+        }
+    }
+
+    /// The text that the book was read from. `None`: it is the book without a file.
+    pub fn text(&self) -> Option<&str>
+        ensures { book_from (option_map (λ text. text.now) result) ≡ Ok self.now }
+    {
+        self.text.as_deref()
     }
 
     /// Reads a book from TOML. It has all six of the keys `domain` (a text), `root_owner`,
@@ -92,12 +116,13 @@ impl Book {
         if !said.is_in_range() {
             return Err(BookFault::Range);
         }
-        Book::fill(alloc, &said)
+        Book::fill(alloc, &said, text)
     }
 
-    /// The book of values in range. `Twice` where two names of a table have one number, else `Member` where
+    /// The book of a text whose values are in range. `Twice` where two names of a table have one number, else `Member` where
     /// `members` doesn't agree with the tables.
-    fn fill(alloc: Global, said: &Outline<'_>) -> Result<Book, BookFault>
+    fn fill(alloc: Global, said: &Outline<'_>, text: &str) -> Result<Book, BookFault>
+        requires text { book_of text.now ≡ filled (outline_of said.now) }
         requires in_range { is_in_range (outline_of said.now) ≡ true }
         requires users_ascend { IsAscending (rows_of said.now.users.items) }
         requires groups_ascend { IsAscending (rows_of said.now.groups.items) }
@@ -109,6 +134,7 @@ impl Book {
         let users = Names::build(alloc, said.users.as_slice())?;
         let groups = Names::build(alloc, said.groups.as_slice())?;
         let members = Members::of(alloc, &users, &groups, &said.members)?;
+        let text = String::from_str(alloc, text)?;
         Ok(Book {
             domain: Some(domain),
             root_owner: to_number(said.root_owner),
@@ -117,6 +143,7 @@ impl Book {
             users,
             groups,
             members,
+            text: Some(text),
         })
     }
 
