@@ -25,7 +25,8 @@ nanoseconds_fit m = let few : m.nanoseconds < 1000000000 = m.is_fraction in omeg
 pub has_spelling : (e : Entry) → IsEntry e → HasSpelling entry (entry_value e)
 has_spelling (Call c) h = (lit< tt, (refl, ((h.seconds, nanoseconds_fit c.now), ((omega (arith, h.bytes), h.bytes), (place_spells c.delayed h.delayed, h.checksum)))))
 has_spelling (LetGo client) h = (lit< tt, (omega arith, (refl, h)))
-has_spelling (Loaded text) h = (lit< tt, (omega arith, (omega arith, (refl, (omega (arith, h), h)))))
+has_spelling (Loaded None) h = (lit< tt, (omega arith, (omega arith, (refl, tt))))
+has_spelling (Loaded (Some text)) h = (lit< tt, (omega arith, (omega arith, (refl, (omega (arith, h), h)))))
 
 -- the value of an entry means that entry
 entry_again : (e : Entry) → entry_in (entry_value e) ≡ Some e

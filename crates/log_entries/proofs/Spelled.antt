@@ -74,6 +74,10 @@ place_fits : (v : Option ℕ) (b : List ℕ) → AreBytes b → Spells (optional
 place_fits None b h s = tt
 place_fits (Some n) b h f = uint_fits n f.back (back_of _ _ b h f) f.second
 
+book_fits : (v : Option (List ℕ)) (b : List ℕ) → AreBytes b → Spells (optional text) v b → HasSpelling (optional text) v
+book_fits None b h s = tt
+book_fits (Some v) b h f = text_fits v f.back (back_of _ _ b h f) f.second
+
 call_fits : (v : Value call) (b : List ℕ) → AreBytes b → Spells call v b → HasSpelling call v
 call_fits v b h f =
     let rest = back_of _ _ b h f in
@@ -92,7 +96,7 @@ call_fits v b h f =
 entry_fits : (v : Value entry) (b : List ℕ) → AreBytes b → Spells entry v b → HasSpelling entry v
 entry_fits (inl v) b h s = (lit< tt, (refl, call_fits v s.1.back (back_of _ _ b h s.1) s.1.second.1))
 entry_fits (inr (inl client)) b h s = (lit< tt, (omega arith, (refl, hyper_fits client s.1.back (back_of _ _ b h s.1) s.1.second.1.1)))
-entry_fits (inr (inr (inl v))) b h s = (lit< tt, (omega arith, (omega arith, (refl, text_fits v s.1.back (back_of _ _ b h s.1) s.1.second.1.1.1))))
+entry_fits (inr (inr (inl v))) b h s = (lit< tt, (omega arith, (omega arith, (refl, book_fits v s.1.back (back_of _ _ b h s.1) s.1.second.1.1.1))))
 entry_fits (inr (inr (inr none))) b h s = absurd none
 
 place_bound : (place : Option ℕ) → HasSpelling (optional uint) place → IfSome place (λ n. n < 2 ^ 32)
@@ -103,7 +107,8 @@ place_bound (Some n) h = h
 can_be_written : (e : Entry) → HasSpelling entry (entry_value e) → IsEntry e
 can_be_written (Call c) h = record { seconds = h.1.1.0.0; bytes = h.1.1.1.0.1; delayed = place_bound c.delayed h.1.1.1.1.0; checksum = h.1.1.1.1.1 }
 can_be_written (LetGo client) h = h.1.1.1
-can_be_written (Loaded v) h = h.1.1.1.1.1
+can_be_written (Loaded None) h = tt
+can_be_written (Loaded (Some v)) h = h.1.1.1.1.1
 
 -- ---- one entry
 

@@ -5,7 +5,7 @@ use Rattle.std.proofs.Math.Seq.{drop-append_seam}
 use Rattle.std.specs.Prelude.{Result}
 use Rattle.std.specs.Result.{result_ok}
 use Rattle.xdr_wire.specs.declared.fault.XdrFault.{XdrFault}
-use Rattle.xdr_wire.specs.Xdr.{Value, uint, arm, no_more, hyper}
+use Rattle.xdr_wire.specs.Xdr.{Value, uint, arm, no_more, hyper, optional}
 use Rattle.xdr_wire.specs.Reading.{◌>>=◌, Read, Gives, read_at, read_arm}
 use Rattle.xdr_wire.proofs.Spelling.{begins_from_read}
 use Rattle.log_entries.specs.Forms.{call, entry, bytes as text}
@@ -22,7 +22,7 @@ call_arm (Err e) = refl
 -- after a 1 there is a call
 pub at_call : (bytes mid : List ℕ) → read_at uint bytes ≡ Ok (1, mid) → entry_at bytes ≡ option_map {U = Entry × List ℕ} (λ x. (Call x.0, x.1)) (meant call_in (read_at call mid))
 unfolding entry_at
-at_call bytes mid e = ap (λ (r : Read ℕ). meant entry_in (r >>= λ d. read_arm (arm 1 call (arm 2 hyper (arm 3 text no_more))) d.0 d.1)) e ∙ call_arm (read_at call mid)
+at_call bytes mid e = ap (λ (r : Read ℕ). meant entry_in (r >>= λ d. read_arm (arm 1 call (arm 2 hyper (arm 3 (optional text) no_more))) d.0 d.1)) e ∙ call_arm (read_at call mid)
 
 pub no_call : (bytes mid : List ℕ) → read_at uint bytes ≡ Ok (1, mid) → None ≡ meant call_in (read_at call mid) → None ≡ entry_at bytes
 no_call bytes mid kind none = ap (option_map {U = Entry × List ℕ} (λ x. (Call x.0, x.1))) none ∙ sym (at_call bytes mid kind)

@@ -28,8 +28,8 @@ pub data Entry : Type 0 where
   Call : Called → Entry
   -- the client of this number was let go
   LetGo : ℕ → Entry
-  -- a book of names was loaded, of this text
-  Loaded : List ℕ → Entry
+  -- a book of names was loaded, of this text; without a text, that of a server without a book
+  Loaded : Option (List ℕ) → Entry
 
 -- ---- writing
 
@@ -56,7 +56,7 @@ pub record IsCalled (c : Called) : Type 0 where
 abbrev pub IsEntry : Entry → Type 0
 IsEntry (Call c) = IsCalled c
 IsEntry (LetGo client) = client < 2 ^ 64
-IsEntry (Loaded text) = length text < 2 ^ 32
+IsEntry (Loaded text) = IfSome text (λ t. length t < 2 ^ 32)
 
 -- ---- reading
 

@@ -11,6 +11,6 @@ bytes = opaque 0xffff_ffff
 abbrev pub call : Xdr
 call = fields (time ∷ bytes ∷ optional uint ∷ hyper ∷ [])
 
--- a call, the number of a client, the text of a book
+-- a call, the number of a client, the text of a book, if it has one
 abbrev pub entry : Xdr
-entry = union (arm 1 call (arm 2 hyper (arm 3 bytes no_more)))
+entry = union (arm 1 call (arm 2 hyper (arm 3 (optional bytes) no_more)))

@@ -29,8 +29,8 @@ pub enum Entry<'a> {
     Call(CallEntry<'a>),
     /// The client of this number was let go.
     LetGo(u64),
-    /// A book of names was loaded, of this text.
-    Book(Opaque<'a, 0xffff_ffff>),
+    /// A book of names was loaded, of this text. `None`: that of a server without a book.
+    Book(Option<Opaque<'a, 0xffff_ffff>>),
 }
 
 impl<'a> Spell for Entry<'a> {
@@ -67,7 +67,8 @@ impl<'a> Entry<'a> {
         match self {
             Entry::Call(call) => call_room(call.bytes.bytes.len()),
             Entry::LetGo(_) => 12,
-            Entry::Book(text) => book_room(text.bytes.len()),
+            Entry::Book(Some(text)) => book_room(text.bytes.len()),
+            Entry::Book(None) => 8,
         }
     }
 

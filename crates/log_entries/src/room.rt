@@ -16,12 +16,12 @@ pub fn call_room(len: usize) -> usize
     len.saturating_add(AROUND_CALL)
 }
 
-/// Kind, length, and at most three bytes of padding.
-const AROUND_BOOK: usize = 4 + 4 + 3;
+/// Kind, whether there is a text, length, and at most three bytes of padding.
+const AROUND_BOOK: usize = 4 + 4 + 4 + 3;
 
 /// The room that is enough for the entry of a book whose text has this many bytes.
 pub(crate) fn book_room(len: usize) -> usize
-    ensures { result ≡ min (len + 11) usize.MAX }
+    ensures { result ≡ min (len + 15) usize.MAX }
 {
     len.saturating_add(AROUND_BOOK)
 }

@@ -42,7 +42,7 @@ fn other_words_are_refused(rt: HostRuntime) -> Result<(), Fail> {
     ] {
         assert!(rt; is_refused(alloc, &PLAIN, at, word)?);
     }
-    assert!(rt; is_refused(alloc, &BOOK, 3, 0x730a_0001)?);
+    assert!(rt; is_refused(alloc, &BOOK, 4, 0x730a_0001)?);
     Ok(())
 }
 

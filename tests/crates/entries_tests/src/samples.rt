@@ -26,10 +26,13 @@ pub const PLAIN: [u32; 9] = [1, 0, 7, 999_999_999, 4, 0x6361_6c6c, 0, 0, 9];
 pub const LET_GO: [u32; 3] = [2, 1, 3];
 
 /// A book was loaded.
-pub const BOOK: [u32; 4] = [3, 6, 0x7573_6572, 0x730a_0000];
+pub const BOOK: [u32; 5] = [3, 1, 6, 0x7573_6572, 0x730a_0000];
+
+/// No book is there any more.
+pub const NO_BOOK: [u32; 2] = [3, 0];
 
 /// How many samples there are.
-pub const COUNT: usize = 4;
+pub const COUNT: usize = 5;
 
 /// The words of a sample.
 pub fn words_of(sample: usize) -> &'static [u32] {
@@ -37,7 +40,8 @@ pub fn words_of(sample: usize) -> &'static [u32] {
         0 => &DELAYED,
         1 => &PLAIN,
         2 => &LET_GO,
-        _ => &BOOK,
+        3 => &BOOK,
+        _ => &NO_BOOK,
     }
 }
 
@@ -70,7 +74,8 @@ pub fn sample(sample: usize) -> Entry<'static> {
             checksum: 9,
         }),
         2 => Entry::LetGo(0x1_0000_0003),
-        _ => Entry::Book(opaque(b"users\n")),
+        3 => Entry::Book(Some(opaque(b"users\n"))),
+        _ => Entry::Book(None),
     }
 }
 
@@ -100,7 +105,8 @@ pub fn is_same(one: &Entry<'_>, other: &Entry<'_>) -> bool {
                 && one.checksum == other.checksum
         }
         (Entry::LetGo(one), Entry::LetGo(other)) => one == other,
-        (Entry::Book(one), Entry::Book(other)) => one.bytes == other.bytes,
+        (Entry::Book(Some(one)), Entry::Book(Some(other))) => one.bytes == other.bytes,
+        (Entry::Book(None), Entry::Book(None)) => true,
         _ => false,
     }
 }
