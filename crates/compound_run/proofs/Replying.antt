@@ -39,12 +39,13 @@ use Rattle.compound_run.specs.Beginning.{Beginning, Ends, Follows, beginning}
 use Rattle.compound_run.specs.CreateSession.{kept_for, created_before, create_of, session_made}
 use Rattle.compound_run.specs.Sequence.{sequence_done}
 use Rattle.compound_run.specs.Sessions.{session_of, told_by, opens_without, with_registry}
-use Rattle.compound_run.specs.InSession.{Reply, ActsTo, RunsTo, RunsAlone, RunsOnSlot, RunsBy, RunsBegun, RunsCall, RunsOf, AnswersInSession, begun_in, in_registry, fate, fate_of, fate_begun, fate_alone, fate_by, given_alone, again, sequenced}
+use Rattle.compound_run.specs.InSession.{Reply, ActsTo, RunsTo, RunsAlone, RunsOnSlot, RunsCall, RunsOf, AnswersInSession, begun_in, in_registry, fate, fate_of, fate_begun, fate_alone, fate_by, given_alone, again, sequenced}
 use Rattle.compound_run.specs.SessionViews.{ActsSo, AnswersAs, IsOfClients, IsRanUnless, SequencedKept, Writes, WritesWithin, call_of, coming_behind, lone_view}
 use Rattle.compound_run.specs.Keeping.{is_change, keeps, keeps_of, keeps_only}
 use Rattle.compound_run.specs.Delayed.{delayed, delayed_of, delayed_only}
 use Rattle.compound_run.specs.Delaying.{Delays, DelaysAnswer, DelaysIn, DelaysOf, DelaysOnSlot, RanByDelaying, RanBegunDelaying, RunsDelaying}
 use Rattle.compound_run.specs.Recorded.{IsRan, RunsRecorded}
+use Rattle.compound_run.specs.Replaying.{ready, ready_of}
 use Rattle.compound_run.specs.Recorded.{Answers as Recorded, AnswersBy as RecordedBy}
 use Rattle.compound_run.specs.Runs.{Given, Point}
 use Rattle.compound_run.specs.Written.{EndsSo}
@@ -224,6 +225,12 @@ answers_call refused s old ran new call v operations bytes is read answer =
 pub recorded_so : (refused : Option ℕ) (old : State) (call : Call) (ran : Option Ran) (before after : Buffer) (new : State) → RunsDelaying refused old call ran before after new → RunsRecorded old call ran before after new
 recorded_so refused old call (Some ran) before after new runs = (runs.0, runs.1.0, runs.2, runs.3)
 recorded_so refused old call None before after new runs = runs
+
+-- the slot of the call lags before it is run
+pub replayed_so : (refused : Option ℕ) (old lagged : State) (call : Call) (ran : Option Ran) (before after : Buffer) (new : State) → lagged ≡ ready_of (args_in (read_at args_form call.arguments)) old
+    → RunsDelaying refused lagged call ran before after new → RunsDelaying refused (ready call old) call ran before after new
+unfolding ready
+replayed_so refused old lagged call ran before after new is runs = subst (λ s. RunsDelaying refused s call ran before after new) is runs
 
 -- what is told of a call says nothing of its answer
 pub answered_so : (old : State) (call : Call) (reply : Reply) (ran : Ran) (new : State) → Recorded old call reply ran new → AnswersInSession old call reply new

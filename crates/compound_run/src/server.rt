@@ -281,7 +281,6 @@ impl<A: Allocator + Copy> Server<A> {
     /// `delayed` is the place of the operation that found no memory, as the call's record has it (see
     /// [`Ran`]). Memory is refused to it here too: it is answered DELAY and isn't run. An operation
     /// that never takes memory is run there all the same; then the place in [`Ran`] is another one.
-    #[tactic(auto, unfolding(crate::specs::InSession::fate, crate::specs::Replaying::ready))]
     pub fn replay(
         &mut self,
         args: Args<'_>,
