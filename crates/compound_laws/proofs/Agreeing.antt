@@ -1,20 +1,20 @@
 -- Memory is refused to the operation that the record of a call names, as the call is run again. That one
 -- is answered DELAY, unless an operation before it found no memory either.
-use Rattle.std.proofs.Common.{◌≡◌, ◌≢◌, ◌+◌, ◌<◌, ℕ, zero, suc, Bool, true, false, if◌then◌else◌, List, inl, inr, refl, sym, ap, subst, ◌∙◌, length, arith}
+use Rattle.std.proofs.Common.{◌≡◌, ◌+◌, ℕ, zero, suc, Bool, true, false, if◌then◌else◌, List, inl, inr, refl, sym, ap, subst, ◌∙◌, length, arith}
 use Rattle.std.specs.Prelude.{◌⊎◌, ◌==◌, [], ◌∷◌, Option, Some, None, Result, Ok, Err, MatchResult}
 use Rattle.std.specs.Option.{option_map}
 use Rattle.nfs_types.specs.declared.status.Status.{Status}
 use Rattle.nfs_types.specs.declared.status.Status.TheVariants as statuses
-use Rattle.nfs_ops.specs.Operations.{Operation, Known, next_at, number_of}
+use Rattle.nfs_ops.specs.Operations.{Operation, Known, next_at}
 use Rattle.nfs_ops.specs.Results.{Outcome}
 use Rattle.nfs_ops.specs.declared.OpKind.TheVariants as kinds
 use Rattle.compound_run.specs.Context.{Context, behind}
 use Rattle.compound_run.specs.Operations.{may_delay}
 use Rattle.compound_run.specs.Runs.{Point, Given, Steps, Runs, result_bytes}
-use Rattle.compound_run.specs.Telling.{is_delay, is_delay_status}
+use Rattle.compound_run.specs.Telling.{is_delay}
 use Rattle.compound_run.specs.Keeping.{keeps_alone}
 use Rattle.compound_run.specs.Delayed.{delayed_in, delayed_alone}
-use Rattle.compound_run.specs.Delaying.{DelaysFrom, DelaysIf, DelaysIn, is_place}
+use Rattle.compound_run.specs.Delaying.{DelaysFrom, DelaysIn, is_place}
 use Rattle.compound_run.proofs.Ending.{never_delayed}
 use Rattle.compound_laws.specs.Replays.{IsEarlier}
 use Rattle.compound_laws.proofs.Determined.{Answer, delay_is, isnt_delay, later_same, never_first, step_same}

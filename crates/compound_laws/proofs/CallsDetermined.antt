@@ -1,23 +1,19 @@
 -- A call that is run twice from one state. It has the same reply, and leaves the same but for the trail,
 -- where memory was refused to the same operation, or to none. Where memory is refused to the operation
 -- that the first run's record names, it is so unless an operation before that one found none.
-use Rattle.std.proofs.Common.{◌≡◌, ◌-◌, ◌||◌, ℕ, Bool, true, List, refl, sym, ap, ◌∙◌}
-use Rattle.std.specs.Prelude.{◌∷◌, Option, Some, None, Result}
+use Rattle.std.proofs.Common.{◌≡◌, ◌-◌, ◌||◌, ℕ, Bool, true, List, sym, ap, ◌∙◌}
+use Rattle.std.specs.Prelude.{◌∷◌, Option, Some, None}
 use Rattle.std.specs.List.{list_any}
 use Rattle.xdr_wire.specs.Reading.{read_at}
 use Rattle.xdr_wire.specs.Xdr.{Value}
-use Rattle.nfs_types.specs.declared.status.Status.{Status}
 use Rattle.nfs_ops.specs.Operations.{Operation, number_of}
 use Rattle.nfs_ops.specs.Parts.{sequence_session, sequence_number, sequence_slot}
-use Rattle.nfs_ops.specs.Results.{Outcome}
 use Rattle.session_slots.specs.declared.session.Begin.{Begin}
 use Rattle.session_slots.specs.declared.session.Begin.TheVariants as begins
 use Rattle.session_slots.specs.declared.session.NewCall.{NewCall}
 use Rattle.session_slots.specs.Keeping.{last_at, passes}
-use Rattle.compound_run.specs.Realm.{Realm}
 use Rattle.compound_run.specs.Compound.{args_form, args_in, together}
 use Rattle.compound_run.specs.Runs.{Given}
-use Rattle.compound_run.specs.Settings.{Settings}
 use Rattle.compound_run.specs.State.{State, Call, start}
 use Rattle.compound_run.specs.Sessions.{session_of, with_registry}
 use Rattle.compound_run.specs.Sequence.{keeping, sequence_done}

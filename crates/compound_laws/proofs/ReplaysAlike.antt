@@ -1,11 +1,11 @@
 -- A call that is kept, run again from a state that covers the present one, with memory refused where its
 -- record says so.
-use Rattle.std.proofs.Common.{◌≡◌, ◌≤◌, ℕ, Bool, true, refl, sym, ap, subst, ◌∙◌}
-use Rattle.std.specs.Prelude.{◌⊎◌, Option}
+use Rattle.std.proofs.Common.{◌≡◌, ◌≤◌, ℕ, true, sym, ap, subst, ◌∙◌}
+use Rattle.std.specs.Prelude.{Option}
 use Rattle.session_slots.specs.Repeating.{Fate, Runs}
 use Rattle.compound_run.specs.declared.kept.Ran.{Ran}
 use Rattle.compound_run.specs.Covering.{Covers, RealmCovers}
-use Rattle.compound_run.specs.InSession.{Reply, RunsCall, fate}
+use Rattle.compound_run.specs.InSession.{Reply, fate}
 use Rattle.compound_run.specs.Keeping.{keeps}
 use Rattle.compound_run.specs.Delayed.{delayed}
 use Rattle.compound_run.specs.Delaying.{AnswersDelaying, Delays, DelaysAnswer}
@@ -15,7 +15,7 @@ use Rattle.compound_run.specs.Replaying.{IsNumbered, ready}
 use Rattle.compound_run.specs.Settings.{Settings}
 use Rattle.compound_run.specs.State.{State, Call}
 use Rattle.compound_laws.proofs.Agreeing.{Agree}
-use Rattle.compound_laws.proofs.CallsDetermined.{AreAlike, calls_twice}
+use Rattle.compound_laws.proofs.CallsDetermined.{calls_twice}
 use Rattle.compound_laws.proofs.Simulates.{simulates}
 
 -- a call of this fate is answered so, where memory is refused

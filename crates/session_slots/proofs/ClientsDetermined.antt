@@ -1,7 +1,7 @@
 -- EXCHANGE_ID and CREATE_SESSION, done twice from the same clients: they have the same result, and leave
 -- the same clients and sessions, where they found memory both times or neither time.
-use Rattle.std.proofs.Common.{◌≡◌, ℕ, List, refl, sym, ap, ◌∙◌, inl, inr}
-use Rattle.std.specs.Prelude.{Result, Ok, Err}
+use Rattle.std.proofs.Common.{◌≡◌, sym, ap, ◌∙◌, inl, inr}
+use Rattle.std.specs.Prelude.{Result, Err}
 use Rattle.nfs_types.specs.declared.status.Status.{Status}
 use Rattle.nfs_types.specs.declared.status.Status.TheVariants as statuses
 use Rattle.session_slots.specs.declared.creating.Create.{Create}
