@@ -26,12 +26,12 @@ pub record AreSame (p q : Point) : Type 0 where
   pub trail : p.log.trail ≡ q.log.trail
   pub total : p.log.total ≡ q.log.total
 
-delay_is : (result : Result Outcome Status) → is_delay result ≡ true → result ≡ Err statuses.Delay
+pub delay_is : (result : Result Outcome Status) → is_delay result ≡ true → result ≡ Err statuses.Delay
 delay_is (Ok outcome) is = cc
 delay_is (Err statuses.Delay) is = refl
 delay_is (Err status) is = cc
 
-isnt_delay : (result : Result Outcome Status) → is_delay result ≡ false → result ≢ Err statuses.Delay
+pub isnt_delay : (result : Result Outcome Status) → is_delay result ≡ false → result ≢ Err statuses.Delay
 isnt_delay result none is = let never : true ≡ false = sym (ap is_delay is) ∙ none in cc
 
 meant : (may : Bool) (result : Result Outcome Status) (A : Type 0) → result ≢ Err statuses.Delay → Unless may result A → A
@@ -62,7 +62,7 @@ same_point c op old (Err status) p q a b logs =
       handles = (a.handles_stay ∙ sym b.handles_stay) i;
     }
 
-step_same : (c : Context) (op : Operation) (old : Point) (result result' : Result Outcome Status) (p q : Point) → is_delay result ≡ false → is_delay result' ≡ false
+pub step_same : (c : Context) (op : Operation) (old : Point) (result result' : Result Outcome Status) (p q : Point) → is_delay result ≡ false → is_delay result' ≡ false
     → Steps c op old result p → Steps c op old result' q → (result ≡ result') × (p ≡ q)
 step_same c op old result result' p q none none' a b =
     let first = is_meant c op old result p none a in
@@ -98,13 +98,13 @@ same_of p q is = record {
   total = ap (λ (x : Point). x.log.total) is;
 }
 
-later_same : (x y : Option ℕ) → option_map suc x ≡ option_map suc y → x ≡ y
+pub later_same : (x y : Option ℕ) → option_map suc x ≡ option_map suc y → x ≡ y
 later_same None None is = refl
 later_same None (Some n) is = cc
 later_same (Some n) None is = cc
 later_same (Some m) (Some n) is = let same : m ≡ n = cc in ap Some same
 
-never_first : (x : Option ℕ) → Some 0 ≡ option_map suc x → ⊥
+pub never_first : (x : Option ℕ) → Some 0 ≡ option_map suc x → ⊥
 never_first None is = cc
 never_first (Some n) is = cc
 
@@ -132,7 +132,7 @@ ends_same c op old mid mid' new last number (Err s) (Err s') results others A B 
       subst (λ (p : Point). AreSame p last) (sym x.1) (subst (λ (p : Point). AreSame mid p) (sym y.1) both.1),
     )
 
-abbrev Answer : Context → ℕ → List ℕ → Given → Point → List Given → Point → Type 0
+abbrev pub Answer : Context → ℕ → List ℕ → Given → Point → List Given → Point → Type 0
 Answer c n bytes given mid results new =
     MatchResult given.outcome (λ o. Runs (behind c (length (result_bytes given))) n (next_at bytes).1 mid results new) (λ s. (results ≡ []) × (new ≡ mid))
 

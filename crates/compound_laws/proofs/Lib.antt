@@ -23,4 +23,8 @@ pub mod OverSessions
 pub mod Alone
 pub mod Simulates
 pub mod Determined
+pub mod Agreeing
+pub mod AloneDetermined
+pub mod CallsDetermined
+pub mod ReplaysAlike
 pub mod EventsCover

@@ -1,7 +1,8 @@
 -- A call that is kept, run again from a state that covers the present one, has the same reply, and
 -- leaves a state that covers. One that isn't kept leaves what covers.
-use Rattle.std.proofs.Common.{◌≡◌, ◌<◌, ◌≤◌, ◌-◌, ◌^◌, ◌||◌, ℕ, Bool, true, false, List, [], refl, sym, ap, subst, ◌∙◌}
-use Rattle.std.specs.Prelude.{Option, Some, None, slice_get}
+use Rattle.std.proofs.Common.{◌≡◌, ◌<◌, ◌≤◌, ◌-◌, ◌^◌, ◌||◌, ℕ, Bool, true, false, List, [], inl, inr, refl, sym, ap, subst, ◌∙◌}
+use Rattle.std.specs.Prelude.{◌⊎◌, ◌/◌, ◌==◌, not, Option, Some, None, slice_get}
+use Rattle.std.specs.Map.{lookup}
 use Rattle.std.specs.List.{list_any}
 use Rattle.std.specs.Option.{option_and_then}
 use Rattle.std.specs.BTreeMap.{is_at}
@@ -16,14 +17,16 @@ use Rattle.access_guard.specs.Log.{Log}
 use Rattle.session_slots.specs.declared.session.Begin.{Begin}
 use Rattle.session_slots.specs.declared.session.Begin.TheVariants as begins
 use Rattle.session_slots.specs.declared.session.NewCall.{NewCall}
-use Rattle.session_slots.specs.Covering.{SessionsCover, lagging}
+use Rattle.session_slots.specs.Counting.{last_number}
+use Rattle.session_slots.specs.Covering.{IsLater, PlacesCover, SessionsCover, lagging}
 use Rattle.session_slots.specs.Keeping.{last_at, last_of, passes}
-use Rattle.session_slots.specs.Registry.{Session, Registry, session_at, with_place}
+use Rattle.session_slots.specs.Limits.{MOST_AHEAD}
+use Rattle.session_slots.specs.Registry.{Session, Registry, changed_place, session_at, with_place}
 use Rattle.session_slots.specs.Repeating.{Fate, Runs}
-use Rattle.session_slots.specs.Sequencing.{session_begun}
-use Rattle.session_slots.specs.Slots.{finished}
-use Rattle.session_slots.proofs.Covering.{changed}
-use Rattle.session_slots.proofs.OnSlot.{found, begins_there, ended_there, idle_there}
+use Rattle.session_slots.specs.Sequencing.{Asked, session_begun}
+use Rattle.session_slots.specs.Slots.{Kept, Place, finished, number_of}
+use Rattle.session_slots.proofs.Covering.{PlaceFound, changed, place_found}
+use Rattle.session_slots.proofs.OnSlot.{Found, found, begins_there, ended_there, idle_there, lookup_after, place_after}
 use Rattle.compound_run.specs.Realm.{Realm}
 use Rattle.compound_run.specs.Compound.{args_form, args_in}
 use Rattle.compound_run.specs.State.{State, Call, start, left}
@@ -31,10 +34,11 @@ use Rattle.compound_run.specs.Sessions.{session_of, with_registry}
 use Rattle.compound_run.specs.Settings.{Settings}
 use Rattle.compound_run.specs.Sequence.{keeping}
 use Rattle.compound_run.specs.Beginning.{Beginning, Ends, Refuses, Acts, Follows, beginning}
-use Rattle.compound_run.specs.InSession.{Reply, RunsAlone, RunsBegun, RunsBy, RunsCall, RunsOf, RunsOnSlot, asked_in, begin_in, begun_in, context_behind, fate, fate_alone, fate_begun, fate_by, fate_of, in_registry, sequenced}
+use Rattle.compound_run.specs.InSession.{Reply, RunsAlone, RunsBegun, RunsBy, RunsCall, RunsOf, RunsOnSlot, Sequenced, asked_in, begin_in, begun_in, context_behind, fate, fate_alone, fate_begun, fate_by, fate_of, in_registry, sequenced}
 use Rattle.compound_run.specs.Runs.{Point}
 use Rattle.compound_run.specs.Covering.{Covers, with_sessions}
-use Rattle.compound_run.specs.Keeping.{is_change, keeps, keeps_begun, keeps_by, keeps_of, keeps_on_slot, keeps_only}
+use Rattle.compound_run.specs.Keeping.{is_change, keeps, keeps as keeps_there, keeps_begun, keeps_by, keeps_of, keeps_on_slot, keeps_only}
+use Rattle.compound_run.specs.Delayed.{delayed, delayed as delayed_there, delayed_begun, delayed_by, delayed_of, delayed_on_slot, delayed_only}
 use Rattle.compound_run.specs.Replaying.{Replays, IsNumbered, IsNumberedFor, IsNumberedOf, ready, ready_for, ready_of}
 use Rattle.compound_run.proofs.Staying.{runs_stay}
 use Rattle.compound_laws.proofs.Alone.{alone_over, alone_idle}
@@ -60,16 +64,43 @@ is_over q s c = λ i. record {
 
 -- ---- on a slot
 
--- a call that begins with a SEQUENCE is new, and runs with this reply
-abbrev pub RunsThere : Call → List ℕ → ℕ → Value sequence_args → List ℕ → NewCall → List ℕ → State → State → Type 0
-RunsThere call tag count v operations granted bytes q new =
+-- the last number of a slot that lags is in the same span of 2^20
+span_of : (q p : Place) → (q.kept ≡ p.kept) ⊎ IsLater p q.kept → last_of (Some q) / MOST_AHEAD ≡ last_of (Some p) / MOST_AHEAD
+span_of q p (inl same) = ap (λ (k : Option Kept). last_number number_of k / MOST_AHEAD) same
+span_of q p (inr later) = later.near
+
+span_in : (slot : ℕ) (qs ps : List Place) (p : Place) → PlacesCover qs ps → slice_get ps slot ≡ Some p
+    → last_of (slice_get (changed_place slot lagging qs) slot) / MOST_AHEAD ≡ last_of (Some p) / MOST_AHEAD
+span_in slot qs ps p c there = of (slice_get qs slot) refl (subst (λ y. PlaceFound (slice_get qs slot) y) there (place_found slot qs ps c))
+  where
+    of : (x : Option Place) → slice_get qs slot ≡ x → PlaceFound x (Some p) → last_of (slice_get (changed_place slot lagging qs) slot) / MOST_AHEAD ≡ last_of (Some p) / MOST_AHEAD
+    of None is covers = absurd covers
+    of (Some q) is covers = ap (λ (o : Option Place). last_of o / MOST_AHEAD) (place_after slot lagging qs q is) ∙ span_of q p covers.kept
+
+-- the last number of a slot among these sessions, if there is one
+abbrev last_in : (ℕ → Bool) → ℕ → List (ℕ × Session) → ℕ
+last_in test slot sessions = last_of (option_and_then (λ (s : Session). slice_get s.slots slot) (lookup test sessions))
+
+span_there : (test : ℕ → Bool) (qs ss : List (ℕ × Session)) (a : Asked) (granted : NewCall) → Found test qs ss a granted
+    → last_in test a.slot (changed test (with_place a.slot lagging) qs) / MOST_AHEAD ≡ last_in test a.slot ss / MOST_AHEAD
+span_there test qs ss a granted f =
+    ap (λ (o : Option Session). last_of (option_and_then (λ s. slice_get s.slots a.slot) o) / MOST_AHEAD) (lookup_after test (with_place a.slot lagging) qs f.other f.in_others)
+    ∙ (span_in a.slot f.other.slots f.session.slots f.is_new.place f.covers.slots f.is_new.there
+    ∙ sym (ap (λ (o : Option Session). last_of (option_and_then (λ s. slice_get s.slots a.slot) o) / MOST_AHEAD) f.in_sessions ∙ ap (λ (o : Option Place). last_of o / MOST_AHEAD) f.is_new.there))
+
+-- a call that begins with a SEQUENCE is new, and runs with this reply; its record has the same facts
+abbrev pub RunsThere : Call → List ℕ → ℕ → Value sequence_args → List ℕ → NewCall → List ℕ → State → State → Bool → Option ℕ → Type 0
+RunsThere call tag count v operations granted bytes q new kept place =
     (begin_in q.realm call count v operations ≡ begins.New granted)
-    × (after : State) × RunsOnSlot q (sequenced call tag count v operations) granted bytes after × Covers after new
+    × (after : State) × (runs : RunsOnSlot q (sequenced call tag count v operations) granted bytes after) × Covers after new
+    × (keeps_on_slot q (sequenced call tag count v operations) granted bytes after runs ≡ kept)
+    × (delayed_on_slot q (sequenced call tag count v operations) granted bytes after runs ≡ place)
 
 slot_over : (call : Call) (tag : List ℕ) (count : ℕ) (v : Value sequence_args) (operations : List ℕ) (sessions : List (ℕ × Session)) (like old : State) (granted : NewCall) (bytes : List ℕ) (new : State)
     → SessionsCover sessions old.realm.registry.sessions → like.settings.epoch ≤ old.settings.epoch → sequence_number v < 2 ^ 32
-    → begin_in old.realm call count v operations ≡ begins.New granted → RunsOnSlot old (sequenced call tag count v operations) granted bytes new
+    → begin_in old.realm call count v operations ≡ begins.New granted → (runs : RunsOnSlot old (sequenced call tag count v operations) granted bytes new)
     → RunsThere call tag count v operations granted bytes (ready_for (Follows v operations) (state_over sessions like old)) new
+    (keeps_on_slot old (sequenced call tag count v operations) granted bytes new runs) (delayed_on_slot old (sequenced call tag count v operations) granted bytes new runs)
 slot_over call tag count v operations sessions like old granted bytes new c epoch fits begins (end, (results, runs, told), is, few) =
     let a = asked_in old.realm.lasting call count v operations in
     let test : ℕ → Bool = is_at (nat_cmp (session_of (sequence_session v))) in
@@ -97,6 +128,8 @@ slot_over call tag count v operations sessions like old granted bytes new c epoc
         book = ap (λ (s : Settings). s.book) (sym settled);
         epoch = subst (λ (s : Settings). like.settings.epoch ≤ s.epoch) (sym settled) epoch;
       }),
+      ap (λ n. list_any is_change results || not (n == sequence_number v / MOST_AHEAD)) (span_there test sessions old.realm.registry.sessions a granted f),
+      refl,
     )
 
 none_of : (a b : Bool) → (a || b) ≡ false → (a ≡ false) × (b ≡ false)
@@ -139,9 +172,15 @@ fate_over : (tag : List ℕ) (op : Operation) (sessions : List (ℕ × Session))
 fate_over tag (Known kinds.CreateSession v) sessions r = refl
 fate_over tag _ sessions r = refl
 
+-- an operation that is the only one of its COMPOUND is done there; its record has the same facts
+abbrev OnlyThere : Call → List ℕ → Operation → List ℕ → State → State → Bool → Option ℕ → Type 0
+OnlyThere call tag op bytes q new kept place =
+    (after : State) × (runs : RunsAlone call tag op q bytes after) × Covers after new × (keeps_only call tag op q bytes after runs ≡ kept)
+    × (delayed_only call tag op q bytes after runs ≡ place)
+
 only_over : (call : Call) (tag : List ℕ) (op : Operation) (sessions : List (ℕ × Session)) (like old : State) (bytes : List ℕ) (new : State)
-    → SessionsCover sessions old.realm.registry.sessions → like.settings.epoch ≤ old.settings.epoch → RunsAlone call tag op old bytes new
-    → (after : State) × RunsAlone call tag op (state_over sessions like old) bytes after × Covers after new
+    → SessionsCover sessions old.realm.registry.sessions → like.settings.epoch ≤ old.settings.epoch → (runs : RunsAlone call tag op old bytes new)
+    → OnlyThere call tag op bytes (state_over sessions like old) new (keeps_only call tag op old bytes new runs) (delayed_only call tag op old bytes new runs)
 only_over call tag op sessions like old bytes new c epoch ((outcome, acts, told), rest) =
     let there = alone_over call.caller op sessions old.realm outcome new.realm c acts in
     let after = record (state_over sessions like old) { realm = with_sessions there.0 new.realm } in
@@ -153,6 +192,8 @@ only_over call tag op sessions like old bytes new c epoch ((outcome, acts, told)
         book = ap (λ (s : Settings). s.book) (sym settled);
         epoch = subst (λ (s : Settings). like.settings.epoch ≤ s.epoch) (sym settled) epoch;
       },
+      refl,
+      refl,
     )
 
 only_idle : (call : Call) (tag : List ℕ) (op : Operation) (q old : State) (bytes : List ℕ) (new : State) → Covers q old → (runs : RunsAlone call tag op old bytes new)
@@ -163,65 +204,82 @@ only_idle call tag op q old bytes new c ((outcome, acts, told), rest) none =
 
 -- ---- any call
 
--- a call of this beginning is new, and runs with this reply
-abbrev pub BegunThere : Call → List ℕ → ℕ → Beginning → List ℕ → State → State → Type 0
-BegunThere call tag count b bytes q new =
-    (fate_begun q call tag count b ≡ Runs) × (after : State) × RunsBegun call tag count b q bytes after × Covers after new
+-- a call of this beginning is new, and runs with this reply; its record has the same facts
+abbrev pub BegunThere : Call → List ℕ → ℕ → Beginning → List ℕ → State → State → Bool → Option ℕ → Type 0
+BegunThere call tag count b bytes q new kept place =
+    (fate_begun q call tag count b ≡ Runs) × (after : State) × (runs : RunsBegun call tag count b q bytes after) × Covers after new
+    × (keeps_begun call tag count b q bytes after runs ≡ kept) × (delayed_begun call tag count b q bytes after runs ≡ place)
+
+-- a call that has begun so runs with this reply
+abbrev BySo : Begin → Sequenced → State → List ℕ → State → Bool → Option ℕ → Type 0
+BySo b c old bytes new kept place = (runs : RunsBy b c old bytes new) × (keeps_by b c old bytes new runs ≡ kept) × (delayed_by b c old bytes new runs ≡ place)
 
 follows_over : (b : Begin) (call : Call) (tag : List ℕ) (count : ℕ) (v : Value sequence_args) (operations : List ℕ) (sessions : List (ℕ × Session)) (like old : State) (bytes : List ℕ) (new : State)
     → SessionsCover sessions old.realm.registry.sessions → like.settings.epoch ≤ old.settings.epoch → sequence_number v < 2 ^ 32
-    → begin_in old.realm call count v operations ≡ b → RunsBy b (sequenced call tag count v operations) old bytes new
+    → begin_in old.realm call count v operations ≡ b → (runs : RunsBy b (sequenced call tag count v operations) old bytes new)
     → BegunThere call tag count (Follows v operations) bytes (ready_for (Follows v operations) (state_over sessions like old)) new
+    (keeps_by b (sequenced call tag count v operations) old bytes new runs) (delayed_by b (sequenced call tag count v operations) old bytes new runs)
 follows_over (begins.New granted) call tag count v operations sessions like old bytes new c epoch fits begins runs =
     let q = ready_for (Follows v operations) (state_over sessions like old) in
-    let there = slot_over call tag count v operations sessions like old granted bytes new c epoch fits begins runs in (
-      ap (fate_by tag v q.realm.registry) there.0,
-      there.1,
-      subst (λ (x : Begin). RunsBy x (sequenced call tag count v operations) q bytes there.1) (sym there.0) there.2,
-      there.3,
-    )
+    let s = sequenced call tag count v operations in
+    let there = slot_over call tag count v operations sessions like old granted bytes new c epoch fits begins runs in
+    let so = subst (λ (x : Begin). BySo x s q bytes there.1 (keeps_on_slot old s granted bytes new runs) (delayed_on_slot old s granted bytes new runs)) (sym there.0) (there.2, there.4, there.5) in
+    (ap (fate_by tag v q.realm.registry) there.0, there.1, so.0, there.3, so.1, so.2)
 follows_over begins.Repeat call tag count v operations sessions like old bytes new c epoch fits begins runs = absurd runs
 follows_over (begins.Refused status) call tag count v operations sessions like old bytes new c epoch fits begins runs = absurd runs
 
 begun_over : (b : Beginning) (call : Call) (tag : List ℕ) (count : ℕ) (sessions : List (ℕ × Session)) (like old : State) (bytes : List ℕ) (new : State)
     → SessionsCover sessions old.realm.registry.sessions → like.settings.epoch ≤ old.settings.epoch → IsNumberedFor b → fate_begun old call tag count b ≡ Runs
-    → RunsBegun call tag count b old bytes new → BegunThere call tag count b bytes (ready_for b (state_over sessions like old)) new
+    → (runs : RunsBegun call tag count b old bytes new)
+    → BegunThere call tag count b bytes (ready_for b (state_over sessions like old)) new (keeps_begun call tag count b old bytes new runs) (delayed_begun call tag count b old bytes new runs)
 begun_over (Ends status) call tag count sessions like old bytes new c epoch fits is runs = absurd runs
 begun_over (Refuses number status) call tag count sessions like old bytes new c epoch fits is runs = absurd runs
 begun_over (Acts op) call tag count sessions like old bytes new c epoch fits is runs =
     let there = only_over call tag op sessions like old bytes new c epoch runs in
-    (fate_over tag op sessions old.realm ∙ is, there.0, there.1, there.2)
+    (fate_over tag op sessions old.realm ∙ is, there.0, there.1, there.2, there.3, there.4)
 begun_over (Follows v operations) call tag count sessions like old bytes new c epoch fits is runs =
     follows_over (begin_in old.realm call count v operations) call tag count v operations sessions like old bytes new c epoch fits refl runs
 
--- a call of these arguments is run again
-record ReadThere (call : Call) (a : Option (Value args_form × List ℕ)) (reply : Reply) (q new : State) : Type 0 where
+-- a call of these arguments is run again; its record has the same facts
+record ReadThere (call : Call) (a : Option (Value args_form × List ℕ)) (reply : Reply) (q new : State) (keeps : Bool) (place : Option ℕ) : Type 0 where
   is : fate_of (ready_of a q) call a ≡ Runs
   after : State
   runs : RunsOf call a (ready_of a q) reply after
   covers : Covers after new
+  kept : keeps_of call a (ready_of a q) reply after runs ≡ keeps
+  delayed : delayed_of call a (ready_of a q) reply after runs ≡ place
 
 read_over : (a : Option (Value args_form × List ℕ)) (call : Call) (sessions : List (ℕ × Session)) (like old : State) (reply : Reply) (new : State)
     → SessionsCover sessions old.realm.registry.sessions → like.settings.epoch ≤ old.settings.epoch → IsNumberedOf a → fate_of old call a ≡ Runs
-    → RunsOf call a old reply new → ReadThere call a reply (state_over sessions like old) new
+    → (runs : RunsOf call a old reply new) → ReadThere call a reply (state_over sessions like old) new (keeps_of call a old reply new runs) (delayed_of call a old reply new runs)
 read_over None call sessions like old reply new c epoch fits is runs = absurd runs
 read_over (Some ((tag, (minor, count)), operations)) call sessions like old None new c epoch fits is runs = absurd runs
 read_over (Some ((tag, (minor, count)), operations)) call sessions like old (Some bytes) new c epoch fits is runs =
     let there = begun_over (beginning minor count operations) call tag count sessions like old bytes new c epoch fits is runs in
-    record { is = there.0; after = there.1; runs = there.2; covers = there.3 }
+    record { is = there.0; after = there.1; runs = there.2; covers = there.3; kept = there.4; delayed = there.5 }
 
-call_over : (q s : State) (call : Call) (reply : Reply) (new : State) → Covers q s → IsNumbered call → fate s call ≡ Runs → RunsCall call s reply new
-    → ReadThere call (args_in (read_at args_form call.arguments)) reply q new
-unfolding IsNumbered fate RunsCall
+call_over : (q s : State) (call : Call) (reply : Reply) (new : State) → Covers q s → IsNumbered call → fate s call ≡ Runs → (runs : RunsCall call s reply new)
+    → ReadThere call (args_in (read_at args_form call.arguments)) reply q new (keeps call s reply new runs) (delayed call s reply new runs)
+unfolding IsNumbered fate RunsCall keeps delayed
 call_over q s call reply new c fits is runs =
-    subst (λ (x : State). ReadThere call (args_in (read_at args_form call.arguments)) reply x new) (sym (is_over q s c))
+    subst (λ (x : State). ReadThere call (args_in (read_at args_form call.arguments)) reply x new (keeps call s reply new runs) (delayed call s reply new runs)) (sym (is_over q s c))
     (read_over (args_in (read_at args_form call.arguments)) call q.realm.registry.sessions q s reply new c.realm.sessions c.epoch fits is runs)
 
-pub simulates : (q s : State) (call : Call) (reply : Reply) (new : State) → Covers q s → IsNumbered call → fate s call ≡ Runs → RunsCall call s reply new
-    → (after : State) × Replays call q reply after × Covers after new
-unfolding ready fate RunsCall
+-- A call is run again with this reply, from a state that covers, and leaves one that covers. Its record
+-- has these facts.
+pub record Simulates (call : Call) (reply : Reply) (q new : State) (keeps : Bool) (place : Option ℕ) : Type 0 where
+  pub after : State
+  pub replays : Replays call q reply after
+  pub covers : Covers after new
+  pub kept : keeps_there call (ready call q) reply after replays.runs ≡ keeps
+  pub delayed : delayed_there call (ready call q) reply after replays.runs ≡ place
+
+pub simulates : (q s : State) (call : Call) (reply : Reply) (new : State) → Covers q s → IsNumbered call → fate s call ≡ Runs → (runs : RunsCall call s reply new)
+    → Simulates call reply q new (keeps call s reply new runs) (delayed call s reply new runs)
+unfolding ready fate RunsCall keeps delayed
 simulates q s call reply new c fits is runs =
-    let there = call_over q s call reply new c fits is runs in (there.after, record { fate = there.is; runs = there.runs }, there.covers)
+    let there = call_over q s call reply new c fits is runs in
+    record { after = there.after; replays = record { fate = there.is; runs = there.runs }; covers = there.covers; kept = there.kept; delayed = there.delayed }
 
 -- ---- one that isn't kept
 

@@ -2,6 +2,7 @@ pub mod Disclosure
 pub mod EntriesExact
 pub mod Events
 pub mod LiveOpens
+pub mod Replays
 pub mod RowsAsked
 pub mod Lines
 pub mod Stepping

@@ -29,7 +29,7 @@ refused_behind fault status tag c operations e out is =
     subst (λ f. OpensBehind f (series tag c operations) (stage e out) (record { status = status; ran = 0; changed = false; delayed = None }) (stage e out)) (sym is) (none_run status tag c operations e out)
 
 all_run : {A : Type 0} (tag : List ℕ) (c : Context) (operations : List ℕ) (old new : realms.Realm A) (before after : Buffer) (end : Ended) → c.position ≡ 0
-    → RunGives c operations (stage old before) end (stage new after) → OpensBehind None (series tag c operations) (stage old before) end (stage new after)
+    → RunGives None c operations (stage old before) end (stage new after) → OpensBehind None (series tag c operations) (stage old before) end (stage new after)
 all_run tag c operations old new before after end first r =
     let all : c.count - c.position ≡ c.count = omega (arith, first) in
     let ran : end.ran ≡ length r.results = omega (arith, first, r.ran) in (
@@ -41,7 +41,7 @@ all_run tag c operations old new before after end first r =
 
 -- operations are run
 pub run_behind : {A : Type 0} (fault : Option Status) (tag : List ℕ) (c : Context) (room : ℕ) (operations : List ℕ) (old new : realms.Realm A) (before after : Buffer) (end : Ended) → fault ≡ None → c.position ≡ 0
-    → c.room ≡ room → RunGives c operations (stage old before) end (stage new after) → OpensBehind fault (series tag (record c { room = room }) operations) (stage old before) end (stage new after)
+    → c.room ≡ room → RunGives None c operations (stage old before) end (stage new after) → OpensBehind fault (series tag (record c { room = room }) operations) (stage old before) end (stage new after)
 run_behind fault tag c room operations old new before after end none first is r =
     subst (λ x. OpensBehind fault (series tag (record c { room = x }) operations) (stage old before) end (stage new after)) is
     (subst (λ f. OpensBehind f (series tag c operations) (stage old before) end (stage new after)) (sym none) (all_run tag c operations old new before after end first r))

@@ -4,6 +4,7 @@ use Rattle.std.specs.Prelude.{Option, Some, None, is_none, nat_lt, Result, Err}
 use Rattle.std.proofs.lemmas.Bool.{ltb-false}
 use Rattle.xdr_wire.specs.Buffer.{Buffer}
 use Rattle.nfs_types.specs.declared.status.Status.{Status}
+use Rattle.nfs_types.specs.declared.status.Status.TheVariants as statuses
 use Rattle.nfs_ops.specs.Results.{Outcome}
 use Rattle.nfs_ops.specs.Operations.{Operation}
 use Rattle.compound_run.specs.declared.context.Context as code
@@ -50,6 +51,23 @@ stopped status is m old = record {
   settings = refl;
 }
 
+-- memory is refused to an operation that takes it
+delays : (takes : Bool) (fault : Option Status) (may : MayFault fault) (m : Meaning) (old : Point) → fault ≡ None → takes ≡ true
+    → Answered (takes && is_none fault) (entered fault may m) waits old (Err statuses.Delay) old
+delays true None may m old is taken = record {
+  outcome = λ told. absurd (told refl);
+  log = λ told. absurd (told refl);
+  trail_stays = λ d. refl;
+  total_stays = λ d. refl;
+  realm = tt;
+  handles = tt;
+  realm_stays = refl;
+  handles_stay = refl;
+  settings = refl;
+}
+delays true (Some status) may m old is taken = cc
+delays false fault may m old is taken = cc
+
 some_same : (a b : Status) → Some a ≡ Some b → a ≡ b
 some_same a b e = cc
 
@@ -74,6 +92,26 @@ enters_so takes fault may room m e h before r e' after is gives = record {
 pub stops_so : {A : Type 0} (takes : Bool) (fault : Option Status) (may : MayFault fault) (room : ℕ) (m : Meaning) (e : realms.Realm A) (h : FileHandles) (before : Buffer) (status : Status) → fault ≡ Some status
     → GivesSo (sense (takes && is_none fault) (entered fault may m) waits) room h (stage e before) (Err status) (stage e before)
 stops_so takes fault may room m e h before status is = record { answered = stops takes fault may m (point_at e h) status is; written = tt; within = tt; unwritten = refl }
+
+both : (refused takes : Bool) → (refused && takes) ≡ true → (refused ≡ true) × (takes ≡ true)
+both true takes is = (refl, is)
+both false takes is = cc
+
+pub delays_so : {A : Type 0} (refused takes : Bool) (fault : Option Status) (may : MayFault fault) (room : ℕ) (m : Meaning) (e : realms.Realm A) (h : FileHandles) (before : Buffer) → fault ≡ None → (refused && takes) ≡ true
+    → GivesSo (sense (takes && is_none fault) (entered fault may m) waits) room h (stage e before) (Err statuses.Delay) (stage e before)
+delays_so refused takes fault may room m e h before is taken =
+    record { answered = delays takes fault may m (point_at e h) is (both refused takes taken).1; written = tt; within = tt; unwritten = refl }
+
+-- memory isn't refused to an operation, or it takes none, or it has a fault
+pub never_refused : (refused takes : Bool) (fault : Option Status) → (refused && takes) ≡ false → refused ≡ true → (takes && is_none fault) ≡ true → ⊥
+never_refused true true fault none is may = cc
+never_refused true false fault none is may = cc
+never_refused false takes fault none is may = cc
+
+pub never_faulty : (takes : Bool) (fault : Option Status) (status : Status) → fault ≡ Some status → (takes && is_none fault) ≡ true → ⊥
+never_faulty true (Some other) status is may = cc
+never_faulty true None status is may = cc
+never_faulty false fault status is may = cc
 
 -- an operation that is run has room for its result
 pub roomy : (c : code.Context) (op : Operation) (out : Buffer) → entry_fault_in c.calling c.room op ≡ None → c.room + REFUSAL_ROOM ≤ out.room → IfRun (is_run op) (HasRoom c out)

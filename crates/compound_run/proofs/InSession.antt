@@ -1,6 +1,6 @@
 -- The operations that are run after a SEQUENCE.
 use Rattle.std.proofs.Common.{◌≡◌, ℕ, ◌+◌, ◌-◌, ◌<◌, ◌≤◌, List, refl, sym, ap, ◌∙◌, subst, length, append_assoc, arith}
-use Rattle.std.specs.Prelude.{[], ◌∷◌, ◌++◌, drop, Some, Ok, IfSome}
+use Rattle.std.specs.Prelude.{[], ◌∷◌, ◌++◌, drop, Option, Some, Ok, IfSome}
 use Rattle.std.specs.Int.{w32, to_be_bytes}
 use Rattle.std.specs.Map.{lookup}
 use Rattle.std.specs.BTreeMap.{is_at}
@@ -21,6 +21,7 @@ use Rattle.session_slots.specs.Sequencing.{StandsIn}
 use Rattle.compound_run.specs.declared.compound.Ended.{Ended}
 use Rattle.compound_run.specs.declared.realm.Realm as realms
 use Rattle.compound_run.specs.Context.{Context, no_handles}
+use Rattle.compound_run.specs.Delaying.{DelaysIn}
 use Rattle.compound_run.specs.Runs.{Given, Runs, status_of, result_bytes, results_bytes}
 use Rattle.compound_run.specs.Compound.{head, last_status, together, series}
 use Rattle.compound_run.specs.Sequence.{keeping}
@@ -35,12 +36,12 @@ last_behind given [] ok = ok
 last_behind given (next ∷ results) ok = refl
 
 -- operations that are run after a result that is OK
-pub sequenced : {A : Type 0} (most : ℕ) (c : Context) (room : ℕ) (tag : List ℕ) (number : ℕ) (o : Outcome) (operations : List ℕ) (old new : realms.Realm A) (before mid after : Buffer) (end : Ended)
-    → c.position ≡ 1 → c.room ≡ room → Appends before mid (result_bytes (record { number = number; outcome = Ok o })) → RunGives c operations (stage old mid) end (stage new after) → length after.bytes ≤ most
-    → SequencedBehind most (series tag (record c { room = room }) operations) (record { number = number; outcome = Ok o }) (stage old before) end (stage new after)
-sequenced {A} most c room tag number o operations old new before mid after end second is appends r within = (
+pub sequenced : {A : Type 0} (most : ℕ) (refused : Option ℕ) (c : Context) (room : ℕ) (tag : List ℕ) (number : ℕ) (o : Outcome) (operations : List ℕ) (old new : realms.Realm A) (before mid after : Buffer) (end : Ended)
+    → c.position ≡ 1 → c.room ≡ room → Appends before mid (result_bytes (record { number = number; outcome = Ok o })) → RunGives refused c operations (stage old mid) end (stage new after) → length after.bytes ≤ most
+    → SequencedBehind most refused (series tag (record c { room = room }) operations) (record { number = number; outcome = Ok o }) (stage old before) end (stage new after)
+sequenced {A} most refused c room tag number o operations old new before mid after end second is appends r within = (
   result_bytes given ++ results_bytes r.results,
-  ((r.handles, (r.results, subst (λ x. Runs (record c { room = x }) (c.count - c.position) operations (point_at old no_handles) r.results (point_at new r.handles)) is r.runs, told)), r.kept),
+  ((r.handles, (r.results, subst (λ x. Runs (record c { room = x }) (c.count - c.position) operations (point_at old no_handles) r.results (point_at new r.handles)) is r.runs, told)), r.kept, subst (λ x. DelaysIn refused (record c { room = x }) operations r.results) is r.delays),
   then_behind before mid after (result_bytes given) (results_bytes r.results) appends r.written,
   within,
 )
@@ -89,14 +90,14 @@ longer_by tag start first tagged begun p q r =
     let four = length-append (to_be_bytes w32 (length tag)) (padded tag) in
     omega (arith, one, two, three, four)
 
-pub sequenced_within : {A : Type 0} (limit most : ℕ) (c : Context) (room other : ℕ) (tag : List ℕ) (given : Given) (operations : List ℕ) (old realm : realms.Realm A) (start first tagged begun done counted new : Buffer) (end : Ended)
+pub sequenced_within : {A : Type 0} (limit most : ℕ) (refused : Option ℕ) (c : Context) (room other : ℕ) (tag : List ℕ) (given : Given) (operations : List ℕ) (old realm : realms.Realm A) (start first tagged begun done counted new : Buffer) (end : Ended)
     → Appends start first zeros → Appends first tagged (tag_bytes tag) → Appends tagged begun zeros
-    → SequencedBehind most (series tag (record c { room = room }) operations) given (stage old begun) end (stage realm done)
+    → SequencedBehind most refused (series tag (record c { room = room }) operations) given (stage old begun) end (stage realm done)
     → Fills done counted (length tagged.bytes) (to_be_bytes w32 end.ran) → Fills counted new (length start.bytes) (word end.status) → room ≡ other → most ≤ length start.bytes + limit
-    → WritesWithin limit (λ bytes. SequencedSo (series tag (record c { room = other }) operations) given old bytes end realm) start new
-sequenced_within {A} limit most c room other tag given operations old realm start first tagged begun done counted new end p q r s f g is within = (
+    → WritesWithin limit (λ bytes. SequencedSo refused (series tag (record c { room = other }) operations) given old bytes end realm) start new
+sequenced_within {A} limit most refused c room other tag given operations old realm start first tagged begun done counted new end p q r s f g is within = (
   head end.status tag end.ran ++ s.0,
-  subst (λ x. SequencedSo (series tag (record c { room = x }) operations) given old (head end.status tag end.ran ++ s.0) end realm) is s.1,
+  subst (λ x. SequencedSo refused (series tag (record c { room = x }) operations) given old (head end.status tag end.ran ++ s.0) end realm) is s.1,
   headed start first tagged begun done counted new end.status tag end.ran s.0 p q r s.2 f g,
   few,
 )
@@ -126,19 +127,19 @@ few_there r s session slot new n stands same few =
     subst (λ o. IfSome o (λ x. n ≤ kept_size x.granted)) (sym (stands_there r s session slot new stands same)) (omega (arith, stands.3, few))
 
 -- no session is made or ended by the operations
-pub sessions_stay : {A : Type 0} {end : Ended} (limit : ℕ) (c : Context) (tag : List ℕ) (given : Given) (operations : List ℕ) (old new : realms.Realm A) (before after : Buffer)
-    → WritesWithin limit (λ bytes. SequencedSo (series tag c operations) given old bytes end new) before after → new.clients.sessions ≡ old.clients.sessions
-sessions_stay limit c tag given operations old new before after w = runs_stay c (c.count - c.position) operations (point_at old no_handles) w.1.0.1.0 (point_at new w.1.0.0) w.1.0.1.1
+pub sessions_stay : {A : Type 0} {end : Ended} (refused : Option ℕ) (limit : ℕ) (c : Context) (tag : List ℕ) (given : Given) (operations : List ℕ) (old new : realms.Realm A) (before after : Buffer)
+    → WritesWithin limit (λ bytes. SequencedSo refused (series tag c operations) given old bytes end new) before after → new.clients.sessions ≡ old.clients.sessions
+sessions_stay refused limit c tag given operations old new before after w = runs_stay c (c.count - c.position) operations (point_at old no_handles) w.1.0.1.0 (point_at new w.1.0.0) w.1.0.1.1
 
 -- the bytes that were appended
 pub appended : (before after : Buffer) (item : List ℕ) → Appends before after item → drop (length before.bytes) after.bytes ≡ item
 appended before after item p = ap (drop (length before.bytes)) p.behind ∙ drop_at before.bytes item (length before.bytes) refl
 
-pub kept_so : {A : Type 0} {end : Ended} (limit other : ℕ) (c d : Context) (tag : List ℕ) (v : Value sequence_args) (given done : Given) (operations : List ℕ) (old mid new : realms.Realm A) (before after : Buffer) (start : ℕ)
-    → WritesWithin limit (λ bytes. SequencedSo (series tag c operations) given old bytes end mid) before after → limit ≡ other → c ≡ d → given ≡ done → start ≡ length before.bytes
+pub kept_so : {A : Type 0} {end : Ended} (refused : Option ℕ) (limit other : ℕ) (c d : Context) (tag : List ℕ) (v : Value sequence_args) (given done : Given) (operations : List ℕ) (old mid new : realms.Realm A) (before after : Buffer) (start : ℕ)
+    → WritesWithin limit (λ bytes. SequencedSo refused (series tag c operations) given old bytes end mid) before after → limit ≡ other → c ≡ d → given ≡ done → start ≡ length before.bytes
     → new ≡ record mid { clients = keeping v (drop start after.bytes) mid.clients }
-    → WritesWithin other (λ bytes. SequencedKept (series tag d operations) v done old bytes end new) before after
-kept_so {A} {end} limit other c d tag v given done operations old mid new before after start w few is told from kept = (
+    → WritesWithin other (λ bytes. SequencedKept refused (series tag d operations) v done old bytes end new) before after
+kept_so {A} {end} refused limit other c d tag v given done operations old mid new before after start w few is told from kept = (
   w.0,
   (mid, runs, kept ∙ ap (λ bytes. record mid { clients = keeping v bytes mid.clients }) same),
   w.2,
@@ -148,8 +149,8 @@ kept_so {A} {end} limit other c d tag v given done operations old mid new before
     same : drop start after.bytes ≡ w.0
     same = ap (λ n. drop n after.bytes) from ∙ appended before after w.0 w.2
 
-    runs : SequencedSo (series tag d operations) done old w.0 end mid
-    runs = subst (λ x. SequencedSo (series tag x operations) done old w.0 end mid) is (subst (λ x. SequencedSo (series tag c operations) x old w.0 end mid) told w.1)
+    runs : SequencedSo refused (series tag d operations) done old w.0 end mid
+    runs = subst (λ x. SequencedSo refused (series tag x operations) done old w.0 end mid) is (subst (λ x. SequencedSo refused (series tag c operations) x old w.0 end mid) told w.1)
 
 -- the bytes that were appended are within the limit
 pub few_appended : {X : List ℕ → Type 0} (limit start : ℕ) (before after : Buffer) (w : WritesWithin limit X before after) → start ≡ length before.bytes → length (drop start after.bytes) ≤ limit

@@ -39,11 +39,13 @@ use Rattle.compound_run.specs.Beginning.{Beginning, Ends, Follows, beginning}
 use Rattle.compound_run.specs.CreateSession.{kept_for, created_before, create_of, session_made}
 use Rattle.compound_run.specs.Sequence.{sequence_done}
 use Rattle.compound_run.specs.Sessions.{session_of, told_by, opens_without, with_registry}
-use Rattle.compound_run.specs.InSession.{Reply, ActsTo, RunsTo, RunsAlone, RunsOnSlot, RunsBy, RunsBegun, RunsCall, RunsOf, AnswersInSession, begun_in, in_registry, fate, fate_of, fate_begun, fate_alone, fate_by, given_alone, again, sequenced}
+use Rattle.compound_run.specs.InSession.{Reply, ActsTo, RunsTo, RunsAlone, RunsOnSlot, RunsCall, RunsOf, AnswersInSession, begun_in, in_registry, fate, fate_of, fate_begun, fate_alone, fate_by, given_alone, again, sequenced}
 use Rattle.compound_run.specs.SessionViews.{ActsSo, AnswersAs, IsOfClients, IsRanUnless, SequencedKept, Writes, WritesWithin, call_of, coming_behind, lone_view}
 use Rattle.compound_run.specs.Keeping.{is_change, keeps, keeps_of, keeps_only}
 use Rattle.compound_run.specs.Delayed.{delayed, delayed_of, delayed_only}
-use Rattle.compound_run.specs.Recorded.{IsRan, RanBegun, RanBy, RunsRecorded}
+use Rattle.compound_run.specs.Delaying.{Delays, DelaysAnswer, DelaysIn, DelaysOf, DelaysOnSlot, RanByDelaying, RanBegunDelaying, RunsDelaying}
+use Rattle.compound_run.specs.Recorded.{IsRan, RunsRecorded}
+use Rattle.compound_run.specs.Replaying.{ready, ready_of}
 use Rattle.compound_run.specs.Recorded.{Answers as Recorded, AnswersBy as RecordedBy}
 use Rattle.compound_run.specs.Runs.{Given, Point}
 use Rattle.compound_run.specs.Written.{EndsSo}
@@ -60,16 +62,17 @@ begins_so e registry settled = λ i. record {
 }
 
 -- the operations run so, and ended so
-abbrev ToldSo : Series → Given → Point → List ℕ → Ended → Point → Type 0
-ToldSo s done old bytes ended new = (to : RunsTo s done old bytes new) × EndsSo ended to.0
+abbrev ToldSo : Option ℕ → Series → Given → Point → List ℕ → Ended → Point → Type 0
+ToldSo refused s done old bytes ended new = (to : RunsTo s done old bytes new) × EndsSo ended to.0 × DelaysIn refused s.context s.operations to.0
 
 abbrev SlotRuns : {A : Type 0} → Coming → Value sequence_args → List ℕ → NewCall → realms.Realm A → List ℕ → Ended → realms.Realm A → Type 0
 SlotRuns call v operations new e bytes ended f =
     (runs : RunsOnSlot (state_of e) (sequenced (call_of call) call.compound.tag.now call.compound.count v operations) new bytes (state_of f)) × EndsSo ended runs.1.0
+    × DelaysOnSlot call.refused (state_of e) (sequenced (call_of call) call.compound.tag.now call.compound.count v operations) new bytes (state_of f) runs
 
 on_slot : {A : Type 0} (call : Coming) (v : Value sequence_args) (operations : List ℕ) (new : NewCall) (e begun f : realms.Realm A) (bytes : List ℕ) → e.tree.log.held ≡ []
     → begun ≡ record e { clients = begun_in (realm_of e) (call_of call) call.compound.count v operations } → length bytes ≤ new.reply_size - 24
-    → (ended : Ended) → SequencedKept (series call.compound.tag.now (coming_behind e.tree.book call v new) operations) v (sequence_done v new.highest_slot) begun bytes ended f
+    → (ended : Ended) → SequencedKept call.refused (series call.compound.tag.now (coming_behind e.tree.book call v new) operations) v (sequence_done v new.highest_slot) begun bytes ended f
     → SlotRuns call v operations new e bytes ended f
 on_slot call v operations new e begun f bytes settled is few ended kept =
     let context = coming_behind e.tree.book call v new in
@@ -78,27 +81,30 @@ on_slot call v operations new e begun f bytes settled is few ended kept =
     let registry = begun_in (realm_of e) (call_of call) call.compound.count v operations in
     let end = point_at kept.0 kept.1.0.0 in
     let from : point_at begun no_handles ≡ start (in_registry registry (state_of e)) = ap (λ x. point_at x no_handles) is ∙ begins_so e registry settled in
-    let both = subst (λ p. ToldSo (series tag context operations) done p bytes ended end) from (kept.1.0.1, kept.1.1) in
-    ((end, both.0, ap state_of kept.2, few), both.1)
+    let both = subst (λ p. ToldSo call.refused (series tag context operations) done p bytes ended end) from (kept.1.0.1, kept.1.1, kept.1.2) in
+    ((end, both.0, ap state_of kept.2, few), both.1, both.2)
 
 pub answers_new : {A : Type 0} (call : Coming) (v : Value sequence_args) (operations : List ℕ) (new : NewCall) (b : Begin) (e begun f : realms.Realm A) (ended : Ended) (passed : Bool) (ran : Ran) (before after : Buffer) → e.tree.log.held ≡ []
     → begins.New new ≡ b → begun ≡ record e { clients = begun_in (realm_of e) (call_of call) call.compound.count v operations } → new.reply_size ≤ 65536
-    → WritesWithin (new.reply_size - 24) (λ bytes. SequencedKept (series call.compound.tag.now (coming_behind e.tree.book call v new) operations) v (sequence_done v new.highest_slot) begun bytes ended f) before after
+    → WritesWithin (new.reply_size - 24) (λ bytes. SequencedKept call.refused (series call.compound.tag.now (coming_behind e.tree.book call v new) operations) v (sequence_done v new.highest_slot) begun bytes ended f) before after
     → passed ≡ passes (last_at e.clients (session_of (sequence_session v)) (sequence_slot v)) (sequence_number v)
     → ran.kept ≡ (ended.changed || passed) → ran.delayed ≡ ended.delayed
-    → WritesWithin MAX_RESULTS (λ bytes. AnswersAs (fate_by call.compound.tag.now v e.clients b) (RanBy b (sequenced (call_of call) call.compound.tag.now call.compound.count v operations) (state_of e)) (state_of e) bytes ran (state_of f)) before after
+    → WritesWithin MAX_RESULTS (λ bytes. AnswersAs (fate_by call.compound.tag.now v e.clients b) (RanByDelaying call.refused b (sequenced (call_of call) call.compound.tag.now call.compound.count v operations) (state_of e)) (state_of e) bytes ran (state_of f)) before after
 answers_new {A} call v operations new b e begun f ended passed ran before after settled told is most w passing kept delayed =
     let s = state_of e in
     let t = state_of f in
     let tag = call.compound.tag.now in
     let runs = on_slot call v operations new e begun f w.0 settled is w.3 ended w.1 in (
       w.0,
-      subst (λ x. AnswersAs (fate_by tag v e.clients x) (RanBy x (sequenced (call_of call) tag call.compound.count v operations) s) s w.0 ran t) told (
-        runs.0,
-        record {
-          kept = kept ∙ (ap (λ c. c || passed) runs.1.changed ∙ ap (λ p. list_any is_change runs.0.1.0 || p) passing);
-          delayed = delayed ∙ runs.1.delayed;
-        },
+      subst (λ x. AnswersAs (fate_by tag v e.clients x) (RanByDelaying call.refused x (sequenced (call_of call) tag call.compound.count v operations) s) s w.0 ran t) told (
+        (
+          runs.0,
+          record {
+            kept = kept ∙ (ap (λ c. c || passed) runs.1.changed ∙ ap (λ p. list_any is_change runs.0.1.0 || p) passing);
+            delayed = delayed ∙ runs.1.delayed;
+          },
+        ),
+        runs.2,
       ),
       w.2,
       omega (arith, w.3, most),
@@ -142,15 +148,18 @@ again_is : (o : Option Client) (sequence : ℕ) → is_created_of o sequence ≡
 again_is None sequence = refl
 again_is (Some c) sequence = refl
 
--- an operation that was run is told so
-abbrev RanAlone : Call → List ℕ → Operation → State → List ℕ → Ran → State → Type 0
-RanAlone call tag op old bytes ran new =
+-- an operation that was run is told so; memory was refused to no other
+abbrev RunAlone : Call → List ℕ → Operation → State → List ℕ → Ran → State → Type 0
+RunAlone call tag op old bytes ran new =
     (runs : RunsAlone call tag op old bytes new) × IsRan ran (keeps_only call tag op old bytes new runs) (delayed_only call tag op old bytes new runs)
+
+abbrev RanAlone : Call → List ℕ → Operation → State → List ℕ → Ran → State → Type 0
+RanAlone call tag op old bytes ran new = (told : RunAlone call tag op old bytes ran new) × Unit {0}
 
 created_alone : {A : Type 0} (o : Option (Result Created Status)) (call : Call) (v : Value create_session_args) (tag : List ℕ) (e f : realms.Realm A) (bytes : List ℕ) (ran : Ran) → created_before v (realm_of e) ≡ o → IsOfClients e f
     → (acts : ActsTo call.caller (Known kinds.CreateSession v) tag (realm_of e) bytes (realm_of f)) → IsRanUnless (is_some o) ran (Known kinds.CreateSession v) acts.0
     → AnswersAs (again tag o) (RanAlone call tag (Known kinds.CreateSession v) (state_of e)) (state_of e) bytes ran (state_of f)
-created_alone None call v tag e f bytes ran is others acts kept = ((acts, of_clients e f others), kept)
+created_alone None call v tag e f bytes ran is others acts kept = (((acts, of_clients e f others), kept), tt)
 created_alone (Some kept) call v tag e f bytes ran is others acts nothing =
     let a = acts.1 in
     let same = again_for (client_at e.clients v.0) kept e.clients (create_of e.lasting call.caller v) a.made f.clients is a.creates in
@@ -163,13 +172,13 @@ created_alone (Some kept) call v tag e f bytes ran is others acts nothing =
 
 alone_as : {A : Type 0} (lone : Lone) (call : Call) (tag : List ℕ) (e f : realms.Realm A) (bytes : List ℕ) (ran : Ran) → IsOfClients e f → ActsSo call.caller (lone_view lone) tag (realm_of e) bytes ran (realm_of f)
     → AnswersAs (fate_alone tag (lone_view lone) (realm_of e)) (RanAlone call tag (lone_view lone) (state_of e)) (state_of e) bytes ran (state_of f)
-alone_as (lones.ExchangeId a) call tag e f bytes ran others acts = ((acts.0, of_clients e f others), acts.1)
+alone_as (lones.ExchangeId a) call tag e f bytes ran others acts = (((acts.0, of_clients e f others), acts.1), tt)
 alone_as (lones.CreateSession a) call tag e f bytes ran others acts =
     let v = create_session_args_value a in
     created_alone (created_before v (realm_of e)) call v tag e f bytes ran refl others acts.0
     (subst (λ b. IsRanUnless b ran (Known kinds.CreateSession v) acts.0.0) (again_is (client_at e.clients (session_client v)) (session_sequence v)) acts.1)
-alone_as (lones.DestroySession a) call tag e f bytes ran others acts = ((acts.0, of_clients e f others), acts.1)
-alone_as (lones.DestroyClientId a) call tag e f bytes ran others acts = ((acts.0, of_clients e f others), acts.1)
+alone_as (lones.DestroySession a) call tag e f bytes ran others acts = (((acts.0, of_clients e f others), acts.1), tt)
+alone_as (lones.DestroyClientId a) call tag e f bytes ran others acts = (((acts.0, of_clients e f others), acts.1), tt)
 
 pub answers_alone : {A : Type 0} (lone : Lone) (call : Call) (tag : List ℕ) (e f : realms.Realm A) (ran : Ran) (before after : Buffer) → IsOfClients e f
     → WritesWithin MAX_RESULTS (λ bytes. ActsSo call.caller (lone_view lone) tag (realm_of e) bytes ran (realm_of f)) before after
@@ -179,31 +188,49 @@ answers_alone lone call tag e f ran before after others w = (w.0, alone_as lone 
 -- ---- a call
 
 -- the call begins as it was read
-pub begun_as : (b c : Beginning) (call : Call) (tag : List ℕ) (count : ℕ) (old new : State) (ran : Ran) (before after : Buffer) → b ≡ c
-    → WritesWithin MAX_RESULTS (λ bytes. AnswersAs (fate_begun old call tag count b) (RanBegun call tag count b old) old bytes ran new) before after
-    → WritesWithin MAX_RESULTS (λ bytes. AnswersAs (fate_begun old call tag count c) (RanBegun call tag count c old) old bytes ran new) before after
-begun_as b c call tag count old new ran before after is w =
-    (w.0, subst (λ x. AnswersAs (fate_begun old call tag count x) (RanBegun call tag count x old) old w.0 ran new) is w.1, w.2, w.3)
+pub begun_as : (b c : Beginning) (call : Call) (tag : List ℕ) (count : ℕ) (refused : Option ℕ) (old new : State) (ran : Ran) (before after : Buffer) → b ≡ c
+    → WritesWithin MAX_RESULTS (λ bytes. AnswersAs (fate_begun old call tag count b) (RanBegunDelaying call tag count b refused old) old bytes ran new) before after
+    → WritesWithin MAX_RESULTS (λ bytes. AnswersAs (fate_begun old call tag count c) (RanBegunDelaying call tag count c refused old) old bytes ran new) before after
+begun_as b c call tag count refused old new ran before after is w =
+    (w.0, subst (λ x. AnswersAs (fate_begun old call tag count x) (RanBegunDelaying call tag count x refused old) old w.0 ran new) is w.1, w.2, w.3)
 
 -- a call of these arguments is told so
 abbrev RanOf : Call → Option (Value args_form × List ℕ) → State → Reply → Ran → State → Type 0
 RanOf call a old reply ran new = (runs : RunsOf call a old reply new) × IsRan ran (keeps_of call a old reply new runs) (delayed_of call a old reply new runs)
 
-answered_by : (f : Fate Reply) (call : Call) (tag : List ℕ) (minor count : ℕ) (operations bytes : List ℕ) (old : State) (ran : Ran) (new : State) → args_in (read_at args_form call.arguments) ≡ Some ((tag, (minor, count)), operations)
-    → AnswersAs f (RanBegun call tag count (beginning minor count operations) old) old bytes ran new → RecordedBy f call old (Some bytes) ran new
-unfolding RunsCall keeps delayed
-answered_by Runs call tag minor count operations bytes old ran new read runs = subst (λ a. RanOf call a old (Some bytes) ran new) (sym read) runs
-answered_by (Repeats reply) call tag minor count operations bytes old ran new read known = known
-answered_by (Fails reply) call tag minor count operations bytes old ran new read known = known
+abbrev RanOfDelaying : Option ℕ → Call → Option (Value args_form × List ℕ) → State → Reply → Ran → State → Type 0
+RanOfDelaying refused call a old reply ran new = (told : RanOf call a old reply ran new) × DelaysOf refused call a old reply new told.0
 
-pub answers_call : (s old : State) (ran : Ran) (new : State) (call : Call) (v : Value args_form) (operations bytes : List ℕ) → s ≡ old → args_in (read_at args_form call.arguments) ≡ Some (v, operations)
-    → AnswersAs (fate_begun old call v.0 v.1.1 (beginning v.1.0 v.1.1 operations)) (RanBegun call v.0 v.1.1 (beginning v.1.0 v.1.1 operations) old) old bytes ran new
-    → Recorded s call (Some bytes) ran new
+-- a call of this fate is told so, where memory is refused
+abbrev pub ToldBy : Option ℕ → Fate Reply → Call → State → Reply → Ran → State → Type 0
+ToldBy refused f call old reply ran new = (answers : RecordedBy f call old reply ran new) × DelaysAnswer refused f call old reply ran new answers
+
+answered_by : (refused : Option ℕ) (f : Fate Reply) (call : Call) (tag : List ℕ) (minor count : ℕ) (operations bytes : List ℕ) (old : State) (ran : Ran) (new : State) → args_in (read_at args_form call.arguments) ≡ Some ((tag, (minor, count)), operations)
+    → AnswersAs f (RanBegunDelaying call tag count (beginning minor count operations) refused old) old bytes ran new → ToldBy refused f call old (Some bytes) ran new
+unfolding RunsCall keeps delayed Delays
+answered_by refused Runs call tag minor count operations bytes old ran new read runs = subst (λ a. RanOfDelaying refused call a old (Some bytes) ran new) (sym read) runs
+answered_by refused (Repeats reply) call tag minor count operations bytes old ran new read known = (known, tt)
+answered_by refused (Fails reply) call tag minor count operations bytes old ran new read known = (known, tt)
+
+pub answers_call : (refused : Option ℕ) (s old : State) (ran : Ran) (new : State) (call : Call) (v : Value args_form) (operations bytes : List ℕ) → s ≡ old → args_in (read_at args_form call.arguments) ≡ Some (v, operations)
+    → AnswersAs (fate_begun old call v.0 v.1.1 (beginning v.1.0 v.1.1 operations)) (RanBegunDelaying call v.0 v.1.1 (beginning v.1.0 v.1.1 operations) refused old) old bytes ran new
+    → ToldBy refused (fate s call) call s (Some bytes) ran new
 unfolding fate
-answers_call s old ran new call v operations bytes is read answer =
-    subst (λ x. Recorded x call (Some bytes) ran new) (sym is)
-    (subst (λ a. RecordedBy (fate_of old call a) call old (Some bytes) ran new) (sym read)
-    (answered_by (fate_begun old call v.0 v.1.1 (beginning v.1.0 v.1.1 operations)) call v.0 v.1.0 v.1.1 operations bytes old ran new read answer))
+answers_call refused s old ran new call v operations bytes is read answer =
+    subst (λ x. ToldBy refused (fate x call) call x (Some bytes) ran new) (sym is)
+    (subst (λ a. ToldBy refused (fate_of old call a) call old (Some bytes) ran new) (sym read)
+    (answered_by refused (fate_begun old call v.0 v.1.1 (beginning v.1.0 v.1.1 operations)) call v.0 v.1.0 v.1.1 operations bytes old ran new read answer))
+
+-- where memory is refused to an operation, the call is answered as any other
+pub recorded_so : (refused : Option ℕ) (old : State) (call : Call) (ran : Option Ran) (before after : Buffer) (new : State) → RunsDelaying refused old call ran before after new → RunsRecorded old call ran before after new
+recorded_so refused old call (Some ran) before after new runs = (runs.0, runs.1.0, runs.2, runs.3)
+recorded_so refused old call None before after new runs = runs
+
+-- the slot of the call lags before it is run
+pub replayed_so : (refused : Option ℕ) (old lagged : State) (call : Call) (ran : Option Ran) (before after : Buffer) (new : State) → lagged ≡ ready_of (args_in (read_at args_form call.arguments)) old
+    → RunsDelaying refused lagged call ran before after new → RunsDelaying refused (ready call old) call ran before after new
+unfolding ready
+replayed_so refused old lagged call ran before after new is runs = subst (λ s. RunsDelaying refused s call ran before after new) is runs
 
 -- what is told of a call says nothing of its answer
 pub answered_so : (old : State) (call : Call) (reply : Reply) (ran : Ran) (new : State) → Recorded old call reply ran new → AnswersInSession old call reply new

@@ -18,6 +18,8 @@ use Rattle.compound_run.specs.Compound.{last_status}
 use Rattle.compound_run.specs.Telling.{IsToldBy, is_delay, is_delay_status}
 use Rattle.compound_run.specs.Keeping.{is_change, is_changing}
 use Rattle.compound_run.specs.Delayed.{delayed_in}
+use Rattle.compound_run.specs.Delaying.{DelaysFrom, DelaysIf, is_place}
+use Rattle.compound_run.specs.Operations.{may_delay}
 use Rattle.compound_run.specs.Views.{point_at, stage}
 use Rattle.compound_run.specs.Written.{StepGives, RunGives}
 
@@ -29,6 +31,8 @@ at c position room = record c { position = position; room = room }
 pub record Begun (A : Type 0) : Type 0 where
   pub context : Context
   pub operations : List ℕ
+  -- memory is refused to the operation at this place
+  pub refused : Option ℕ
   pub realm : realms.Realm A
   pub out : Buffer
 
@@ -55,10 +59,18 @@ RunsOn b s rest new = Runs (here_at b s) (b.context.count - s.position) s.rest (
 abbrev pub RunsAll : {A : Type 0} → Begun A → List Given → Point → Type 0
 RunsAll b results new = Runs b.context (b.context.count - b.context.position) b.operations (point_at b.realm no_handles) results new
 
+-- memory is refused to one of the operations from here on, or to one of all
+abbrev pub DelaysOn : {A : Type 0} → Begun A → Stand A → ℕ → List Given → Type 0
+DelaysOn b s place rest = DelaysFrom place b.refused (here_at b s) s.rest rest
+
+abbrev pub DelaysAll : {A : Type 0} → Begun A → List Given → Type 0
+DelaysAll b results = DelaysFrom 0 b.refused b.context b.operations results
+
 -- the run of the operations that are left goes on from the results so far, all of which are OK
 pub record Running {A : Type 0} (b : Begun A) (s : Stand A) : Type 0 where
   pub results : List Given
   pub goes : (rest : List Given) (new : Point) → RunsOn b s rest new → RunsAll b (results ++ rest) new
+  pub delays : (rest : List Given) → DelaysOn b s (length results) rest → DelaysAll b (results ++ rest)
   pub written : Appends b.out s.out (results_bytes results)
   pub status : last_status results ≡ statuses.Ok
   pub many : s.position ≡ b.context.position + length results
@@ -121,6 +133,9 @@ delayed_behind (a ∷ results) given none =
     later (Ok outcome) = refl
     later (Err status) = moved (is_delay_status status) (length results)
 
+one_longer : (results : List Given) (given : Given) → length (results ++ given ∷ []) ≡ suc (length results)
+one_longer results given = let count = length-append results (given ∷ []) in omega (arith, count)
+
 one_more : (count position : ℕ) → position < count → count - position ≡ suc (count - (position + 1))
 one_more count position below = omega (arith, below)
 
@@ -143,6 +158,7 @@ pub starts : {A : Type 0} (b : Begun A) → Running b (record { realm = b.realm;
 starts b = record {
   results = [];
   goes = λ rest new runs. subst (λ room. Runs (at b.context b.context.position room) (b.context.count - b.context.position) b.operations (point_at b.realm no_handles) rest new) all runs;
+  delays = λ rest delays. subst (λ room. DelaysFrom 0 b.refused (at b.context b.context.position room) b.operations rest) all delays;
   written = record { behind = sym (append-nil b.out.bytes); less_room = omega arith };
   status = refl;
   many = omega arith;
@@ -163,12 +179,27 @@ goes_behind : {A : Type 0} (b : Begun A) (s : Stand A) (r : Running b s) → s.p
 goes_behind b s r below given mid number steps rest new more =
     r.goes (given ∷ rest) new (subst (λ n. Runs (here_at b s) n s.rest (point_at s.realm s.handles) (given ∷ rest) new) (sym (one_more b.context.count s.position below)) (mid, number, steps, more))
 
-more_ok : {A : Type 0} (b : Begun A) (s : Stand A) → Running b s → s.position < b.context.count
+abbrev pub ok_at : FileHandles → Result FileHandles Status
+ok_at h = Ok h
+
+abbrev pub err_at : Status → Result FileHandles Status
+err_at status = Err status
+
+-- where memory is refused to the next operation, it is answered DELAY
+abbrev pub DelaysNext : {A : Type 0} → Begun A → Stand A → ℕ → Result Outcome Status → Type 0
+DelaysNext b s place outcome = DelaysIf (is_place b.refused place) (here_at b s) (next_at s.rest).0 outcome
+
+delays_behind : {A : Type 0} (b : Begun A) (s : Stand A) (r : Running b s) (given : Given) → DelaysNext b s (length r.results) given.outcome
+    → (rest : List Given) → DelaysFrom (suc (length r.results)) b.refused (behind (here_at b s) (length (result_bytes given))) (next_at s.rest).1 rest
+    → DelaysAll b (r.results ++ given ∷ rest)
+delays_behind b s r given next rest more = r.delays (given ∷ rest) (next, more)
+
+more_ok : {A : Type 0} (b : Begun A) (s : Stand A) (r : Running b s) → s.position < b.context.count
     → (number : ℕ) (outcome : Result Outcome Status) (e : realms.Realm A) (h : FileHandles) (out : Buffer)
     → number ≡ number_of (next_at s.rest).0 → Steps (here_at b s) (next_at s.rest).0 (point_at s.realm s.handles) outcome (point_at e h)
     → Appends s.out out (result_bytes (record { number = number; outcome = outcome })) → length out.bytes ≤ length s.out.bytes + room_at b s → IsToldBy (Ok h) outcome
-    → Running b (record { realm = e; handles = h; out = out; rest = (next_at s.rest).1; position = s.position + 1; changed = s.changed || is_changing number })
-more_ok b s r below number (Ok o) e h out is steps appends fits tells =
+    → DelaysNext b s (length r.results) outcome → Running b (record { realm = e; handles = h; out = out; rest = (next_at s.rest).1; position = s.position + 1; changed = s.changed || is_changing number })
+more_ok b s r below number (Ok o) e h out is steps appends fits tells next =
     let given : Given = record { number = number; outcome = Ok o } in
     let long = longer s.out out (result_bytes given) appends in
     record {
@@ -176,6 +207,10 @@ more_ok b s r below number (Ok o) e h out is steps appends fits tells =
       goes = λ rest new runs. subst (λ results. RunsAll b results new) (sym (append_assoc r.results (given ∷ []) rest))
           (goes_behind b s r below given (point_at e h) is steps rest new
           (subst (λ room. Runs (at b.context (s.position + 1) room) (b.context.count - (s.position + 1)) (next_at s.rest).1 (point_at e h) rest new) (sym (less (length b.out.bytes + b.context.room) (length s.out.bytes) (length (result_bytes given)) (length out.bytes) long)) runs));
+      delays = λ rest delays. subst (λ results. DelaysAll b results) (sym (append_assoc r.results (given ∷ []) rest))
+          (delays_behind b s r given next rest
+          (subst (λ room. DelaysFrom (suc (length r.results)) b.refused (at b.context (s.position + 1) room) (next_at s.rest).1 rest) (sym (less (length b.out.bytes + b.context.room) (length s.out.bytes) (length (result_bytes given)) (length out.bytes) long))
+          (subst (λ place. DelaysFrom place b.refused (at b.context (s.position + 1) (length b.out.bytes + b.context.room - length out.bytes)) (next_at s.rest).1 rest) (one_longer r.results given) delays)));
       written = both b.out s.out out r.results given r.written appends;
       status = last-behind r.results given;
       many = let count = length-append r.results (given ∷ []) in omega (arith, count, r.many);
@@ -183,28 +218,53 @@ more_ok b s r below number (Ok o) e h out is steps appends fits tells =
       kept = ap (λ b. b || is_changing number) r.kept ∙ sym (any_behind r.results given);
       undelayed = delayed_behind r.results given r.undelayed;
     }
-more_ok b s r below number (Err status) e h out is steps appends fits tells = absurd tells
+more_ok b s r below number (Err status) e h out is steps appends fits tells next = absurd tells
+
+-- the place of the next operation among those that are run
+place_at : (p c n : ℕ) → p ≡ c + n → p - c ≡ n
+place_at p c n is = omega (arith, is)
+
+err_same : (a b : Status) → ◌≡◌ {A = Result FileHandles Status} (Err a) (Err b) → a ≡ b
+err_same a b e = cc
+
+-- an answer of DELAY is an outcome of DELAY
+told_delay : (answer : Result FileHandles Status) (outcome : Result Outcome Status) → IsToldBy answer outcome → answer ≡ Err statuses.Delay → outcome ≡ Err statuses.Delay
+told_delay (Ok h) outcome tells is = cc
+told_delay (Err status) (Ok o) tells is = absurd tells
+told_delay (Err status) (Err told) tells is = ap Err (sym tells ∙ err_same status statuses.Delay is)
+
+-- memory is refused to the next operation, by its position
+delays_next : {A : Type 0} (b : Begun A) (s : Stand A) (r : Running b s) (room : ℕ) → room ≡ room_at b s
+    → (op : Operation) (rest : List ℕ) (refused : Bool) (answer : Result FileHandles Status) (outcome : Result Outcome Status) → (op, rest) ≡ next_at s.rest
+    → refused ≡ is_place b.refused (s.position - b.context.position) → IsToldBy answer outcome → DelaysIf refused (at b.context s.position room) op answer
+    → DelaysNext b s (length r.results) outcome
+delays_next b s r room is_room op rest refused answer outcome is placed tells delays = λ here may.
+    told_delay answer outcome tells
+    (delays (placed ∙ ap (is_place b.refused) (place_at s.position b.context.position (length r.results) r.many) ∙ here)
+    (subst (λ x. may_delay (at b.context s.position x) op ≡ true) (sym is_room) (subst (λ o. may_delay (here_at b s) o ≡ true) (sym (ap (λ x. x.0) is)) may)))
 
 -- the result of a step, at the next operation of the bytes
 abbrev pub StepOf : {A : Type 0} → Begun A → Stand A → ℕ → Operation → Result FileHandles Status → realms.Realm A → FileHandles → Buffer → Type 0
 StepOf b s room op answer e h out = StepGives (at b.context s.position room) op (stage (point_at s.realm s.handles) s.out) answer (stage (point_at e h) out)
 
-pub goes_on : {A : Type 0} (b : Begun A) (s : Stand A) → Running b s → s.position < b.context.count → (room : ℕ) → room ≡ room_at b s
-    → (op : Operation) (rest : List ℕ) (e : realms.Realm A) (h : FileHandles) (out : Buffer) (changes : Bool) → (op, rest) ≡ next_at s.rest → changes ≡ is_changing (number_of op)
+pub goes_on : {A : Type 0} (b : Begun A) (s : Stand A) (r : Running b s) → s.position < b.context.count → (room : ℕ) → room ≡ room_at b s
+    → (op : Operation) (rest : List ℕ) (e : realms.Realm A) (h : FileHandles) (out : Buffer) (changes refused : Bool) → (op, rest) ≡ next_at s.rest → changes ≡ is_changing (number_of op)
+    → refused ≡ is_place b.refused (s.position - b.context.position) → DelaysIf refused (at b.context s.position room) op (ok_at h)
     → StepOf b s room op (Ok h) e h out → Running b (record { realm = e; handles = h; out = out; rest = rest; position = s.position + 1; changed = s.changed || changes })
-goes_on {A} b s r below room is_room op rest e h out changes is changing gives =
+goes_on {A} b s r below room is_room op rest e h out changes refused is changing placed delays gives =
     let g = subst (λ x. StepOf b s x op (Ok h) e h out) is_room gives in
     subst (λ x. Running b (record { realm = e; handles = h; out = out; rest = x; position = s.position + 1; changed = s.changed || changes })) (sym (ap (λ x. x.1) is))
     (subst (λ c. Running b (record { realm = e; handles = h; out = out; rest = (next_at s.rest).1; position = s.position + 1; changed = s.changed || c })) (sym changing)
-    (more_ok b s r below (number_of op) g.outcome e h out (ap (λ x. number_of x.0) is) (subst (λ o. Steps (here_at b s) o (point_at s.realm s.handles) g.outcome (point_at e h)) (ap (λ x. x.0) is) g.steps) g.written g.fits g.tells))
+    (more_ok b s r below (number_of op) g.outcome e h out (ap (λ x. number_of x.0) is) (subst (λ o. Steps (here_at b s) o (point_at s.realm s.handles) g.outcome (point_at e h)) (ap (λ x. x.0) is) g.steps) g.written g.fits g.tells
+    (delays_next b s r room is_room op rest refused (Ok h) g.outcome is placed g.tells delays)))
 
-last_err : {A : Type 0} (b : Begun A) (s : Stand A) → Running b s → s.position < b.context.count
+last_err : {A : Type 0} (b : Begun A) (s : Stand A) (r : Running b s) → s.position < b.context.count
     → (number : ℕ) (outcome : Result Outcome Status) (status : Status) (e : realms.Realm A) (h : FileHandles) (out : Buffer)
     → number ≡ number_of (next_at s.rest).0 → Steps (here_at b s) (next_at s.rest).0 (point_at s.realm s.handles) outcome (point_at e h)
     → Appends s.out out (result_bytes (record { number = number; outcome = outcome })) → length out.bytes ≤ length s.out.bytes + room_at b s + REFUSAL_ROOM → IsToldBy {A = FileHandles} (Err status) outcome
-    → RunGives b.context b.operations (stage b.realm b.out) (record { status = status; ran = s.position + 1; changed = s.changed; delayed = refused_at status (s.position - b.context.position) }) (stage e out)
-last_err b s r below number (Ok o) status e h out is steps appends within tells = absurd tells
-last_err b s r below number (Err told) status e h out is steps appends within tells =
+    → DelaysNext b s (length r.results) outcome → RunGives b.refused b.context b.operations (stage b.realm b.out) (record { status = status; ran = s.position + 1; changed = s.changed; delayed = refused_at status (s.position - b.context.position) }) (stage e out)
+last_err b s r below number (Ok o) status e h out is steps appends within tells next = absurd tells
+last_err b s r below number (Err told) status e h out is steps appends within tells next =
     let given : Given = record { number = number; outcome = Err told } in
     record {
       handles = h;
@@ -217,29 +277,30 @@ last_err b s r below number (Err told) status e h out is steps appends within te
       kept = record {
         changed = r.kept ∙ sym (any_behind r.results given ∙ last_of (list_any is_change r.results));
         delayed =
-            ap (refused_at status) (place s.position b.context.position (length r.results) r.many)
+            ap (refused_at status) (place_at s.position b.context.position (length r.results) r.many)
             ∙ (ap (λ x. refused_at x (length r.results)) tells ∙ sym (delayed_behind r.results given r.undelayed));
       };
+      delays = delays_behind b s r given next [] tt;
     }
   where
-    place : (p c n : ℕ) → p ≡ c + n → p - c ≡ n
-    place p c n is = omega (arith, is)
-
     last_of : (a : Bool) → (a || false) ≡ a
     last_of true = refl
     last_of false = refl
 
-pub ends_with : {A : Type 0} (b : Begun A) (s : Stand A) → Running b s → s.position < b.context.count → (room : ℕ) → room ≡ room_at b s
-    → (op : Operation) (rest : List ℕ) (status : Status) (e : realms.Realm A) (h : FileHandles) (out : Buffer) (delayed : Option ℕ) → (op, rest) ≡ next_at s.rest
-    → delayed ≡ refused_at status (s.position - b.context.position) → StepOf b s room op (Err status) e h out
-    → RunGives b.context b.operations (stage b.realm b.out) (record { status = status; ran = s.position + 1; changed = s.changed; delayed = delayed }) (stage e out)
-ends_with b s r below room is_room op rest status e h out delayed is refused gives =
+pub ends_with : {A : Type 0} (b : Begun A) (s : Stand A) (r : Running b s) → s.position < b.context.count → (room : ℕ) → room ≡ room_at b s
+    → (op : Operation) (rest : List ℕ) (status : Status) (e : realms.Realm A) (h : FileHandles) (out : Buffer) (delayed : Option ℕ) (refused : Bool) → (op, rest) ≡ next_at s.rest
+    → delayed ≡ refused_at status (s.position - b.context.position)
+    → refused ≡ is_place b.refused (s.position - b.context.position) → DelaysIf refused (at b.context s.position room) op (err_at status)
+    → StepOf b s room op (Err status) e h out
+    → RunGives b.refused b.context b.operations (stage b.realm b.out) (record { status = status; ran = s.position + 1; changed = s.changed; delayed = delayed }) (stage e out)
+ends_with b s r below room is_room op rest status e h out delayed refused is told placed delays gives =
     let g = subst (λ x. StepOf b s x op (Err status) e h out) is_room gives in
-    subst (λ d. RunGives b.context b.operations (stage b.realm b.out) (record { status = status; ran = s.position + 1; changed = s.changed; delayed = d }) (stage e out)) (sym refused)
-    (last_err b s r below (number_of op) g.outcome status e h out (ap (λ x. number_of x.0) is) (subst (λ o. Steps (here_at b s) o (point_at s.realm s.handles) g.outcome (point_at e h)) (ap (λ x. x.0) is) g.steps) g.written g.within g.tells)
+    subst (λ d. RunGives b.refused b.context b.operations (stage b.realm b.out) (record { status = status; ran = s.position + 1; changed = s.changed; delayed = d }) (stage e out)) (sym told)
+    (last_err b s r below (number_of op) g.outcome status e h out (ap (λ x. number_of x.0) is) (subst (λ o. Steps (here_at b s) o (point_at s.realm s.handles) g.outcome (point_at e h)) (ap (λ x. x.0) is) g.steps) g.written g.within g.tells
+    (delays_next b s r room is_room op rest refused (Err status) g.outcome is placed g.tells delays))
 
 pub ends_whole : {A : Type 0} (b : Begun A) (s : Stand A) → Running b s → s.position ≡ b.context.count
-    → RunGives b.context b.operations (stage b.realm b.out) (record { status = statuses.Ok; ran = b.context.count; changed = s.changed; delayed = None }) (stage s.realm s.out)
+    → RunGives b.refused b.context b.operations (stage b.realm b.out) (record { status = statuses.Ok; ran = b.context.count; changed = s.changed; delayed = None }) (stage s.realm s.out)
 ends_whole b s r all = record {
   handles = s.handles;
   results = r.results;
@@ -250,6 +311,7 @@ ends_whole b s r all = record {
   ran = omega (arith, all, r.many);
   within = omega (arith, r.fits);
   kept = record { changed = r.kept; delayed = sym r.undelayed };
+  delays = subst (λ results. DelaysAll b results) (append-nil r.results) (r.delays [] tt);
 }
   where
     none : b.context.count - s.position ≡ 0

@@ -37,6 +37,7 @@ pub mod Keeping
 pub mod Covering
 pub mod Replaying
 pub mod Delayed
-pub mod Written
 pub mod Recorded
+pub mod Delaying
+pub mod Written
 pub mod SessionViews

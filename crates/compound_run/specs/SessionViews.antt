@@ -1,6 +1,6 @@
 -- The sessions of the code, as the definitions see them.
-use Rattle.std.specs.Prelude.{◌≡◌, ◌≤◌, ℕ, ◌+◌, ◌++◌, Bool, true, false, List, length, Some, None, Result, Ok}
-use Rattle.std.specs.Prelude.{OnOk, OnErr}
+use Rattle.std.specs.Prelude.{◌≡◌, ◌≤◌, ℕ, ◌+◌, ◌++◌, Bool, true, false, List, length, Option, Some, None}
+use Rattle.std.specs.Prelude.{Result, Ok, OnOk, OnErr}
 use Rattle.xdr_wire.specs.Buffer.{Buffer, Appends}
 use Rattle.xdr_wire.specs.Xdr.{Value}
 use Rattle.rpc_record.specs.Identity.{Identity}
@@ -42,7 +42,8 @@ use Rattle.compound_run.specs.InSession.{Reply, ActsAlone, ActsTo, RunsTo, begin
 use Rattle.compound_run.specs.InSession.{sequenced}
 use Rattle.compound_run.specs.Keeping.{keeps_alone}
 use Rattle.compound_run.specs.Delayed.{delayed_alone}
-use Rattle.compound_run.specs.Recorded.{IsRan, RanBy, RanBegun}
+use Rattle.compound_run.specs.Recorded.{IsRan}
+use Rattle.compound_run.specs.Delaying.{DelaysIn, RanByDelaying, RanBegunDelaying}
 use Rattle.compound_run.specs.Written.{EndsSo}
 
 -- ---- the beginning of a COMPOUND
@@ -115,15 +116,17 @@ abbrev pub SequencedTo : {A : Type 0} → Series → Given → realms.Realm A �
 SequencedTo s given old bytes new =
     (handles : FileHandles) × RunsTo s given (point_at old no_handles) bytes (point_at new handles)
 
--- the operations ended so
-abbrev pub SequencedSo : {A : Type 0} → Series → Given → realms.Realm A → List ℕ → Ended → realms.Realm A → Type 0
-SequencedSo s given old bytes end new = (to : SequencedTo s given old bytes new) × EndsSo end to.1.0
+-- the operations ended so, where memory is refused to one of them
+abbrev pub SequencedSo : {A : Type 0} → Option ℕ → Series → Given → realms.Realm A → List ℕ → Ended → realms.Realm A
+    → Type 0
+SequencedSo refused s given old bytes end new =
+    (to : SequencedTo s given old bytes new) × EndsSo end to.1.0 × DelaysIn refused s.context s.operations to.1.0
 
 -- The results are put after the buffer's bytes; with a head in front they would be the answer.
-abbrev pub SequencedBehind : {A : Type 0} → ℕ → Series → Given → Stage (realms.Realm A) → Ended
+abbrev pub SequencedBehind : {A : Type 0} → ℕ → Option ℕ → Series → Given → Stage (realms.Realm A) → Ended
     → Stage (realms.Realm A) → Type 0
-SequencedBehind most s given old end new =
-    (results : List ℕ) × SequencedSo s given old.at (head end.status s.tag end.ran ++ results) end new.at
+SequencedBehind most refused s given old end new =
+    (results : List ℕ) × SequencedSo refused s given old.at (head end.status s.tag end.ran ++ results) end new.at
     × Appends old.out new.out results × (length new.out.bytes ≤ most)
 
 -- the result of SEQUENCE
@@ -144,10 +147,10 @@ coming_behind book c v new = record {
 }
 
 -- The operations are run, and the slot keeps all results.
-module _ {A : Type 0} (s : Series) (v : Value sequence_args) (given : Given) where
+module _ {A : Type 0} (refused : Option ℕ) (s : Series) (v : Value sequence_args) (given : Given) where
   abbrev pub SequencedKept : realms.Realm A → List ℕ → Ended → realms.Realm A → Type 0
   SequencedKept old bytes end new =
-      (mid : realms.Realm A) × SequencedSo s given old bytes end mid
+      (mid : realms.Realm A) × SequencedSo refused s given old bytes end mid
       × (new ≡ record mid { clients = keeping v bytes mid.clients })
 
 -- ---- a call
@@ -170,10 +173,11 @@ abbrev pub AnswersSequence : Coming → Value sequence_args → List ℕ → Sta
 AnswersSequence c v operations old bytes ran new =
     let begin = begin_in old.realm (call_of c) c.compound.count v operations in
     AnswersAs (fate_by c.compound.tag.now v old.realm.registry begin)
-    (RanBy begin (sequenced (call_of c) c.compound.tag.now c.compound.count v operations) old) old bytes ran new
+    (RanByDelaying c.refused begin (sequenced (call_of c) c.compound.tag.now c.compound.count v operations) old) old
+    bytes ran new
 
 -- any COMPOUND
 abbrev pub AnswersComing : Coming → State → List ℕ → Ran → State → Type 0
 AnswersComing c old bytes ran new =
     AnswersAs (fate_begun old (call_of c) c.compound.tag.now c.compound.count (begun_at c))
-    (RanBegun (call_of c) c.compound.tag.now c.compound.count (begun_at c) old) old bytes ran new
+    (RanBegunDelaying (call_of c) c.compound.tag.now c.compound.count (begun_at c) c.refused old) old bytes ran new

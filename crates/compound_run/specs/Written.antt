@@ -16,6 +16,7 @@ use Rattle.compound_run.specs.Compound.{Series, head, together, last_status}
 use Rattle.compound_run.specs.Views.{Stage, point_at}
 use Rattle.compound_run.specs.Keeping.{is_change}
 use Rattle.compound_run.specs.Delayed.{delayed_in}
+use Rattle.compound_run.specs.Delaying.{DelaysIn}
 
 -- An operation is run at its place, and its result is written.
 pub record StepGives {A : Type 0} (c : Context) (op : Operation) (old : Stage Point) (answer : Result A Status)
@@ -32,9 +33,9 @@ pub record EndsSo (end : Ended) (results : List Given) : Type 0 where
   pub changed : end.changed ≡ list_any is_change results
   pub delayed : end.delayed ≡ delayed_in results
 
--- Operations are run in turn, and their results are written.
-pub record RunGives {A : Type 0} (c : Context) (operations : List ℕ) (old : Stage (realms.Realm A)) (end : Ended)
-    (new : Stage (realms.Realm A)) : Type 0 where
+-- Operations are run in turn, and their results are written. Memory is refused to one of them, if to any.
+pub record RunGives {A : Type 0} (refused : Option ℕ) (c : Context) (operations : List ℕ)
+    (old : Stage (realms.Realm A)) (end : Ended) (new : Stage (realms.Realm A)) : Type 0 where
   pub handles : FileHandles
   pub results : List Given
   pub runs : Runs c (c.count - c.position) operations (point_at old.at no_handles) results (point_at new.at handles)
@@ -42,6 +43,7 @@ pub record RunGives {A : Type 0} (c : Context) (operations : List ℕ) (old : St
   pub status : end.status ≡ last_status results
   pub ran : end.ran ≡ c.position + length results
   pub kept : EndsSo end results
+  pub delays : DelaysIn refused c operations results
   pub within : length new.out.bytes ≤ length old.out.bytes + c.room + REFUSAL_ROOM
 
 -- The operations are refused before any is run, or run in turn: the results, and where they end.

@@ -11,7 +11,7 @@ ghost use Rattle.compound_run.specs.Views.{arguments_of, context_at, stage};
 
 use crate::context::Context;
 use crate::filehandles::FileHandles;
-use crate::kept::{delayed_at, is_changing};
+use crate::kept::{delayed_at, is_at, is_changing};
 use crate::limits::{MAX_OPERATIONS, MAX_RESULTS, MAX_TAG, MINOR_VERSION, REFUSAL_ROOM};
 use crate::realm::Realm;
 use crate::step::Step;
@@ -30,6 +30,14 @@ pub(crate) struct Ended {
     pub delayed: Option<u32>,
 }
 
+/// The operations of a COMPOUND that are to be run.
+#[derive(Clone, Copy, Debug)]
+pub(crate) struct ToRun<'a> {
+    pub operations: &'a [u8],
+    /// Memory is refused to the operation at this place among them, if it takes any.
+    pub refused: Option<u32>,
+}
+
 /// The arguments of a COMPOUND.
 #[derive(Clone, Copy, Debug)]
 pub(crate) struct CompoundArgs<'a> {
@@ -44,20 +52,20 @@ impl<A: Allocator + Copy> Realm<A> {
     pub fn run_all(
         &mut self,
         context: Context<'_>,
-        operations: &[u8],
+        to_run: ToRun<'_>,
         results: &mut Writer<A>,
     ) -> Ended
         requires settled { self.old.tree.log.held ≡ [] }
         requires place { context.position ≤ context.count }
         requires room { context.room + limits.REFUSAL_ROOM ≤ results.old.room }
-        ensures gives { RunGives (context_at self.old context.entry) operations.now (stage self.old results.old)
-            result (stage self.new results.new) }
+        ensures gives { RunGives to_run.entry.refused (context_at self.old context.entry) to_run.entry.operations.now
+            (stage self.old results.old) result (stage self.new results.new) }
         ensures settled { self.new.tree.log.held ≡ [] }
     {
         let end = results.capacity() - (results.room() - context.room);
         let mut handles = FileHandles::none();
         let mut changed = false;
-        let mut reader = Reader::new(operations);
+        let mut reader = Reader::new(to_run.operations);
         for position in context.position..context.count {
             let op = next_op(&mut reader);
             let here = Context {
@@ -69,7 +77,8 @@ impl<A: Allocator + Copy> Realm<A> {
                 context: here,
                 handles,
             };
-            handles = match self.run_one(step, &op, results) {
+            let refused = is_at(to_run.refused, position - context.position);
+            handles = match self.run_one(step, &op, refused, results) {
                 Ok(handles) => handles,
                 Err(status) => {
                     return Ended {
@@ -149,7 +158,11 @@ impl<'a> CompoundArgs<'a> {
                 delayed: None,
             };
         }
-        realm.run_all(context, self.operations, out)
+        let to_run = ToRun {
+            operations: self.operations,
+            refused: None,
+        };
+        realm.run_all(context, to_run, out)
     }
 
     /// Writes the results of the COMPOUND after what `out` holds. Its status and the number of its

@@ -16,7 +16,7 @@ ghost use Rattle.compound_run.specs.Compound.{series};
 ghost use Rattle.compound_run.specs.Beginning.{beginning};
 ghost use Rattle.compound_run.specs.Replaying.{ready_for};
 
-use crate::compound::{CompoundArgs, Ended};
+use crate::compound::{CompoundArgs, Ended, ToRun};
 use crate::context::{Calling, Context};
 use crate::first_operation::{Beginning, begin};
 use crate::kept::Ran;
@@ -39,6 +39,8 @@ pub(crate) struct Coming<'t> {
     pub compound: CompoundArgs<'t>,
     pub caller: &'t Caller,
     pub now: Moment,
+    /// Memory is refused to the operation at this place after SEQUENCE, if it takes any.
+    pub refused: Option<u32>,
 }
 
 /// The result of a SEQUENCE that begins a new call.
@@ -121,7 +123,7 @@ impl<A: Allocator + Copy> Realm<A> {
         requires stands { StandsIn self.old.clients (session_of args.now.session) args.now.slot (begins.New new) }
         requires room { limits.MAX_RESULTS ≤ out.old.room }
         ensures answers { WritesWithin (new.reply_size - limits.REPLY_HEADER)
-            (λ bytes. SequencedKept
+            (λ bytes. SequencedKept call.entry.refused
             (series call.entry.compound.tag.now
             (coming_behind self.old.tree.book call.entry (sequence_args_value args.now) new) operations.now)
             (sequence_args_value args.now) (sequence_done (sequence_args_value args.now) new.highest_slot) self.old
@@ -144,9 +146,13 @@ impl<A: Allocator + Copy> Realm<A> {
             room: limit,
         };
         let given = sequence_given(args, new);
+        let to_run = ToRun {
+            operations,
+            refused: call.refused,
+        };
         let ended = call
             .compound
-            .run_behind(self, context, limit, given, operations, out);
+            .run_behind(self, context, limit, given, to_run, out);
         self.keep_from(args, out, start);
         ended
     }

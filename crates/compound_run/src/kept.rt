@@ -2,6 +2,7 @@
 ghost use Rattle.std.specs.Prelude.{◌≡◌, false, if◌then◌else◌, Some, None};
 ghost use Rattle.compound_run.specs.Telling.{is_delay_status};
 ghost use Rattle.compound_run.specs.Keeping as specs;
+ghost use Rattle.compound_run.specs.Delaying.{is_place};
 
 use nfs_ops::{
     OP_CLOSE, OP_CREATE, OP_LINK, OP_OPEN, OP_RECLAIM_COMPLETE, OP_REMOVE, OP_RENAME, OP_SETATTR,
@@ -53,5 +54,15 @@ pub(crate) fn delayed_at(status: Status, place: u32) -> Option<u32>
     match status {
         Status::Delay => Some(place),
         _ => None,
+    }
+}
+
+/// Whether the operation that memory is refused to stands at this place.
+pub(crate) fn is_at(refused: Option<u32>, place: u32) -> bool
+    ensures { result ≡ is_place refused place }
+{
+    match refused {
+        Some(at) => at == place,
+        None => false,
     }
 }

@@ -2,6 +2,7 @@
 ghost use Rattle.std.specs.Prelude.{◌≡◌, ◌+◌, ◌≤◌, [], true};
 ghost use Rattle.nfs_ops.specs.OpViews.{op_view};
 ghost use Rattle.compound_run.specs.Operations as specs;
+ghost use Rattle.compound_run.specs.Delaying.{DelaysIf};
 ghost use Rattle.compound_run.specs.Limits as limits;
 ghost use Rattle.compound_run.specs.Telling.{is_delay};
 ghost use Rattle.compound_run.specs.Views.{context_at, handles_after, point_at, GivesBy, stage, by_meaning, by_run};
@@ -64,20 +65,44 @@ fn is_delayed(answer: &Result<FileHandles, Status>) -> bool
     matches!(answer, Err(Status::Delay))
 }
 
+/// Whether an operation takes memory, which may be refused. Then it is answered DELAY.
+fn takes_memory(op: &Op<'_>) -> bool
+    ensures { result ≡ specs.takes_memory (op_view op.now) }
+{
+    matches!(
+        op,
+        Op::Create(_)
+            | Op::Link(_)
+            | Op::NVerify(_)
+            | Op::Open(_)
+            | Op::Rename(_)
+            | Op::SetAttr(_)
+            | Op::Verify(_)
+            | Op::Write(_)
+    )
+}
+
 impl<A: Allocator + Copy> Realm<A> {
-    /// Answers an operation, once it has its place, and room for its result.
+    /// Answers an operation, once it has its place, and room for its result. Where memory is
+    /// refused to it, and it takes any, it isn't run.
     fn answer(
         &mut self,
         step: Step<'_>,
         op: &Op<'_>,
+        refused: bool,
         out: &mut Writer<A>,
     ) -> Result<FileHandles, Status>
         requires settled { self.old.tree.log.held ≡ [] }
         requires room { step.context.room + limits.REFUSAL_ROOM ≤ out.old.room }
-        ensures { GivesBy by_meaning step.entry op.now (stage self.old out.old) result (stage self.new out.new) }
+        ensures gives { GivesBy by_meaning step.entry op.now (stage self.old out.old) result (stage self.new out.new) }
+        ensures delays { DelaysIf refused (context_at self.old step.entry.context) (op_view op.now) result }
     {
         if let Some(fault) = entry_fault(step.context, op) {
             return Err(fault);
+        }
+        let delays = refused & takes_memory(op);
+        if delays {
+            return Err(Status::Delay);
         }
         self.body(step, op, out)
     }
@@ -87,23 +112,27 @@ impl<A: Allocator + Copy> Realm<A> {
         &mut self,
         step: Step<'_>,
         op: &Op<'_>,
+        refused: bool,
         out: &mut Writer<A>,
     ) -> Result<FileHandles, Status>
         requires settled { self.old.tree.log.held ≡ [] }
         requires room { step.context.room + limits.REFUSAL_ROOM ≤ out.old.room }
         ensures gives { GivesBy by_run step.entry op.now (stage self.old out.old) result (stage self.new out.new) }
+        ensures delays { DelaysIf refused (context_at self.old step.entry.context) (op_view op.now) result }
         ensures settled { self.new.tree.log.held ≡ [] }
     {
-        let result = self.answer(step, op, out);
+        let result = self.answer(step, op, refused, out);
         self.tree.settle(!is_delayed(&result));
         result
     }
 
     /// Runs an operation, and writes its result. Answers the filehandles after it. `Err`: it isn't OK, and they stay.
+    /// Where memory is `refused` to it, and it takes any, it is answered DELAY and isn't run.
     pub fn run_one(
         &mut self,
         step: Step<'_>,
         op: &Op<'_>,
+        refused: bool,
         out: &mut Writer<A>,
     ) -> Result<FileHandles, Status>
         requires settled { self.old.tree.log.held ≡ [] }
@@ -111,9 +140,10 @@ impl<A: Allocator + Copy> Realm<A> {
         ensures gives { StepGives (context_at self.old step.entry.context) (op_view op.now)
             (stage (point_at self.old step.entry.handles) out.old) result
             (stage (point_at self.new (handles_after step.entry.handles result)) out.new) }
+        ensures delays { DelaysIf refused (context_at self.old step.entry.context) (op_view op.now) result }
         ensures settled { self.new.tree.log.held ≡ [] }
     {
-        match self.run(step, op, out) {
+        match self.run(step, op, refused, out) {
             Ok(handles) => Ok(handles),
             Err(status) => {
                 put_refusal(op.number(), status, out);

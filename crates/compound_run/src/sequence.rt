@@ -9,7 +9,7 @@ ghost use Rattle.compound_run.specs.Runs.{spelled};
 ghost use Rattle.compound_run.specs.SessionViews.{SequencedSo, SequencedBehind, WritesWithin, sequence_told};
 ghost use Rattle.compound_run.specs.Views.{context_at, stage};
 
-use crate::compound::{CompoundArgs, Ended, put_tag, put_word};
+use crate::compound::{CompoundArgs, Ended, ToRun, put_tag, put_word};
 use crate::context::Context;
 use crate::limits::REFUSAL_ROOM;
 use crate::operation_results::put_result;
@@ -27,7 +27,7 @@ impl CompoundArgs<'_> {
         context: Context<'_>,
         end: usize,
         given: SequenceResult,
-        operations: &[u8],
+        to_run: ToRun<'_>,
         out: &mut Writer<A>,
     ) -> Ended
         requires settled { realm.old.tree.log.held ≡ [] }
@@ -35,11 +35,12 @@ impl CompoundArgs<'_> {
         requires some { 1 ≤ context.count }
         requires result { length out.old.bytes + limits.MIN_ROOM ≤ end }
         requires room { end + limits.REFUSAL_ROOM ≤ length out.old.bytes + out.old.room }
-        ensures answers { SequencedBehind (end + limits.REFUSAL_ROOM)
+        ensures answers { SequencedBehind (end + limits.REFUSAL_ROOM) to_run.entry.refused
             (series self.now.tag.now (record (context_at realm.old context.entry) {
               room = end - length out.old.bytes
                   - length (spelled (Done kinds.Sequence (sequence_result_value given)));
-            }) operations.now) (sequence_told given) (stage realm.old out.old) result (stage realm.new out.new) }
+            }) to_run.entry.operations.now) (sequence_told given) (stage realm.old out.old) result
+            (stage realm.new out.new) }
         ensures settled { realm.new.tree.log.held ≡ [] }
     {
         put_result(OpResult::Sequence(given), out);
@@ -47,7 +48,7 @@ impl CompoundArgs<'_> {
             room: end - out.len(),
             ..context
         };
-        realm.run_all(second, operations, out)
+        realm.run_all(second, to_run, out)
     }
 
     /// Writes the results of a COMPOUND with this SEQUENCE and these operations after it. They come
@@ -59,7 +60,7 @@ impl CompoundArgs<'_> {
         context: Context<'_>,
         limit: usize,
         given: SequenceResult,
-        operations: &[u8],
+        to_run: ToRun<'_>,
         out: &mut Writer<A>,
     ) -> Ended
         requires short { length self.now.tag.now ≤ limits.MAX_TAG }
@@ -69,11 +70,11 @@ impl CompoundArgs<'_> {
         requires least { 4072 ≤ limit }
         requires room { limit ≤ out.old.room }
         ensures answers { WritesWithin limit
-            (λ bytes. SequencedSo
+            (λ bytes. SequencedSo to_run.entry.refused
             (series self.now.tag.now (record (context_at realm.old context.entry) {
               room = first_room (limit + limits.REPLY_HEADER) self.now.tag.now
                   - length (spelled (Done kinds.Sequence (sequence_result_value given)));
-            }) operations.now) (sequence_told given) realm.old bytes result realm.new)
+            }) to_run.entry.operations.now) (sequence_told given) realm.old bytes result realm.new)
             out.old out.new }
         ensures settled { realm.new.tree.log.held ≡ [] }
     {
@@ -83,7 +84,7 @@ impl CompoundArgs<'_> {
         put_tag(out, self.tag);
         let count_at = out.len();
         put_word(out, 0);
-        let ended = self.run_sequenced(realm, context, end, given, operations, out);
+        let ended = self.run_sequenced(realm, context, end, given, to_run, out);
         out.fill(count_at, ended.ran);
         out.fill(status_at, ended.status.number());
         ended

@@ -6,6 +6,7 @@ ghost use Rattle.node_tree.specs.Notes.{begun_notes, cleared};
 ghost use Rattle.session_slots.specs.Registry.{client_at};
 ghost use Rattle.access_guard.specs.Epochs.{next_epoch};
 ghost use Rattle.access_guard.specs.Memory.{Agrees};
+ghost use Rattle.compound_run.specs.Delaying.{RunsDelaying};
 ghost use Rattle.compound_run.specs.InSession.{AnswersInSession};
 ghost use Rattle.compound_run.specs.Known.{opens_fit};
 ghost use Rattle.compound_run.specs.Limits as limits;
@@ -230,7 +231,6 @@ impl<A: Allocator + Copy> Server<A> {
     /// Runs a COMPOUND as [`Server::run`] does, and returns the facts that a record of the call needs.
     /// `None`: the tag, the minor version or the number of operations can't be read, and there are no
     /// results.
-    #[tactic(auto, unfolding(crate::specs::InSession::fate))]
     pub fn run_recorded(
         &mut self,
         args: Args<'_>,
@@ -242,6 +242,25 @@ impl<A: Allocator + Copy> Server<A> {
         requires room { limits.MAX_RESULTS ≤ out.old.room }
         ensures answers { RunsRecorded self.old (called args.entry caller.now now) result out.old out.new self.new }
     {
+        self.run_delaying(args, caller, now, None, out)
+    }
+
+    /// Runs a COMPOUND as [`Server::run`] does. Memory is refused to the operation at a place after
+    /// SEQUENCE, if one is named.
+    #[tactic(auto, unfolding(crate::specs::InSession::fate))]
+    fn run_delaying(
+        &mut self,
+        args: Args<'_>,
+        caller: &Caller,
+        now: Moment,
+        refused: Option<u32>,
+        out: &mut Writer<A>,
+    ) -> Option<Ran>
+        requires whole { length args.bytes.now ≤ args.record_len }
+        requires room { limits.MAX_RESULTS ≤ out.old.room }
+        ensures answers { RunsDelaying refused self.old (called args.entry caller.now now) result out.old out.new
+            self.new }
+    {
         let Some(compound) = CompoundArgs::read(args.bytes) else {
             return None;
         };
@@ -250,6 +269,7 @@ impl<A: Allocator + Copy> Server<A> {
             compound,
             caller,
             now,
+            refused,
         };
         Some(self.realm.answer_in_session(call, out))
     }
@@ -257,21 +277,25 @@ impl<A: Allocator + Copy> Server<A> {
     /// Runs a kept call again, as [`Server::run_recorded`] does, after its slot is marked as lagging:
     /// the slot may have accepted calls that weren't kept. So the call is new where its sequence ID is
     /// 1 to 2^20 ahead of the one that the slot keeps.
-    #[tactic(auto, unfolding(crate::specs::InSession::fate, crate::specs::Replaying::ready))]
+    ///
+    /// `delayed` is the place of the operation that found no memory, as the call's record has it (see
+    /// [`Ran`]). Memory is refused to it here too: it is answered DELAY and isn't run. An operation
+    /// that never takes memory is run there all the same; then the place in [`Ran`] is another one.
     pub fn replay(
         &mut self,
         args: Args<'_>,
         caller: &Caller,
         now: Moment,
+        delayed: Option<u32>,
         out: &mut Writer<A>,
     ) -> Option<Ran>
         requires whole { length args.bytes.now ≤ args.record_len }
         requires room { limits.MAX_RESULTS ≤ out.old.room }
-        ensures answers { RunsRecorded (ready (called args.entry caller.now now) self.old)
+        ensures answers { RunsDelaying delayed (ready (called args.entry caller.now now) self.old)
             (called args.entry caller.now now) result out.old out.new self.new }
     {
         self.lag(args);
-        self.run_recorded(args, caller, now, out)
+        self.run_delaying(args, caller, now, delayed, out)
     }
 
     /// Marks the slot of a call as lagging, if the call has one.

@@ -21,3 +21,4 @@ pub mod Covering
 pub mod Turns
 pub mod OnSlot
 pub mod ClientsCover
+pub mod ClientsDetermined

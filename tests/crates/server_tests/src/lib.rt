@@ -1,4 +1,4 @@
-//! Tests of a server that no script sees from outside: the trail on disks of every size, an endless reader, what is remembered, numbers, silent clients, a restart, and the last epoch of a book.
+//! Tests of a server that no script sees from outside: the trail on disks of every size, an endless reader, what is remembered, numbers, silent clients, a restart, calls that are run again, and the last epoch of a book.
 #![tactic(auto)]
 
 #[cfg(test)]
@@ -11,6 +11,8 @@ mod kept;
 mod numbers;
 #[cfg(test)]
 mod remembered;
+#[cfg(test)]
+mod replays;
 #[cfg(test)]
 mod restarts;
 #[cfg(test)]

@@ -23,7 +23,7 @@ returns-clause-answers g c =
     let size = length (spelled (Done kinds.Sequence (sequence_result_value c.args.given))) in
     let end = c.capacity.result - (c.room.result - c.args.limit) - REFUSAL_ROOM in
     let long = longer_by tag start c.put_word.new.writer tagged begun c.put_word.ensures c.put_tag.ensures.written c.put_word-2.ensures in
-    sequenced_within c.args.limit (end + REFUSAL_ROOM) (context_at c.args.realm.now c.args.context) (end - length begun.bytes - size) (first_room (c.args.limit + REPLY_HEADER) tag - size) tag (sequence_told c.args.given) c.args.operations.now
+    sequenced_within c.args.limit (end + REFUSAL_ROOM) c.args.to_run.refused (context_at c.args.realm.now c.args.context) (end - length begun.bytes - size) (first_room (c.args.limit + REPLY_HEADER) tag - size) tag (sequence_told c.args.given) c.args.to_run.operations.now
     c.args.realm.now c.run_sequenced-ended.new.realm start c.put_word.new.writer tagged begun done c.fill.new.self c.fill-2.new.self c.run_sequenced-ended.result
     c.put_word.ensures c.put_tag.ensures.written c.put_word-2.ensures c.run_sequenced-ended.ensures.answers
     (subst (λ (at : ℕ). Fills done c.fill.new.self at (to_be_bytes w32 c.run_sequenced-ended.result.ran)) c.len-count_at.ensures c.fill.ensures)

@@ -20,7 +20,7 @@ returns-clause-answers g c =
     let d = coming_behind c.args.self.now.tree.book call v new in
     let room : first_room (new.reply_size - 24 + 24) tag - length (result_bytes given) ≡ first_room new.reply_size tag - length (result_bytes (sequence_done v new.highest_slot)) = λ i. first_room (whole i) tag - length (result_bytes (told i)) in
     let is : record d { room = first_room (new.reply_size - 24 + 24) tag - length (result_bytes given) } ≡ d = ap (λ (r : ℕ). record d { room = r }) room in
-    kept_so (new.reply_size - 24) (new.reply_size - 24) (record d { room = first_room (new.reply_size - 24 + 24) tag - length (result_bytes given) }) d tag v given (sequence_done v new.highest_slot) c.args.operations.now
+    kept_so call.refused (new.reply_size - 24) (new.reply_size - 24) (record d { room = first_room (new.reply_size - 24 + 24) tag - length (result_bytes given) }) d tag v given (sequence_done v new.highest_slot) c.args.operations.now
     c.args.self.now c.run_behind-ended.new.realm c.keep_from.new.self c.args.out.now c.run_behind-ended.new.out c.len-start.result
     c.run_behind-ended.ensures.answers refl is told c.len-start.ensures c.keep_from.ensures
 
@@ -28,13 +28,13 @@ pub keep_from-requires-clause-slot : goal.keep_from-requires-clause-slot
 keep_from-requires-clause-slot g c =
     let tag = c.args.call.compound.tag.now in
     slot_there c.args.self.now.clients c.run_behind-ended.new.realm.clients (session_of c.args.args.now.session) c.args.args.now.slot c.args.new c.requires.stands
-    (sessions_stay _ _ tag (sequence_told c.sequence_given-given.result) c.args.operations.now c.args.self.now c.run_behind-ended.new.realm c.args.out.now c.run_behind-ended.new.out c.run_behind-ended.ensures.answers)
+    (sessions_stay c.args.call.refused _ _ tag (sequence_told c.sequence_given-given.result) c.args.operations.now c.args.self.now c.run_behind-ended.new.realm c.args.out.now c.run_behind-ended.new.out c.run_behind-ended.ensures.answers)
 
 pub keep_from-requires-clause-few : goal.keep_from-requires-clause-few
 keep_from-requires-clause-few g c =
     let tag = c.args.call.compound.tag.now in
     few_there c.args.self.now.clients c.run_behind-ended.new.realm.clients (session_of c.args.args.now.session) c.args.args.now.slot c.args.new _ c.requires.stands
-    (sessions_stay _ _ tag (sequence_told c.sequence_given-given.result) c.args.operations.now c.args.self.now c.run_behind-ended.new.realm c.args.out.now c.run_behind-ended.new.out c.run_behind-ended.ensures.answers)
+    (sessions_stay c.args.call.refused _ _ tag (sequence_told c.sequence_given-given.result) c.args.operations.now c.args.self.now c.run_behind-ended.new.realm c.args.out.now c.run_behind-ended.new.out c.run_behind-ended.ensures.answers)
     (few_appended (c.args.new.reply_size - 24) c.len-start.result c.args.out.now c.run_behind-ended.new.out c.run_behind-ended.ensures.answers c.len-start.ensures)
 
 pub keep_from-requires-clause-start : goal.keep_from-requires-clause-start

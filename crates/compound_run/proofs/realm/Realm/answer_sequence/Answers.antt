@@ -8,7 +8,7 @@ use Rattle.session_slots.specs.Sequencing.{sequence_begin, sequence_begun}
 use Rattle.std.specs.Prelude.{Some}
 use Rattle.compound_run.specs.Views.{realm_of, state_of}
 use Rattle.compound_run.specs.InSession.{Reply, begin_in, fate_by, refused_alone, sequenced}
-use Rattle.compound_run.specs.Recorded.{RanBy}
+use Rattle.compound_run.specs.Delaying.{RanByDelaying}
 use Rattle.session_slots.specs.Keeping.{last_at, passes}
 use Rattle.compound_run.specs.Sequence.{asked_by}
 use Rattle.compound_run.specs.SessionViews.{call_of}
@@ -42,7 +42,7 @@ returns-in-Repeat-clause-answers g c =
     let b = begin_in (realm_of e) (call_of call) call.compound.count v c.args.operations.now in
     let told = c.in-Repeat.ensures.answer ∙ λ i. sequence_begin e.clients (session i) (asked_by v call.compound.count call.args.record_len call.caller.now (bytes i)) in
     let kept = c.results.ensures.kept ∙ ap (λ r. results_at r c.session_of-session.result c.args.args.now.slot) c.in-Repeat.ensures.stays ∙ ap (λ s. results_at e.clients s c.args.args.now.slot) session in
-    answers_known (fate_by tag v e.clients b) (RanBy b (sequenced (call_of call) tag call.compound.count v c.args.operations.now) (state_of e)) (state_of e) (state_of (record e { clients = c.begin.new.self })) c.results.result.now c.nothing.result c.args.out.now c.put_kept.new.out
+    answers_known (fate_by tag v e.clients b) (RanByDelaying call.refused b (sequenced (call_of call) tag call.compound.count v c.args.operations.now) (state_of e)) (state_of e) (state_of (record e { clients = c.begin.new.self })) c.results.result.now c.nothing.result c.args.out.now c.put_kept.new.out
     (ap (fate_by tag v e.clients) (sym told) ∙ ap (λ bytes. let f : Fate Reply = Repeats (Some bytes) in f) (sym kept))
     (ap (λ r. state_of (record e { clients = r })) c.in-Repeat.ensures.stays)
     (is_nothing c.nothing.result c.nothing.ensures)
@@ -58,7 +58,7 @@ returns-in-Refused-clause-answers g c =
     let b = begin_in (realm_of e) (call_of call) call.compound.count v c.args.operations.now in
     let session = c.session_of-session.ensures in
     let told = c.in-Refused.ensures.answer ∙ λ i. sequence_begin e.clients (session i) (asked_by v call.compound.count call.args.record_len call.caller.now (bytes i)) in
-    answers_refused (fate_by tag v e.clients b) (RanBy b (sequenced (call_of call) tag call.compound.count v c.args.operations.now) (state_of e)) (state_of e) (state_of (record e { clients = c.begin.new.self })) (refused_alone tag (row kinds.Sequence).number c.in-Refused.status) c.nothing-in-Refused.result c.args.out.now c.put_refused.new.out
+    answers_refused (fate_by tag v e.clients b) (RanByDelaying call.refused b (sequenced (call_of call) tag call.compound.count v c.args.operations.now) (state_of e)) (state_of e) (state_of (record e { clients = c.begin.new.self })) (refused_alone tag (row kinds.Sequence).number c.in-Refused.status) c.nothing-in-Refused.result c.args.out.now c.put_refused.new.out
     (ap (fate_by tag v e.clients) (sym told))
     (ap (λ r. state_of (record e { clients = r })) c.in-Refused.ensures.stays)
     (is_nothing c.nothing-in-Refused.result c.nothing-in-Refused.ensures)

@@ -1,18 +1,9 @@
-use Rattle.std.proofs.Common.{rules, sym}
+use Rattle.std.specs.Prelude.{None}
 use Rattle.compound_run.specs.State.{Call}
-use Rattle.compound_run.specs.Views.{args_of, state_of}
-use Rattle.compound_run.proofs.Replying.{answers_call}
+use Rattle.compound_run.proofs.Replying.{recorded_so}
 use Rattle.compound_run.proofs.server.Server.run_recorded.Goals as goal
 
 pub returns : goal.returns
 returns g c =
-    let h = c.answer_in_session.ensures.answers in
     let call : Call = record { arguments = c.args.args.bytes.now; record_len = c.args.args.record_len; caller = c.args.caller.now; now = c.args.now } in
-    record {
-      answers = (
-        h.0,
-        answers_call c.args.self.now (state_of c.self.inside.realm) c.answer_in_session.result (state_of c.answer_in_session.new.self) call (args_of c.in-Some.compound) c.in-Some.compound.operations.now h.0 (sym c.self.view_is) (search rules) h.1,
-        h.2,
-        h.3,
-      );
-    }
+    record { answers = recorded_so None c.args.self.now call c.run_delaying.result c.args.out.now c.run_delaying.new.out c.run_delaying.new.self c.run_delaying.ensures.answers }
