@@ -23,3 +23,4 @@ pub mod OpensOf
 pub mod Staying
 pub mod InSession
 pub mod Replying
+pub mod Numbered

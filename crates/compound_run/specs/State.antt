@@ -50,6 +50,10 @@ restored w k book capacity = record {
 abbrev pub known_of : State → Known
 known_of s = record { registry = s.realm.registry; opens = s.realm.opens; next_open = s.realm.next_open }
 
+-- no line was written yet, as after a start
+abbrev pub without_lines : State → State
+without_lines s = record s { trail = []; total = 0 }
+
 -- the numbers that the next client, session and open file get
 abbrev pub next_numbers : State → NextNumbers
 next_numbers s =

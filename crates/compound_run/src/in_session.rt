@@ -14,7 +14,7 @@ ghost use Rattle.compound_run.specs.SessionViews.{AnswersComing, AnswersSequence
 ghost use Rattle.compound_run.specs.SessionViews.{coming_behind, sequence_told};
 ghost use Rattle.compound_run.specs.Compound.{series};
 ghost use Rattle.compound_run.specs.Beginning.{beginning};
-ghost use Rattle.compound_run.specs.Replaying.{ready_for};
+ghost use Rattle.compound_run.specs.Replaying.{IsNumberedFor, ready_for};
 
 use crate::compound::{CompoundArgs, Ended, ToRun};
 use crate::context::{Calling, Context};
@@ -216,6 +216,8 @@ impl<A: Allocator + Copy> Realm<A> {
         requires room { limits.MAX_RESULTS ≤ out.old.room }
         ensures answers { WritesWithin limits.MAX_RESULTS
             (λ bytes. AnswersComing call.entry (state_of self.old) bytes result (state_of self.new)) out.old out.new }
+        ensures numbered { IsNumberedFor (beginning call.entry.compound.minor_version call.entry.compound.count
+            call.entry.compound.operations.now) }
         ensures settled { self.new.tree.log.held ≡ [] }
     {
         let compound = call.compound;

@@ -11,10 +11,11 @@ ghost use Rattle.compound_run.specs.InSession.{AnswersInSession};
 ghost use Rattle.compound_run.specs.Known.{opens_fit};
 ghost use Rattle.compound_run.specs.Limits as limits;
 ghost use Rattle.compound_run.specs.Recorded.{RunsRecorded};
-ghost use Rattle.compound_run.specs.Replaying.{ready, ready_of};
+ghost use Rattle.compound_run.specs.Replaying.{IsNumbered, ready, ready_of};
 ghost use Rattle.compound_run.specs.Compound.{args_form, args_in};
 ghost use Rattle.xdr_wire.specs.Reading.{read_at};
 ghost use Rattle.compound_run.specs.State.{fresh, next_numbers, restored, with_book, with_notes, without_client};
+ghost use Rattle.compound_run.specs.State.{without_lines};
 ghost use Rattle.compound_run.specs.State.{Answers, RunsBare};
 ghost use Rattle.compound_run.specs.Views.{called, opens_view};
 
@@ -230,7 +231,7 @@ impl<A: Allocator + Copy> Server<A> {
 
     /// Runs a COMPOUND as [`Server::run`] does, and returns the facts that a record of the call needs.
     /// `None`: the tag, the minor version or the number of operations can't be read, and there are no
-    /// results.
+    /// results. The sequence ID in the bytes of a call is a number of 32 bits (`numbered`).
     pub fn run_recorded(
         &mut self,
         args: Args<'_>,
@@ -241,13 +242,14 @@ impl<A: Allocator + Copy> Server<A> {
         requires whole { length args.bytes.now ≤ args.record_len }
         requires room { limits.MAX_RESULTS ≤ out.old.room }
         ensures answers { RunsRecorded self.old (called args.entry caller.now now) result out.old out.new self.new }
+        ensures numbered { IsNumbered (called args.entry caller.now now) }
     {
         self.run_delaying(args, caller, now, None, out)
     }
 
     /// Runs a COMPOUND as [`Server::run`] does. Memory is refused to the operation at a place after
     /// SEQUENCE, if one is named.
-    #[tactic(auto, unfolding(crate::specs::InSession::fate))]
+    #[tactic(auto, unfolding(crate::specs::InSession::fate, crate::specs::Replaying::IsNumbered))]
     fn run_delaying(
         &mut self,
         args: Args<'_>,
@@ -260,6 +262,7 @@ impl<A: Allocator + Copy> Server<A> {
         requires room { limits.MAX_RESULTS ≤ out.old.room }
         ensures answers { RunsDelaying refused self.old (called args.entry caller.now now) result out.old out.new
             self.new }
+        ensures numbered { IsNumbered (called args.entry caller.now now) }
     {
         let Some(compound) = CompoundArgs::read(args.bytes) else {
             return None;
@@ -293,6 +296,7 @@ impl<A: Allocator + Copy> Server<A> {
         requires room { limits.MAX_RESULTS ≤ out.old.room }
         ensures answers { RunsDelaying delayed (ready (called args.entry caller.now now) self.old)
             (called args.entry caller.now now) result out.old out.new self.new }
+        ensures numbered { IsNumbered (called args.entry caller.now now) }
     {
         self.lag(args);
         self.run_delaying(args, caller, now, delayed, out)
@@ -396,6 +400,21 @@ impl<A: Allocator + Copy> Server<A> {
         ensures { result.now ≡ self.now.realm.world }
     {
         self.realm.tree.tree()
+    }
+
+    /// Forgets the lines of the trail, and counts from 0 again. So the lines of calls that were run
+    /// again at a start don't come twice. It takes no memory.
+    pub fn forget_lines(&mut self)
+        ensures { self.new ≡ without_lines self.old }
+    {
+        self.realm.tree.forget();
+    }
+
+    /// The book of names.
+    pub fn book(&self) -> &Book
+        ensures { result.now ≡ self.now.settings.book }
+    {
+        self.realm.tree.book()
     }
 
     /// The guard, with the trail. Its remembered summaries are those of the lists now.
