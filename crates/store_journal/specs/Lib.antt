@@ -1,0 +1,4 @@
+pub mod Current
+pub mod Digest
+pub mod Disk
+pub mod Frames

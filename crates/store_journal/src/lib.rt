@@ -1,0 +1,16 @@
+//! A journal in two files and a CURRENT that says which of them counts: checkpoints, and records after them.
+#![tactic(auto)]
+
+mod current;
+mod digest;
+mod disk;
+mod fault;
+mod frames;
+mod head;
+
+pub use current::Current;
+pub use digest::Identity;
+pub use disk::{Disk, LoadFault, Slot};
+pub use fault::{JournalFault, OpenFault};
+pub use frames::{Frame, Frames, Place};
+pub use head::Head;
