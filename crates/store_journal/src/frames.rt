@@ -10,6 +10,18 @@ use xdr_wire::{Opaque, Reader, Wire};
 /// The most bytes of a body.
 pub(crate) const MAX_BODY: u32 = 67_108_864;
 
+/// The kind of a frame that is a part of a checkpoint.
+pub(crate) const PART: u64 = 0;
+
+/// The kind of the frame that ends a checkpoint.
+pub(crate) const END: u64 = 1;
+
+/// The kind of a frame that is a record.
+pub(crate) const RECORD: u64 = 2;
+
+/// The kind of a frame that says that all before it is safe.
+pub(crate) const MARK: u64 = 3;
+
 /// Where a frame stands among those of its generation.
 #[derive(Clone, Copy, Debug, PartialEq, Eq)]
 pub struct Place {

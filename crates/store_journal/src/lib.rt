@@ -7,6 +7,8 @@ mod disk;
 mod fault;
 mod frames;
 mod head;
+mod journal;
+mod writing;
 
 pub use current::Current;
 pub use digest::Identity;
@@ -14,3 +16,5 @@ pub use disk::{Disk, LoadFault, Slot};
 pub use fault::{JournalFault, OpenFault};
 pub use frames::{Frame, Frames, Place};
 pub use head::Head;
+pub use journal::Journal;
+pub use writing::Position;
