@@ -1,2 +1,5 @@
-pub mod Placing
+pub mod Choosing
 pub mod Fronts
+pub mod Gathering
+pub mod LaterHeads
+pub mod Placing

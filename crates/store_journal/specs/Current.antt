@@ -7,8 +7,8 @@ use Rattle.store_journal.specs.declared.current.CurrentForm.{CurrentForm}
 use Rattle.store_journal.specs.declared.digest.Identity.{Identity}
 use Rattle.store_journal.specs.declared.disk.Slot.{Slot}
 use Rattle.store_journal.specs.declared.disk.Slot.TheVariants.{A, B}
-use Rattle.store_journal.specs.declared.fault.OpenFault.{OpenFault}
-use Rattle.store_journal.specs.declared.fault.OpenFault.TheVariants.{Version, Damaged}
+use Rattle.store_journal.specs.declared.fault.CurrentFault.{CurrentFault}
+use Rattle.store_journal.specs.declared.fault.CurrentFault.TheVariants.{Version, Damaged}
 use Rattle.store_journal.specs.Digest.{current_digest}
 use Rattle.store_journal.specs.Disk.{Bytes, other}
 
@@ -73,24 +73,24 @@ with_slot c s = record {
   machine = c.machine;
 }
 
-abbrev pub in_known_slot : CurrentForm → Result Current OpenFault
+abbrev pub in_known_slot : CurrentForm → Result Current CurrentFault
 in_known_slot c =
     if c.slot == 0 then Ok (with_slot c A) else if c.slot == 1 then Ok (with_slot c B) else Err Damaged
 
 -- Its digest is looked at before its version, so that rot is never taken for another version.
-abbrev pub of_form : CurrentForm → ℕ → ℕ → Result Current OpenFault
+abbrev pub of_form : CurrentForm → ℕ → ℕ → Result Current CurrentFault
 of_form c digest left =
     if left == 0 then
     (if digest == current_digest c then (if c.version == VERSION then in_known_slot c else Err Version) else Err Damaged)
     else Err Damaged
 
-abbrev pub of_read : Read (Value current_form) → Result Current OpenFault
+abbrev pub of_read : Read (Value current_form) → Result Current CurrentFault
 of_read (Ok x) = of_form (numbers_of x.0.0) x.0.1 (length x.1)
 of_read (Err e) = Err Damaged
 
 -- What CURRENT says: these bytes are all of it. `Version` where it is whole and of another version, and `Damaged`
 -- where it isn't whole.
-unfoldable pub current_in : Bytes → Result Current OpenFault
+unfoldable pub current_in : Bytes → Result Current CurrentFault
 current_in bytes = of_read (read_at current_form bytes)
 
 -- ---- the next ones
@@ -110,11 +110,11 @@ begun_next c = record {
 }
 
 -- the generation that was begun last counts, in the other file
-abbrev pub turned_to_begun : Current → Current
-turned_to_begun c = record {
+abbrev pub turned_to_begun : Current → ℕ → Current
+turned_to_begun c machine = record {
   identity = c.identity;
   generation = c.begun;
   begun = c.begun;
   slot = other c.slot;
-  machine = c.machine;
+  machine = machine;
 }

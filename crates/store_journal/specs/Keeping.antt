@@ -1,15 +1,14 @@
 -- Each call of a journal is given by its result, its acts of a disk, and the journal after it.
-use Rattle.std.specs.Prelude.{◌≡◌, ◌≢◌, ◌⊎◌, ◌<◌, ℕ, Bool, true, false, [], length, Option, Some, None, Result, Ok, Err}
+use Rattle.std.specs.Prelude.{◌≡◌, ◌≢◌, ◌⊎◌, ◌<◌, ℕ, Bool, true, false, [], ◌++◌, length, Option, Some, None, Result, Ok, Err}
 use Rattle.store_journal.specs.declared.current.Current.{Current}
-use Rattle.store_journal.specs.declared.digest.Identity.{Identity}
 use Rattle.store_journal.specs.declared.disk.Slot.{Slot}
 use Rattle.store_journal.specs.declared.fault.JournalFault.{JournalFault}
 use Rattle.store_journal.specs.declared.fault.JournalFault.TheVariants.{TooLong, Memory, Full, NoCheckpoint, Failed}
 use Rattle.store_journal.specs.declared.journal.Journal.{Journal}
 use Rattle.store_journal.specs.declared.writing.Position.{Position}
-use Rattle.store_journal.specs.Current.{new_current, begun_next, turned_to_begun, current_bytes, IsFitCurrent}
-use Rattle.store_journal.specs.Disk.{Wrote, Tore, Synced, Unsynced, Turned, Unturned, other}
-use Rattle.store_journal.specs.Frames.{Frame, END, MAX_BODY, frame_with, IsFit}
+use Rattle.store_journal.specs.Current.{begun_next, turned_to_begun, current_bytes, IsFitCurrent}
+use Rattle.store_journal.specs.Disk.{Bytes, Wrote, Tore, Synced, Unsynced, Turned, Unturned, other}
+use Rattle.store_journal.specs.Frames.{Frame, END, MAX_BODY, frame_with, IsFit, log_end}
 use Rattle.store_journal.specs.Passage.{Passage, Unchanged, Once, Twice, Thrice}
 use Rattle.store_journal.specs.Writing.{at_start, next_position, ended, IsLast}
 
@@ -19,9 +18,13 @@ abbrev pub journal_with : Current → Position → Option Position → Bool → 
 journal_with current position next failed =
     record { current = current; position = position; next = next; has_failed = failed }
 
--- that of a new store
-abbrev pub new_journal : Identity → ℕ → Journal
-new_journal id machine = journal_with (new_current id machine) (at_start 0) None false
+-- one of which no checkpoint was finished yet
+abbrev pub new_journal : Current → Journal
+new_journal c = journal_with c (at_start 0) None false
+
+-- one that goes on after frames
+abbrev pub resumed : Current → Position → Journal
+resumed c position = journal_with c position None false
 
 -- nothing more is asked of the disk
 abbrev pub failed : Journal → Journal
@@ -44,9 +47,9 @@ abbrev pub end_frame : Frame
 end_frame = frame_with END []
 
 -- the checkpoint that was written counts
-abbrev pub with_checkpoint : Journal → Position → Journal
-with_checkpoint j e =
-    journal_with (turned_to_begun j.current) (next_position j.current.identity e end_frame) None false
+abbrev pub with_checkpoint : Journal → ℕ → Position → Journal
+with_checkpoint j machine e =
+    journal_with (turned_to_begun j.current machine) (next_position j.current.identity e end_frame) None false
 
 -- the disk had failed before: it isn't called
 abbrev pub HadFailed : {D : Type 0} → Passage D → Journal → Journal → Type 0
@@ -123,37 +126,37 @@ PartGives p j f (Err NoCheckpoint) j' = (j.next ≡ None) × IsAsBefore p j j'
 PartGives p j f (Err Failed) j' = HadFailed p j j' ⊎ PartTorn p j f j'
 
 -- The checkpoint's end is written, its file is synced, and only then CURRENT is turned to it.
-pub record Finished {D : Type 0} (p : Passage D) (j j' : Journal) : Type 0 where
+pub record Finished {D : Type 0} (p : Passage D) (machine : ℕ) (j j' : Journal) : Type 0 where
   pub at : Position
   pub is_begun : j.next ≡ Some at
   pub acts : Thrice p (Wrote (other j.current.slot) at.at (ended j.current.identity at end_frame))
-      (Synced (other j.current.slot)) (Turned (current_bytes (turned_to_begun j.current)))
+      (Synced (other j.current.slot)) (Turned (current_bytes (turned_to_begun j.current machine)))
   pub fit : IsFit j.current.identity at.place end_frame
-  pub fit_current : IsFitCurrent (turned_to_begun j.current)
+  pub fit_current : IsFitCurrent (turned_to_begun j.current machine)
   pub going : j.has_failed ≡ false
-  pub then_is : j' ≡ with_checkpoint j at
+  pub then_is : j' ≡ with_checkpoint j machine at
 
 -- one of the three has failed, after those before it
-pub record Unfinished {D : Type 0} (p : Passage D) (j j' : Journal) : Type 0 where
+pub record Unfinished {D : Type 0} (p : Passage D) (machine : ℕ) (j j' : Journal) : Type 0 where
   pub at : Position
   pub is_begun : j.next ≡ Some at
   pub acts : Once p (Tore (other j.current.slot) at.at (ended j.current.identity at end_frame))
       ⊎ (Twice p (Wrote (other j.current.slot) at.at (ended j.current.identity at end_frame))
       (Unsynced (other j.current.slot))
       ⊎ Thrice p (Wrote (other j.current.slot) at.at (ended j.current.identity at end_frame))
-      (Synced (other j.current.slot)) (Unturned (current_bytes (turned_to_begun j.current))))
+      (Synced (other j.current.slot)) (Unturned (current_bytes (turned_to_begun j.current machine))))
   pub fit : IsFit j.current.identity at.place end_frame
-  pub fit_current : IsFitCurrent (turned_to_begun j.current)
+  pub fit_current : IsFitCurrent (turned_to_begun j.current machine)
   pub going : j.has_failed ≡ false
   pub then_is : j' ≡ failed j
 
-abbrev pub FinishGives : {D : Type 0} → Passage D → Journal → Result (Unit {0}) JournalFault → Journal → Type 0
-FinishGives p j (Ok done) j' = Finished p j j'
-FinishGives p j (Err TooLong) j' = ⊥
-FinishGives p j (Err Memory) j' = IsAsBefore p j j'
-FinishGives p j (Err Full) j' = HasNoMore j × IsAsBefore p j j'
-FinishGives p j (Err NoCheckpoint) j' = (j.next ≡ None) × IsAsBefore p j j'
-FinishGives p j (Err Failed) j' = HadFailed p j j' ⊎ Unfinished p j j'
+abbrev pub FinishGives : {D : Type 0} → Passage D → ℕ → Journal → Result (Unit {0}) JournalFault → Journal → Type 0
+FinishGives p machine j (Ok done) j' = Finished p machine j j'
+FinishGives p machine j (Err TooLong) j' = ⊥
+FinishGives p machine j (Err Memory) j' = IsAsBefore p j j'
+FinishGives p machine j (Err Full) j' = HasNoMore j × IsAsBefore p j j'
+FinishGives p machine j (Err NoCheckpoint) j' = (j.next ≡ None) × IsAsBefore p j j'
+FinishGives p machine j (Err Failed) j' = HadFailed p j j' ⊎ Unfinished p machine j j'
 
 -- a fault of a frame that is written
 abbrev pub noted : JournalFault → Journal → Journal
@@ -162,3 +165,22 @@ noted Memory j = j
 noted Full j = j
 noted NoCheckpoint j = j
 noted Failed j = failed j
+
+-- ---- going on after a start
+
+-- The last frame that was found is written again with the end of the log behind it, its file is synced, and CURRENT is
+-- turned to what it says. Only then the journal goes on.
+abbrev pub ResumeGives : {D : Type 0} → Passage D → Current → Position → ℕ → Bytes
+    → Result Journal JournalFault → Type 0
+ResumeGives p c position last_at last (Ok j) =
+    Thrice p (Wrote c.slot last_at (last ++ log_end)) (Synced c.slot) (Turned (current_bytes c))
+    × IsFitCurrent c × (j ≡ resumed c position)
+ResumeGives p c position last_at last (Err TooLong) = ⊥
+ResumeGives p c position last_at last (Err Memory) = Unchanged p
+ResumeGives p c position last_at last (Err Full) = ⊥
+ResumeGives p c position last_at last (Err NoCheckpoint) = ⊥
+ResumeGives p c position last_at last (Err Failed) =
+    Once p (Tore c.slot last_at (last ++ log_end))
+    ⊎ (Twice p (Wrote c.slot last_at (last ++ log_end)) (Unsynced c.slot)
+    ⊎ (Thrice p (Wrote c.slot last_at (last ++ log_end)) (Synced c.slot) (Unturned (current_bytes c))
+    × IsFitCurrent c))

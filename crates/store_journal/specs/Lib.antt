@@ -1,7 +1,9 @@
 pub mod Current
 pub mod Digest
 pub mod Disk
+pub mod Files
 pub mod Frames
 pub mod Keeping
+pub mod Opening
 pub mod Passage
 pub mod Writing

@@ -6,7 +6,7 @@ ghost use Rattle.store_journal.specs.Disk.{other};
 
 use crate::digest::{Identity, current_digest_of};
 use crate::disk::Slot;
-use crate::fault::OpenFault;
+use crate::fault::CurrentFault;
 use std::alloc::{AllocError, Allocator};
 use xdr_wire::{Full, Reader, Spell, Wire, Writer, XdrFault};
 
@@ -55,8 +55,8 @@ pub(crate) fn other_slot(slot: Slot) -> Slot
 }
 
 impl Current {
-    /// That of a new store.
-    pub(crate) fn new(identity: Identity, machine: u64) -> Self
+    /// That of a new store. Its identity is drawn once, at random.
+    pub fn new(identity: Identity, machine: u64) -> Self
         ensures { result ≡ new_current identity machine }
     {
         Current {
@@ -80,12 +80,13 @@ impl Current {
     }
 
     /// The generation that was begun last counts, in the other file.
-    pub(crate) fn turn_to_begun(self) -> Self
-        ensures { result ≡ turned_to_begun self }
+    pub(crate) fn turn_to_begun(self, machine: u64) -> Self
+        ensures { result ≡ turned_to_begun self machine }
     {
         Current {
             generation: self.begun,
             slot: other_slot(self.slot),
+            machine,
             ..self
         }
     }
@@ -125,13 +126,13 @@ impl Current {
 
 impl CurrentForm {
     /// What it says, in a file that is known.
-    fn in_known_slot(self) -> Result<Current, OpenFault>
+    fn in_known_slot(self) -> Result<Current, CurrentFault>
         ensures { result ≡ in_known_slot self }
     {
         let slot = match self.slot {
             0 => Slot::A,
             1 => Slot::B,
-            _ => return Err(OpenFault::Damaged),
+            _ => return Err(CurrentFault::Damaged),
         };
         Ok(Current {
             identity: Identity {
@@ -148,21 +149,21 @@ impl CurrentForm {
 
 /// What CURRENT says. `Version`: it is whole, and of another version. `Damaged`: it isn't whole.
 #[tactic(auto, unfolding(crate::specs::Current::current_in))]
-pub(crate) fn read_current(bytes: &[u8]) -> Result<Current, OpenFault>
+pub(crate) fn read_current(bytes: &[u8]) -> Result<Current, CurrentFault>
     ensures { result ≡ current_in bytes.now }
 {
     let mut reader = Reader::new(bytes);
     let Ok((form, digest)) = <(CurrentForm, u64)>::read(&mut reader) else {
-        return Err(OpenFault::Damaged);
+        return Err(CurrentFault::Damaged);
     };
     if reader.len() != 0 {
-        return Err(OpenFault::Damaged);
+        return Err(CurrentFault::Damaged);
     }
     if digest != current_digest_of(form) {
-        return Err(OpenFault::Damaged);
+        return Err(CurrentFault::Damaged);
     }
     if form.version != VERSION {
-        return Err(OpenFault::Version);
+        return Err(CurrentFault::Version);
     }
     form.in_known_slot()
 }

@@ -18,6 +18,17 @@ pub enum OpenFault {
     Memory,
 }
 
+/// Why CURRENT can't be used.
+#[derive(Clone, Copy, Debug, PartialEq, Eq, Error)]
+pub enum CurrentFault {
+    /// It is whole, and has another version.
+    #[error("another version")]
+    Version,
+    /// It isn't whole.
+    #[error("damaged")]
+    Damaged,
+}
+
 /// Why something isn't written.
 #[derive(Clone, Copy, Debug, PartialEq, Eq, Error)]
 pub enum JournalFault {

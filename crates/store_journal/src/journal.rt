@@ -5,7 +5,6 @@ ghost use Rattle.store_journal.specs.Keeping.{AppendGives, BeginGives, FinishGiv
 ghost use Rattle.store_journal.specs.Passage.{passage};
 
 use crate::current::{Current, other_slot};
-use crate::digest::Identity;
 use crate::disk::Disk;
 use crate::fault::JournalFault;
 use crate::frames::{END, Frame, MARK, PART, RECORD};
@@ -26,12 +25,12 @@ pub struct Journal {
 }
 
 impl Journal {
-    /// That of a new store, of which nothing stands on the disk. Nothing is read or written.
-    pub fn new(identity: Identity, machine: u64) -> Self
-        ensures { result ≡ new_journal identity machine }
+    /// One of which no checkpoint was finished yet, as of a new store. Nothing is read or written.
+    pub fn new(current: Current) -> Self
+        ensures { result ≡ new_journal current }
     {
         Journal {
-            current: Current::new(identity, machine),
+            current,
             position: Position::start(0),
             next: None,
             has_failed: false,
@@ -165,14 +164,15 @@ impl Journal {
         Ok(())
     }
 
-    /// Ends the checkpoint that was begun, syncs its file, and turns CURRENT to it. From then on it
-    /// counts, and records come after it.
+    /// Ends the checkpoint that was begun, syncs its file, and turns CURRENT to it, with this number of the caller's.
+    /// From then on it counts, and records come after it.
     pub fn finish<D: Disk, A: Allocator + Copy>(
         &mut self,
         disk: &mut D,
         alloc: A,
+        machine: u64,
     ) -> Result<(), JournalFault>
-        ensures { FinishGives (passage D.adds disk.old disk.new) self.old result self.new }
+        ensures { FinishGives (passage D.adds disk.old disk.new) machine self.old result self.new }
     {
         if self.has_failed {
             return Err(JournalFault::Failed);
@@ -180,7 +180,7 @@ impl Journal {
         let Some(at) = self.next else {
             return Err(JournalFault::NoCheckpoint);
         };
-        let current = self.current.turn_to_begun();
+        let current = self.current.turn_to_begun(machine);
         let Ok(writer) = current.bytes(alloc) else {
             return Err(JournalFault::Memory);
         };

@@ -20,7 +20,7 @@ use xdr_wire::{Spell, Writer};
 const FRONT: usize = 7 * 8 + 8 + 4;
 
 /// The zero bytes that end the log.
-const LOG_END: usize = 8;
+pub(crate) const LOG_END: usize = 8;
 
 /// The most bytes of a file before its last frame.
 const MOST: u64 = 1 << 62;
@@ -84,7 +84,7 @@ fn front_of<A: Allocator>(alloc: A, head: Head, digest: u64, len: u32) -> Result
 }
 
 /// This many zero bytes.
-fn zeros(count: usize) -> &'static [u8]
+pub(crate) fn zeros(count: usize) -> &'static [u8]
     requires { count ≤ 12 }
     ensures { result.now ≡ replicate count 0 }
 {
