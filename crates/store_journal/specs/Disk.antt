@@ -36,7 +36,7 @@ other B = A
 
 -- ---- a file
 
-pub record Kept : Type 0 where
+pub record FileState : Type 0 where
   -- each crash leaves these bytes at the front of the file
   pub safe : Bytes
   -- these bytes stand at its front by what was written and read; what stands behind them isn't known
@@ -45,7 +45,7 @@ pub record Kept : Type 0 where
   pub touched : Bool
 
 -- a file that isn't there, or is empty
-abbrev pub untouched : Kept
+abbrev pub untouched : FileState
 untouched = record { safe = []; now = []; touched = false }
 
 -- the front that two lists of bytes share
@@ -60,11 +60,11 @@ over at bytes now = if nat_lt (length now) at then now else take at now ++ bytes
 
 -- A disk writes a sector whole or not at all. So safe bytes stay safe up to the first that a write changes: the old
 -- and the new sector agree on those before it.
-abbrev pub with_write : ℕ → Bytes → Kept → Kept
+abbrev pub with_write : ℕ → Bytes → FileState → FileState
 with_write at bytes d =
     record { safe = shared d.safe (over at bytes d.now); now = over at bytes d.now; touched = true }
 
-abbrev pub with_tear : ℕ → Bytes → Kept → Kept
+abbrev pub with_tear : ℕ → Bytes → FileState → FileState
 with_tear at bytes d =
     record {
       safe = shared d.safe (over at bytes d.now);
@@ -72,23 +72,23 @@ with_tear at bytes d =
       touched = true;
     }
 
-abbrev pub after_sync : Kept → Kept
+abbrev pub after_sync : FileState → FileState
 after_sync d = record { safe = d.now; now = d.now; touched = d.touched }
 
 -- What is read may have been written by a program that ended before its sync, or whose sync failed. No later sync
 -- keeps that, so only the safe bytes are known to last.
-abbrev pub after_reading : Kept → Kept
+abbrev pub after_reading : FileState → FileState
 after_reading d = record { safe = d.safe; now = d.safe; touched = d.touched }
 
 -- an act on one file does this to a file
-abbrev pub if_same : Slot → Slot → (Kept → Kept) → Kept → Kept
+abbrev pub if_same : Slot → Slot → (FileState → FileState) → FileState → FileState
 if_same A A f d = f d
 if_same A B f d = d
 if_same B A f d = d
 if_same B B f d = f d
 
 -- A file after these acts, the newest first. They are all that was ever done with it, over all starts.
-abbrev pub on_disk : Slot → List Act → Kept
+abbrev pub on_disk : Slot → List Act → FileState
 on_disk s [] = untouched
 on_disk s (Read bytes ∷ acts) = on_disk s acts
 on_disk s (Unread ∷ acts) = on_disk s acts
@@ -103,7 +103,7 @@ on_disk s (Unturned bytes ∷ acts) = on_disk s acts
 
 -- A crash leaves the safe bytes, and behind them any bytes, any number: writes may be lost, torn, reordered and
 -- spoiled, and older bytes may stand there. A file that was never written to is empty.
-pub record MayLeave (d : Kept) (file : Bytes) : Type 0 where
+pub record MayLeave (d : FileState) (file : Bytes) : Type 0 where
   pub more : Bytes
   pub is : file ≡ d.safe ++ more
   pub none : d.touched ≡ false → more ≡ []

@@ -1,8 +1,10 @@
+pub mod Crash
 pub mod Current
 pub mod Digest
 pub mod Disk
 pub mod Files
 pub mod Frames
+pub mod Journaled
 pub mod Keeping
 pub mod Opening
 pub mod Passage
