@@ -2,6 +2,7 @@ pub mod Choosing
 pub mod Fronts
 pub mod Gathering
 pub mod LaterHeads
+pub mod Left
 pub mod LogEnds
 pub mod Placing
 pub mod Standing

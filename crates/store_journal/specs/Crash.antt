@@ -24,6 +24,12 @@ pub data Phase : Type 0 where
   -- frames may be loose: a call failed, or nothing was written yet since a start
   Stuck : Phase
 
+-- what is read may be lost yet
+abbrev pub after_start : Phase → Phase
+after_start Settled = Settled
+after_start Going = Stuck
+after_start Stuck = Stuck
+
 -- frames with these bytes stand so in a file
 abbrev pub StandsSo : Phase → Bytes → Bytes → FileState → Type 0
 StandsSo Settled kept later d = (later ≡ []) × (d.safe ≡ kept ++ log_end) × (d.now ≡ kept ++ log_end)
