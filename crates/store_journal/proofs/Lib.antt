@@ -5,5 +5,6 @@ pub mod LaterHeads
 pub mod Left
 pub mod LogEnds
 pub mod Placing
+pub mod Rewritten
 pub mod Standing
 pub mod Written
