@@ -1,4 +1,5 @@
 pub mod Choosing
+pub mod CurrentForms
 pub mod Fronts
 pub mod Gathering
 pub mod LaterHeads

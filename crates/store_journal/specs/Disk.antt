@@ -106,7 +106,7 @@ on_disk s (Unturned bytes ∷ acts) = on_disk s acts
 pub record MayLeave (d : FileState) (file : Bytes) : Type 0 where
   pub more : Bytes
   pub is : file ≡ d.safe ++ more
-  pub none : d.touched ≡ false → more ≡ []
+  pub none : d.touched ≡ false → file ≡ []
 
 -- ---- CURRENT
 

@@ -1,10 +1,11 @@
 -- A journal after all that was ever done with its disk, and what a start finds of it after a crash.
-use Rattle.std.specs.Prelude.{◌≡◌, ◌≢◌, ◌⊎◌, ◌≤◌, ◌+◌, ℕ, true, false, List, [], ◌∷◌, ◌++◌, length, Option, Some, None, Ok}
+use Rattle.std.specs.Prelude.{◌≡◌, ◌≢◌, ◌⊎◌, ◌≤◌, ℕ, false, List, [], ◌∷◌, ◌++◌, length, Option, Some, None, Ok}
 use Rattle.store_journal.specs.declared.current.Current.{Current}
 use Rattle.store_journal.specs.declared.disk.Slot.{Slot}
 use Rattle.store_journal.specs.declared.disk.Slot.TheVariants.{A, B}
+use Rattle.store_journal.specs.declared.frames.Place.{Place}
 use Rattle.store_journal.specs.declared.writing.Position.{Position}
-use Rattle.store_journal.specs.Crash.{IsFront, Phase, Settled, Going, Stuck, IsWritten, Chance}
+use Rattle.store_journal.specs.Crash.{IsFront, Phase, Settled, IsWritten, Chance}
 use Rattle.store_journal.specs.Current.{current_in, current_bytes, IsFitCurrent}
 use Rattle.store_journal.specs.Disk.{Bytes, Act, on_disk, on_current, MayLeave, MayRead}
 use Rattle.store_journal.specs.Files.{Content, contents, records_in}
@@ -28,6 +29,13 @@ pub record IsLog (log : Log) (acts : List Act) : Type 0 where
   pub few : length log.later ≤ 1
   pub whole : contents log.kept ≡ Some log.content
   pub finished : log.current.generation ≢ 0
+
+-- where its next frame goes
+abbrev pub place_of : Log → Place
+place_of log = place_after log.current.identity (start log.current.generation) (log.kept ++ log.later)
+
+abbrev pub position_of : Log → Position
+position_of log = record { place = place_of log; at = log.at }
 
 -- the same with another number of the generation that was begun last
 abbrev pub at_begun : Current → ℕ → Current

@@ -8,4 +8,5 @@ pub mod Journaled
 pub mod Keeping
 pub mod Opening
 pub mod Passage
+pub mod Steps
 pub mod Writing
