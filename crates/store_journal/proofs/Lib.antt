@@ -8,4 +8,6 @@ pub mod LogEnds
 pub mod Placing
 pub mod Rewritten
 pub mod Standing
+pub mod Stepping
+pub mod Surviving
 pub mod Written
