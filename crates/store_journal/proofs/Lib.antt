@@ -7,6 +7,7 @@ pub mod Left
 pub mod LogEnds
 pub mod Placing
 pub mod Rewritten
+pub mod Served
 pub mod Standing
 pub mod Stepping
 pub mod Surviving

@@ -8,5 +8,6 @@ pub mod Journaled
 pub mod Keeping
 pub mod Opening
 pub mod Passage
+pub mod Serving
 pub mod Steps
 pub mod Writing
