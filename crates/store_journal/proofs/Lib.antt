@@ -1,3 +1,4 @@
+pub mod Checkpointed
 pub mod Choosing
 pub mod CurrentForms
 pub mod Fronts

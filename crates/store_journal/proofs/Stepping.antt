@@ -291,16 +291,16 @@ to_seen log (o ∷ logs) (inl this) = inl (ap seen this)
 to_seen log (o ∷ logs) (inr later) = inr (to_seen log logs later)
 
 -- a log that was seen is one of those
-record WasSeen (l : Log) (logs : List (Option Log)) : Type 0 where
-  was : Log
-  of_these : IsIn (Some was) logs
-  is : l ≡ with_phase was (after_start was.phase)
+pub record WasSeen (l : Log) (logs : List (Option Log)) : Type 0 where
+  pub was : Log
+  pub of_these : IsIn (Some was) logs
+  pub is : l ≡ with_phase was (after_start was.phase)
 
 of_one : (l : Log) (o : Option Log) (logs : List (Option Log)) → Some l ≡ seen o → WasSeen l (o ∷ logs)
 of_one l None logs this = absurd (none_isnt l this)
 of_one l (Some log) logs this = record { was = log; of_these = inl refl; is = some_is l (with_phase log (after_start log.phase)) this }
 
-of_seen : (l : Log) (logs : List (Option Log)) → IsIn (Some l) (all_seen logs) → WasSeen l logs
+pub of_seen : (l : Log) (logs : List (Option Log)) → IsIn (Some l) (all_seen logs) → WasSeen l logs
 of_seen l [] is = absurd is
 of_seen l (o ∷ logs) (inl this) = of_one l o logs this
 of_seen l (o ∷ logs) (inr later) =

@@ -1,5 +1,6 @@
 //! The laws of a journal: what a crash leaves of it at any moment, and what each act does to it.
 ghost use Rattle.store_journal.specs.Journaled.{CrashLaw, SettledLaw};
+ghost use Rattle.store_journal.specs.Serving.{AppendLaw, BeginLaw, EitherLaw, FinishLaw, FurtherLaw, RestartLaw};
 ghost use Rattle.store_journal.specs.Steps.{AdmitLaw, FirstLaw, FrameLaw, NewLaw, OtherLaw, PartLaw, ReadLaw};
 ghost use Rattle.store_journal.specs.Steps.{ResumeLaw, SyncLaw, TurnLaw, WholeLaw};
 
@@ -67,4 +68,35 @@ pub fn reading_leaves_a_journal()
 /// What a start goes on from is a journal again, once the last frame is written again.
 pub fn what_is_written_again_goes_on()
     ensures { ResumeLaw }
+{}
+
+/// After `append` and `mark` the frame is kept. Where the disk fails it may be.
+pub fn what_is_appended_is_kept()
+    ensures { AppendLaw }
+{}
+
+/// After `begin` the log that counts is as it was.
+pub fn a_checkpoint_that_is_begun_leaves_the_log()
+    ensures { BeginLaw }
+{}
+
+/// After `part` too.
+pub fn a_further_part_leaves_the_log()
+    ensures { FurtherLaw }
+{}
+
+/// After `finish` the new log counts. Where the disk fails it is the old one, or either.
+pub fn a_finished_checkpoint_counts()
+    ensures { FinishLaw }
+{}
+
+/// After `load`, `choose` and `resume` what was chosen is kept again, and the journal goes on after it, unless a digest
+/// fits by chance.
+pub fn a_start_goes_on_with_all()
+    ensures { RestartLaw }
+{}
+
+/// The order of two logs of which either may count says nothing.
+pub fn either_may_be_named_first()
+    ensures { EitherLaw }
 {}
