@@ -22,7 +22,7 @@ use Rattle.store_journal.specs.Serving.{of_acts, Follows, Matches, Serves, Stays
 use Rattle.store_journal.specs.Steps.{AreApart, IsOf, with_phase, with_later, all_kept, new_log, seen, all_seen}
 use Rattle.store_journal.specs.Writing.{ended, next_position}
 use Rattle.store_journal.proofs.Standing.{place_append}
-use Rattle.store_journal.proofs.Stepping.{first_law, part_law, whole_law, other_law, admit_law, turn_law, sync_law, read_law, resume_law, of_seen}
+use Rattle.store_journal.proofs.Stepping.{first_law, part_law, whole_law, other_law, admit_law, turn_law, sync_law, read_law, resume_law, of_seen, some_is, none_isnt}
 
 never_true : false ≡ true → ⊥
 never_true e = cc
@@ -50,12 +50,6 @@ part_written id generation s parts e acts f place_is (inl first) fit =
     subst (λ (ps : List Frame). IsWritten id generation [] (ps ++ f ∷ []) (e.at + length (framed id e.place f)) Going (on_disk s (Wrote s e.at (framed id e.place f ++ log_end) ∷ acts))) (sym first.0)
     (subst (λ (n : ℕ). IsWritten id generation [] (f ∷ []) (n + length (framed id e.place f)) Going (on_disk s (Wrote s n (framed id e.place f ++ log_end) ∷ acts))) (sym first.1)
     (subst (λ (x : Place). IsWritten id generation [] (f ∷ []) (0 + length (framed id x f)) Going (on_disk s (Wrote s 0 (framed id x f ++ log_end) ∷ acts))) (sym at_start) counted))
-
-some_is : (a b : Log) → Some a ≡ Some b → a ≡ b
-some_is a b e = cc
-
-none_isnt : (l : Log) → Some l ≡ None → ⊥
-none_isnt l e = cc
 
 -- the log that counts is in the journal's file
 in_its_file : (j : Journal) (log : Option Log) → Matches j log → (l : Log) → IsIn (Some l) (log ∷ []) → l.current.slot ≡ other (other j.current.slot)
@@ -158,9 +152,11 @@ finish_law j j' log machine parts content acts acts' (Ok done) w is gives =
       journal = (whole j log machine parts content acts w is fit gives.fit_current).0;
       matches = record { settled = refl; position_is = ap (λ (p : Place). position_with p at) place; current_is = refl };
       going = refl;
-    } in
-    (at, subst (λ (l : List Act). Serves j' (Some (made_log j machine frames content at)) l) (sym acts_are)
-        (subst (λ (x : Journal). Serves x (Some (made_log j machine frames content at)) (Turned (current_bytes c) ∷ Synced s ∷ end_acts j w.at acts)) (sym then_is) made))
+    } in (
+      at,
+      subst (λ (l : List Act). Serves j' (Some (made_log j machine frames content at)) l) (sym acts_are)
+          (subst (λ (x : Journal). Serves x (Some (made_log j machine frames content at)) (Turned (current_bytes c) ∷ Synced s ∷ end_acts j w.at acts)) (sym then_is) made),
+    )
 finish_law j j' log machine parts content acts acts' (Err TooLong) w is gives = absurd gives
 finish_law j j' log machine parts content acts acts' (Err Memory) w is gives = (gives.0, gives.1)
 finish_law j j' log machine parts content acts acts' (Err Full) w is gives = (gives.1.0, gives.1.1)

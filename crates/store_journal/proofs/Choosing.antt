@@ -36,11 +36,6 @@ within id p file frames rest at bytes l =
     let len : length file ≡ length l.before + (length bytes + length rest) = ap length l.file_is ∙ length-append l.before (bytes ++ rest) ∙ ap (λ (n : ℕ). length l.before + n) (length-append bytes rest) in
     omega (arith, len, l.at_is)
 
-pub fits_within : (id : Identity) (generation : ℕ) (file : Bytes) (place : Place) (rest : Bytes) (at : ℕ) (parts records : List Bytes) → IsRead id generation file place rest at true parts records → at + length rest ≤ length file
-fits_within id generation file place rest at parts records r =
-    let l = some_last id generation file place rest at parts records r in
-    omega (arith, within id (start generation) file r.frames rest at l.0 l.1)
-
 abbrev position_with : Place → ℕ → Position
 position_with place at = record { place = place; at = at }
 
@@ -58,19 +53,3 @@ chooses c file place rest at parts records last last_is sound r =
       last = subst (LastFrame c.identity (start c.generation) file r.frames rest at) bytes_are l.1;
       at_is = omega (arith, within c.identity (start c.generation) file r.frames rest at l.0 l.1, ap length bytes_are);
     }
-
-pub not_whole : (c : Current) (file : Bytes) (place : Place) (rest : Bytes) (at : ℕ) (whole : Bool) (parts records : List Bytes) → whole ≡ false → IsRead c.identity c.generation file place rest at whole parts records → IsDamaged c file
-not_whole c file place rest at whole parts records is r = record {
-  frames = r.frames;
-  rest = rest;
-  holds = r.holds;
-  wrong = inl (r.content ∙ ap (λ (w : Bool). if_whole w parts records) is);
-}
-
-pub rotten_file : (c : Current) (file : Bytes) (place : Place) (rest : Bytes) (at : ℕ) (whole : Bool) (parts records : List Bytes) → IsRotten c.identity place rest → IsRead c.identity c.generation file place rest at whole parts records → IsDamaged c file
-rotten_file c file place rest at whole parts records rotten r = record {
-  frames = r.frames;
-  rest = rest;
-  holds = r.holds;
-  wrong = inr (subst (λ (p : Place). IsRotten c.identity p rest) r.place_is rotten);
-}

@@ -21,7 +21,6 @@ use Rattle.store_journal.specs.Disk.{Bytes}
 if_same : (n : ℕ) (x y : Result Current CurrentFault) → (if n == n then x else y) ≡ x
 if_same n x y = grind (arith, nat_tests)
 
-
 known : (id : Identity) (generation begun machine : ℕ) (s : Slot) → in_known_slot (form_of (record { identity = id; generation = generation; begun = begun; slot = s; machine = machine })) ≡ Ok (record { identity = id; generation = generation; begun = begun; slot = s; machine = machine })
 known id generation begun machine A = refl
 known id generation begun machine B = refl

@@ -9,31 +9,8 @@ use Rattle.store_journal.specs.declared.digest.Identity.{Identity}
 use Rattle.store_journal.specs.declared.frames.Place.{Place}
 use Rattle.store_journal.specs.Disk.{Bytes}
 use Rattle.store_journal.specs.Files.{Content, LastFrame, IsRead, contents, after_those, joined_to, if_whole}
+use Rattle.store_journal.proofs.Standing.{took, place_append}
 use Rattle.store_journal.specs.Frames.{Frame, form, frame_at, frame_of, fitting, head_of, in_place, next_place, place_after, start, Stand}
-
--- a read took this
-record Took (r : Read (Value form)) (after : Bytes) : Type 0 where
-  value : Value form
-  is : r ≡ Ok (value, after)
-
-none_isnt_some : (p : Frame × Bytes) → None ≡ Some p → ⊥
-none_isnt_some p e = cc
-
-abbrev if_so : Bool → Option (Frame × Bytes) → Option (Frame × Bytes)
-if_so t x = if t then x else None
-
-picked : (t : Bool) (f g : Frame) (rest after : Bytes) → if_so t (Some (f, rest)) ≡ Some (g, after) → rest ≡ after
-picked true f g rest after is =
-    let both : (f, rest) ≡ (g, after) = cc in
-    ap (λ (p : Frame × Bytes). p.1) both
-picked false f g rest after is = absurd (none_isnt_some (g, after) is)
-
-took : (id : Identity) (p : Place) (r : Read (Value form)) (f : Frame) (after : Bytes) → fitting id p r ≡ Some (f, after) → Took r after
-took id p (Ok x) f after is = record {
-  value = x.0;
-  is = ap (λ (rest : Bytes). Ok (x.0, rest)) (picked (in_place id p (head_of x.0.0) x.0.1.0 x.0.1.1) (frame_of (head_of x.0.0) x.0.1.1) f x.1 after is);
-}
-took id p (Err e) f after is = absurd (none_isnt_some (f, after) is)
 
 -- the bytes end with what is left
 pub record Ends (bytes rest : Bytes) : Type 0 where
@@ -41,9 +18,8 @@ pub record Ends (bytes rest : Bytes) : Type 0 where
   pub is : bytes ≡ front ++ rest
 
 pub frame_ends : (id : Identity) (p : Place) (bytes : Bytes) (f : Frame) (after : Bytes) → frame_at id p bytes ≡ Some (f, after) → Ends bytes after
-unfolding frame_at
 frame_ends id p bytes f after is =
-    let t = took id p (read_at form bytes) f after is in
+    let t = took id p bytes f after is in
     let begins = begins_from_read form t.value bytes after t.is in
     record { front = begins.front; is = begins.parts }
 
@@ -80,10 +56,6 @@ begins_at id generation file place parts records place_is no_parts no_records =
     (subst (λ (l : List Bytes). Goes id generation file (start generation) file 0 0 false l records) (sym no_parts)
     (subst (λ (l : List Bytes). Goes id generation file (start generation) file 0 0 false [] l) (sym no_records) (begins id generation file)))
 
-pub place_append : (id : Identity) (p : Place) (xs ys : List Frame) → place_after id p (xs ++ ys) ≡ place_after id (place_after id p xs) ys
-place_append id p [] ys = refl
-place_append id p (x ∷ xs) ys = place_append id (next_place id p x) xs ys
-
 pub goes : (id : Identity) (generation : ℕ) (file : Bytes) (place next : Place) (rest after : Bytes) (last_at at at' : ℕ) (whole whole' : Bool) (parts parts' records records' : List Bytes) (f : Frame) → next ≡ next_place id place f → frame_at id place rest ≡ Some (f, after) → at' ≡ length file - length after → ((left : List Frame) → joined_to whole' parts' records' left ≡ joined_to whole parts records (f ∷ left)) → Goes id generation file place rest last_at at whole parts records → Goes id generation file next after at at' whole' parts' records'
 goes id generation file place next rest after last_at at at' whole whole' parts parts' records records' f is taken at'_is step g =
     let e = frame_ends id place rest f after taken in
@@ -99,16 +71,19 @@ goes id generation file place next rest after last_at at at' whole whole' parts 
       front = g.front ++ e.front;
       file_is = file_is;
       at_is = omega (arith, at'_is, ap length file_is, length-append (g.front ++ e.front) after);
-      last = inr (e.front, record {
-        others = g.before;
-        last = f;
-        frames_are = refl;
-        before = g.front;
-        file_is = g.file_is ∙ ap (λ (l : Bytes). g.front ++ l) e.is;
-        at_is = g.at_is;
-        others_stand = subst (Stand id (start generation) g.before file) e.is stand_before;
-        last_stands = ap (λ (p : Place). frame_at id p (e.front ++ after)) (sym g.place_is) ∙ ap (frame_at id place) (sym e.is) ∙ taken;
-      });
+      last = inr (
+        e.front,
+        record {
+          others = g.before;
+          last = f;
+          frames_are = refl;
+          before = g.front;
+          file_is = g.file_is ∙ ap (λ (l : Bytes). g.front ++ l) e.is;
+          at_is = g.at_is;
+          others_stand = subst (Stand id (start generation) g.before file) e.is stand_before;
+          last_stands = ap (λ (p : Place). frame_at id p (e.front ++ after)) (sym g.place_is) ∙ ap (frame_at id place) (sym e.is) ∙ taken;
+        },
+      );
     }
 
 pub ends : (id : Identity) (generation : ℕ) (file : Bytes) (place : Place) (rest : Bytes) (last_at at : ℕ) (whole : Bool) (parts records : List Bytes) → frame_at id place rest ≡ None → Goes id generation file place rest last_at at whole parts records → IsRead id generation file place rest last_at whole parts records

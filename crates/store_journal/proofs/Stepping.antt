@@ -41,10 +41,10 @@ on_another B B f d is = absurd (apart is)
 
 -- ---- names
 
-some_is : (a b : Log) → Some a ≡ Some b → a ≡ b
+pub some_is : (a b : Log) → Some a ≡ Some b → a ≡ b
 some_is a b e = cc
 
-none_isnt : (l : Log) → Some l ≡ None → ⊥
+pub none_isnt : (l : Log) → Some l ≡ None → ⊥
 none_isnt l e = cc
 
 -- a log of the same CURRENT is named by the same
@@ -129,8 +129,8 @@ frame_written : (id : Identity) (generation : ℕ) (kept later : List Frame) (at
     × IsWritten id generation kept (f ∷ []) (at + length (framed id (place_after id (start generation) (kept ++ later)) f)) Stuck (with_tear at (framed id (place_after id (start generation) (kept ++ later)) f ++ log_end) d)
 frame_written id generation kept later at phase d f w none settled fit =
     let P : List Frame → Type 0 = λ later. IsWritten id generation kept later at Settled d → IsFit id (place_after id (start generation) (kept ++ later)) f
-        → IsWritten id generation kept (f ∷ []) (at + length (framed id (place_after id (start generation) (kept ++ later)) f)) Going (with_write at (framed id (place_after id (start generation) (kept ++ later)) f ++ log_end) d)
-        × IsWritten id generation kept (f ∷ []) (at + length (framed id (place_after id (start generation) (kept ++ later)) f)) Stuck (with_tear at (framed id (place_after id (start generation) (kept ++ later)) f ++ log_end) d) in
+    → IsWritten id generation kept (f ∷ []) (at + length (framed id (place_after id (start generation) (kept ++ later)) f)) Going (with_write at (framed id (place_after id (start generation) (kept ++ later)) f ++ log_end) d)
+    × IsWritten id generation kept (f ∷ []) (at + length (framed id (place_after id (start generation) (kept ++ later)) f)) Stuck (with_tear at (framed id (place_after id (start generation) (kept ++ later)) f ++ log_end) d) in
     subst P (sym none) (λ v fits. (writes id generation kept [] at d f (goes_on id generation kept at d v) fits, tears id generation kept [] at d f (goes_on id generation kept at d v) fits))
     (subst (λ (x : Phase). IsWritten id generation kept later at x d) settled w) fit
 

@@ -81,7 +81,8 @@ in_known_slot c =
 abbrev pub of_form : CurrentForm → ℕ → ℕ → Result Current CurrentFault
 of_form c digest left =
     if left == 0 then
-    (if digest == current_digest c then (if c.version == VERSION then in_known_slot c else Err Version) else Err Damaged)
+    (if digest == current_digest c then (if c.version == VERSION then in_known_slot c else Err Version)
+    else Err Damaged)
     else Err Damaged
 
 abbrev pub of_read : Read (Value current_form) → Result Current CurrentFault

@@ -1,5 +1,6 @@
 -- Each call of a journal is given by its result, its acts of a disk, and the journal after it.
-use Rattle.std.specs.Prelude.{◌≡◌, ◌≢◌, ◌⊎◌, ◌<◌, ℕ, Bool, true, false, [], ◌++◌, length, Option, Some, None, Result, Ok, Err}
+use Rattle.std.specs.Prelude.{◌≡◌, ◌≢◌, ◌⊎◌, ◌<◌, ℕ, Bool, true, false, [], ◌++◌, length, Option, Some, None}
+use Rattle.std.specs.Prelude.{Result, Ok, Err}
 use Rattle.store_journal.specs.declared.current.Current.{Current}
 use Rattle.store_journal.specs.declared.disk.Slot.{Slot}
 use Rattle.store_journal.specs.declared.fault.JournalFault.{JournalFault}

@@ -6,7 +6,8 @@ use Rattle.store_journal.specs.declared.journal.Journal.{Journal}
 use Rattle.store_journal.specs.declared.writing.Position.{Position}
 use Rattle.store_journal.specs.Crash.{IsFront, Settled, Going, Stuck, IsWritten}
 use Rattle.store_journal.specs.Current.{turned_to_begun}
-use Rattle.store_journal.specs.Disk.{Bytes, Act, Read, Found, Wrote, Synced, other, on_disk, on_current, MayLeave, MayRead}
+use Rattle.store_journal.specs.Disk.{Bytes, Act, Read, Found, Wrote, Synced, other, on_disk, on_current}
+use Rattle.store_journal.specs.Disk.{MayLeave, MayRead}
 use Rattle.store_journal.specs.Files.{Content, contents}
 use Rattle.store_journal.specs.Frames.{Frame, place_after, start}
 use Rattle.store_journal.specs.Journaled.{Log, IsJournal, HasAll, at_begun, chance, position_of}

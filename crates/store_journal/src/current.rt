@@ -1,7 +1,7 @@
 //! CURRENT: which store this is, and which file and generation count.
 ghost use Rattle.std.specs.Prelude.{◌≡◌, ◌+◌, ◌<◌, ◌^◌, IfOk};
-ghost use Rattle.store_journal.specs.Current.{new_current, begun_next, turned_to_begun, form_of, in_known_slot, current_in};
-ghost use Rattle.store_journal.specs.Current.{current_bytes, IsFitCurrent};
+ghost use Rattle.store_journal.specs.Current.{new_current, begun_next, turned_to_begun, form_of, in_known_slot};
+ghost use Rattle.store_journal.specs.Current.{current_in, current_bytes, IsFitCurrent};
 ghost use Rattle.store_journal.specs.Disk.{other};
 
 use crate::digest::{Identity, current_digest_of};

@@ -84,7 +84,8 @@ impl Journal {
         alloc: A,
         bytes: &[u8],
     ) -> Result<(), JournalFault>
-        ensures { AppendGives (passage D.adds disk.old disk.new) self.old (frame_with RECORD bytes.now) result self.new }
+        ensures { AppendGives (passage D.adds disk.old disk.new) self.old (frame_with RECORD bytes.now) result
+            self.new }
     {
         let frame = Frame {
             kind: RECORD,

@@ -40,8 +40,9 @@ pub struct Chosen<'a, A: Allocator> {
     pub last: &'a [u8],
 }
 
-/// Loads CURRENT, and the file that it names. Where there is no CURRENT, both files have to be empty. `Version`: CURRENT
-/// is of another version. `Damaged`: CURRENT isn't whole, or it isn't there and a file isn't empty.
+/// Loads CURRENT, and the file that it names. Where there is no CURRENT, both files have to be
+/// empty. `Version`: CURRENT is of another version. `Damaged`: CURRENT isn't whole, or it isn't
+/// there and a file isn't empty.
 pub fn load<D: Disk, A: Allocator + Copy>(disk: &mut D, alloc: A) -> Result<Found<A>, OpenFault>
     ensures { MatchResult result
         (λ found. LoadsSo (passage D.adds disk.old disk.new) found.current found.bytes.items)
@@ -59,10 +60,7 @@ pub fn load<D: Disk, A: Allocator + Copy>(disk: &mut D, alloc: A) -> Result<Foun
 }
 
 /// Sees that both files are empty.
-fn load_none<D: Disk, A: Allocator + Copy>(
-    disk: &mut D,
-    alloc: A,
-) -> Result<Found<A>, OpenFault>
+fn load_none<D: Disk, A: Allocator + Copy>(disk: &mut D, alloc: A) -> Result<Found<A>, OpenFault>
     ensures { MatchResult result
         (λ found. NoFiles (passage D.adds disk.old disk.new) found.current found.bytes.items)
         (λ e. NoneFails (passage D.adds disk.old disk.new) e) }

@@ -27,7 +27,8 @@ impl Journal {
         let Ok(writer) = current.bytes(alloc) else {
             return Err(JournalFault::Memory);
         };
-        if !disk.write(current.slot, chosen.last_at, chosen.last, &[], zeros(LOG_END)) {
+        let log_end = zeros(LOG_END);
+        if !disk.write(current.slot, chosen.last_at, chosen.last, &[], log_end) {
             return Err(JournalFault::Failed);
         }
         if !disk.sync(current.slot) {

@@ -71,7 +71,12 @@ fn head_of(identity: Identity, place: Place, frame: Frame<'_>) -> Head
 }
 
 /// What stands before a frame's body.
-fn front_of<A: Allocator>(alloc: A, head: Head, digest: u64, len: u32) -> Result<Writer<A>, AllocError>
+fn front_of<A: Allocator>(
+    alloc: A,
+    head: Head,
+    digest: u64,
+    len: u32,
+) -> Result<Writer<A>, AllocError>
     ensures bytes { IfOk result (λ w. w.bytes ≡ spelling (pair head_form (pair hyper uint))
         (head_value head, (digest, len))) }
     ensures fit { IfOk result (λ w. HasSpelling (pair head_form (pair hyper uint)) (head_value head, (digest, len))) }

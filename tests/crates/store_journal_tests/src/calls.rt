@@ -18,7 +18,14 @@ fn a_call_out_of_turn_is_refused(rt: HostRuntime) -> Result<(), Fail> {
     assert!(rt; journal.finish(&mut disk, alloc, 4) == refused);
     assert_eq!(rt; disk.events.len(), 0);
     assert!(rt; checkpoint(alloc, &mut disk, &mut journal, 0).is_ok());
-    assert_eq!(rt; (journal.current.generation, journal.current.begun, journal.current.machine), (1, 1, 5));
+    assert_eq!(rt;
+        (
+            journal.current.generation,
+            journal.current.begun,
+            journal.current.machine
+        ),
+        (1, 1, 5)
+    );
     // A record gives up the checkpoint that was begun.
     assert!(rt; journal.begin(&mut disk, alloc).is_ok());
     assert!(rt; journal.append(&mut disk, alloc, &[1]).is_ok());

@@ -8,7 +8,8 @@ use std::process::Abort;
 use std::test::Fail;
 use store_journal::JournalFault;
 
-/// The first place at which a write changes what is on the disk. Up to it a crash leaves the bytes, since old and new agree.
+/// The first place at which a write changes what is on the disk. Up to it a crash leaves the bytes,
+/// since old and new agree.
 fn first_change(file: &[u8], at: usize, bytes: &[u8]) -> usize {
     for (place, byte) in bytes.iter().enumerate() {
         if file.get(at.saturating_add(place)) != Some(byte) {
@@ -102,8 +103,8 @@ pub(crate) fn bad_in(alloc: Global, disk: &Memory, most: u32) -> Result<u32, All
     Ok(bad)
 }
 
-/// Three checkpoints of a turn, three frames, a sync and a turn are 18 calls, seven records 14, a mark two, and one that
-/// is given up five.
+/// Three checkpoints of a turn, three frames, a sync and a turn are 18 calls. Seven records are 14, a mark two, and a
+/// checkpoint that is given up five.
 const CALLS: u32 = 39;
 
 #[test]

@@ -1,4 +1,4 @@
-//! Tests of `store_journal`: a disk in memory that drops, cuts, reorders and spoils what wasn't synced, and bytes that rot.
+//! Tests of `store_journal`: a disk in memory that drops, cuts, reorders and spoils what wasn't synced, and rot.
 #![tactic(auto)]
 
 #[cfg(test)]

@@ -18,7 +18,13 @@ struct Seen {
 }
 
 /// Turns each bit of some bytes of a file.
-fn turn_each(alloc: Global, image: &Image, slot: Slot, from: usize, to: usize) -> Result<Seen, AllocError> {
+fn turn_each(
+    alloc: Global,
+    image: &Image,
+    slot: Slot,
+    from: usize,
+    to: usize,
+) -> Result<Seen, AllocError> {
     let mut seen = Seen {
         refused: 0,
         all: 0,
@@ -44,6 +50,7 @@ fn turn_each(alloc: Global, image: &Image, slot: Slot, from: usize, to: usize) -
 
 /// The checkpoint's frames have 72, 96 and 68 bytes, and each record's frame 72: the first file counts after three.
 const CHECKPOINT: usize = 236;
+
 const RECORD: usize = 72;
 
 #[test]
@@ -53,10 +60,26 @@ fn each_bit_of_what_was_safe_is_told(rt: HostRuntime) -> Result<(), Fail> {
     assert_eq!(rt; number_in(alloc, &mut image.copy(alloc)?), 7);
     let safe = CHECKPOINT + RECORD;
     let first = turn_each(alloc, &image, Slot::A, 0, safe)?;
-    assert_eq!(rt; first, Seen { refused: safe as u32 * 8, all: 0, fronts: 0, wrong: 0 });
+    assert_eq!(rt;
+        first,
+        Seen {
+            refused: safe as u32 * 8,
+            all: 0,
+            fronts: 0,
+            wrong: 0
+        }
+    );
     // The last record looks like one that a crash tore.
     let last = turn_each(alloc, &image, Slot::A, safe, safe + RECORD)?;
-    assert_eq!(rt; last, Seen { refused: 0, all: 0, fronts: RECORD as u32 * 8, wrong: 0 });
+    assert_eq!(rt;
+        last,
+        Seen {
+            refused: 0,
+            all: 0,
+            fronts: RECORD as u32 * 8,
+            wrong: 0
+        }
+    );
     // Nothing behind it, and nothing of the other file, is looked at.
     let behind = turn_each(alloc, &image, Slot::A, safe + RECORD, image.a.len())?;
     assert_eq!(rt; (behind.refused, behind.fronts, behind.wrong), (0, 0, 0));
@@ -76,7 +99,15 @@ fn a_mark_tells_the_last_record_too(rt: HostRuntime) -> Result<(), Fail> {
     let image = left_of(alloc, &disk.before, &disk.events)?.safe;
     let safe = CHECKPOINT + 2 * RECORD;
     let first = turn_each(alloc, &image, Slot::A, 0, safe)?;
-    assert_eq!(rt; first, Seen { refused: safe as u32 * 8, all: 0, fronts: 0, wrong: 0 });
+    assert_eq!(rt;
+        first,
+        Seen {
+            refused: safe as u32 * 8,
+            all: 0,
+            fronts: 0,
+            wrong: 0
+        }
+    );
     Ok(())
 }
 

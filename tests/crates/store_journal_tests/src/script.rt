@@ -3,7 +3,9 @@
 use crate::image::Image;
 use crate::memory::Memory;
 use std::alloc::{AllocError, Allocator, Global};
-use store_journal::{Chosen, Current, Disk, Identity, Journal, JournalFault, OpenFault, choose, load};
+use store_journal::{
+    Chosen, Current, Disk, Identity, Journal, JournalFault, OpenFault, choose, load,
+};
 
 pub(crate) const IDENTITY: Identity = Identity {
     high: 0x0123_4567_89ab_cdef,
@@ -63,9 +65,21 @@ pub(crate) fn run(alloc: Global, disk: &mut Memory) -> Result<Journal, JournalFa
     append(alloc, disk, &mut journal)?;
     journal.begin(disk, alloc)?;
     journal.part(disk, alloc, &[9])?;
-    journal.part(disk, alloc, b"a longer part of a checkpoint that is given up")?;
-    journal.part(disk, alloc, b"and a further one, whose head stays behind the next checkpoint")?;
-    journal.part(disk, alloc, b"and one more, so that there is some length to it")?;
+    journal.part(
+        disk,
+        alloc,
+        b"a longer part of a checkpoint that is given up",
+    )?;
+    journal.part(
+        disk,
+        alloc,
+        b"and a further one, whose head stays behind the next checkpoint",
+    )?;
+    journal.part(
+        disk,
+        alloc,
+        b"and one more, so that there is some length to it",
+    )?;
     append(alloc, disk, &mut journal)?;
     checkpoint(alloc, disk, &mut journal, 5)?;
     append(alloc, disk, &mut journal)?;

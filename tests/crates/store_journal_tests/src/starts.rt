@@ -8,7 +8,8 @@ use std::alloc::{AllocError, Global};
 use std::process::Abort;
 use std::test::Fail;
 
-/// A start over what a crash left, two records and a checkpoint more, and a crash at each moment of it: what was read stays.
+/// A start over what a crash left, two records and a checkpoint more, and a crash at each moment of it. What was read
+/// stays.
 fn bad_starts(alloc: Global, image: &Image, most: u32) -> Result<u32, AllocError> {
     let number = number_in(alloc, &mut image.copy(alloc)?);
     let mut disk = Memory::new(alloc, image.copy(alloc)?, 1000);
@@ -17,7 +18,9 @@ fn bad_starts(alloc: Global, image: &Image, most: u32) -> Result<u32, AllocError
     let Some(mut journal) = start(alloc, &mut disk) else {
         return Ok(1);
     };
-    if journal.current.generation == 0 && checkpoint(alloc, &mut disk, &mut journal, number).is_err() {
+    if journal.current.generation == 0
+        && checkpoint(alloc, &mut disk, &mut journal, number).is_err()
+    {
         return Ok(1);
     }
     for _ in 0..2u32 {

@@ -1,6 +1,6 @@
 use Rattle.std.proofs.Common.{◌≡◌, ◌∙◌, true, false, Bool, map, subst, sym}
 use Rattle.store_journal.specs.Files.{IsRead}
-use Rattle.store_journal.proofs.Choosing.{chooses, not_whole, rotten_file}
+use Rattle.store_journal.proofs.Choosing.{chooses}
 use Rattle.store_journal.proofs.opening.choose.Goals as goal
 
 pub returns-clause-gives : goal.returns-clause-gives
