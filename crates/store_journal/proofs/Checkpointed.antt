@@ -14,7 +14,7 @@ use Rattle.store_journal.specs.Crash.{IsFront, Phase, Settled, Going, Stuck, IsW
 use Rattle.store_journal.specs.Current.{current_bytes, turned_to_begun, IsFitCurrent}
 use Rattle.store_journal.specs.Disk.{Bytes, Act, Read, Found, Wrote, Tore, Synced, Unsynced, Turned, Unturned, other, on_disk, on_current, MayRead, MayLeave}
 use Rattle.store_journal.specs.Files.{Content, contents, records_in}
-use Rattle.store_journal.specs.Frames.{Frame, IsFit, log_end, next_place, place_after, start, framed}
+use Rattle.store_journal.specs.Frames.{Frame, IsFit, log_end, next_place, place_after, start, framed, wiped}
 use Rattle.store_journal.specs.Journaled.{Log, IsLog, IsIn, IsJournal, Names, HasAll, at_begun, chance, place_of, position_of}
 use Rattle.store_journal.specs.Keeping.{PartGives, FinishGives, ResumeGives, Finished, with_part, with_checkpoint, end_frame}
 use Rattle.store_journal.specs.Opening.{Chooses}
@@ -210,7 +210,7 @@ restart_law j log others begun acts acts' found file content position last_at la
       | inl r ↦
           let c = at_begun log.current begun in
           let one = with_later log r.front position.at Going in
-          let wrote : List Act = Wrote log.current.slot last_at (last ++ log_end) ∷ acts1 in
+          let wrote : List Act = Wrote log.current.slot last_at (last ++ wiped) ∷ acts1 in
           let apart2 : AreApart one (all_seen others) wrote = record { there = apart1.there; elsewhere = apart1.elsewhere } in
           let kept = sync_law one (all_seen others) wrote r.wrote apart2 refl in
           let synced : List Act = Synced log.current.slot ∷ wrote in

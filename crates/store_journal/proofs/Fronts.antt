@@ -60,8 +60,8 @@ framed_length id p f =
     ∙ ap (λ (n : ℕ). length d + n) (length-append l (f.body ++ z) ∙ ap (λ (n : ℕ). length l + n) (length-append f.body z))) in
     omega (arith, parts, seven, eight (head_digest id h), four (length f.body), length-replicate {A = ℕ} (padding (length f.body)) 0)
 
-pub zeros_are : (n : ℕ) → n ≤ 12 → take {A = ℕ} n (replicate {A = ℕ} 12 0) ≡ replicate {A = ℕ} n 0
-zeros_are n most = take-replicate {X = ℕ} n 12 0 most
+pub zeros_are : (n : ℕ) → n ≤ 64 → take {A = ℕ} n (replicate {A = ℕ} 64 0) ≡ replicate {A = ℕ} n 0
+zeros_are n most = take-replicate {X = ℕ} n 64 0 most
 
 abbrev place_with : Place → ℕ → Place
 place_with p before = record { generation = p.generation; number = p.number + 1; before = before }

@@ -143,10 +143,12 @@ module _ (id : Identity) (generation : ℕ) (kept later : List Frame) (at : ℕ)
   pub behind : Stand id (start generation) kept left tail
   behind = subst (λ (b : Bytes). Stand id (start generation) kept b tail) (sym left_is) (w.kept_are tail)
 
-  ended : phase ≡ Settled → tail ≡ log_end ++ m.more
+  ended : phase ≡ Settled → (more : Bytes) × (tail ≡ log_end ++ more)
   ended settled =
-      let stands : StandsSo Settled w.kept_bytes w.later_bytes d = subst (λ (x : Phase). StandsSo x w.kept_bytes w.later_bytes d) settled w.stands in
-      ap (λ (l : Bytes). l ++ m.more) (append_cancel_left w.kept_bytes w.safe.more log_end (sym w.safe.is ∙ stands.1))
+      let stands : StandsSo Settled w.kept_bytes w.later_bytes d = subst (λ (x : Phase). StandsSo x w.kept_bytes w.later_bytes d) settled w.stands in (
+        stands.1.more ++ m.more,
+        ap (λ (l : Bytes). l ++ m.more) (append_cancel_left w.kept_bytes w.safe.more (log_end ++ stands.1.more) (sym w.safe.is ∙ stands.1.is)) ∙ append_assoc log_end stands.1.more m.more,
+      )
 
   module _ (frames : List Frame) (rest : Bytes) (holds : Holds id (start generation) left frames rest) where
     split : Splits id (start generation) kept frames tail rest
@@ -155,38 +157,36 @@ module _ (id : Identity) (generation : ℕ) (kept later : List Frame) (at : ℕ)
     pub stays : Stays kept later frames ⊎ Chance id generation kept later phase left
     stays = elim (front_or_fluke id (place_after id (start generation) kept) split.tail later tail rest split.holds) [
       | inl front ↦ inl (record { tail = split.tail; parts = split.parts; of_later = front })
-      | inr fluke ↦ inr (record { tail = tail; behind = behind; loose = λ settled. no_fluke id (place_after id (start generation) kept) later tail m.more (ended settled) fluke; fluke = inl fluke })
+      | inr fluke ↦ inr (record { tail = tail; behind = behind; loose = λ settled. no_fluke id (place_after id (start generation) kept) later tail (ended settled).0 (ended settled).1 fluke; fluke = inl fluke })
     ]
 
     settled_sound : phase ≡ Settled → IsRotten id (place_after id (start generation) frames) rest → ⊥
     settled_sound settled rotten = nothing split.tail split.holds.stand
       where
         nothing : (more : List Frame) → Stand id (place_after id (start generation) kept) more tail rest → ⊥
-        nothing [] stand = not_rotten id (place_after id (start generation) frames) rest m.more (stand ∙ ended settled) rotten
-        nothing (f ∷ more) stand = no_frame id (place_after id (start generation) kept) tail m.more f stand.0 (ended settled) stand.1
+        nothing [] stand = not_rotten id (place_after id (start generation) frames) rest (ended settled).0 (stand ∙ (ended settled).1) rotten
+        nothing (f ∷ more) stand = no_frame id (place_after id (start generation) kept) tail (ended settled).0 f stand.0 (ended settled).1 stand.1
 
-    head_fluke : IsFront split.tail later → IsRotten id (place_after id (start generation) frames) rest → HeadFluke id (place_after id (start generation) (kept ++ later)) tail
-    head_fluke front rotten =
+    head_fluke : IsRotten id (place_after id (start generation) frames) rest → HeadFluke id (place_after id (start generation) kept) tail
+    head_fluke rotten =
         let ends = stand_ends id (place_after id (start generation) kept) split.tail tail rest split.holds.stand in
         let n = length ends.front + 4 * rotten.later.place in
         let same : drop n tail ≡ drop (4 * rotten.later.place) rest = ap (drop n) ends.is ∙ drop-append-add ends.front rest (4 * rotten.later.place) in
         let l = rotten.later.later in
         let many : length frames ≡ length kept + length split.tail = ap length split.parts ∙ length-append kept split.tail in
-        let most : length later ≡ length split.tail + length front.more = ap length front.is ∙ length-append split.tail front.more in
-        let all : length (kept ++ later) ≡ length kept + length later = length-append kept later in
         record {
           place = n;
           head = l.head;
           fits = ap (head_at id) same ∙ l.at;
           version = l.version;
-          generation = l.generation ∙ place_generation id (start generation) frames ∙ sym (place_generation id (start generation) (kept ++ later));
-          never = omega (arith, few, many, most, all, place_number id (start generation) frames, place_number id (start generation) (kept ++ later), l.number);
+          generation = l.generation ∙ place_generation id (start generation) frames ∙ sym (place_generation id (start generation) kept);
+          never = omega (arith, many, place_number id (start generation) frames, place_number id (start generation) kept, l.number);
         }
 
     pub sound : IsRotten id (place_after id (start generation) frames) rest → Chance id generation kept later phase left
     sound rotten = elim (front_or_fluke id (place_after id (start generation) kept) split.tail later tail rest split.holds) [
-      | inl front ↦ record { tail = tail; behind = behind; loose = λ settled. settled_sound settled rotten; fluke = inr (head_fluke front rotten) }
-      | inr fluke ↦ record { tail = tail; behind = behind; loose = λ settled. no_fluke id (place_after id (start generation) kept) later tail m.more (ended settled) fluke; fluke = inl fluke }
+      | inl front ↦ record { tail = tail; behind = behind; loose = λ settled. settled_sound settled rotten; fluke = inr (head_fluke rotten) }
+      | inr fluke ↦ record { tail = tail; behind = behind; loose = λ settled. no_fluke id (place_after id (start generation) kept) later tail (ended settled).0 (ended settled).1 fluke; fluke = inl fluke }
     ]
 
 -- ---- contents

@@ -11,7 +11,7 @@ use Rattle.store_journal.specs.Current.{current_bytes, IsFitCurrent}
 use Rattle.store_journal.specs.Crash.{IsFront, Phase, Settled, Going, Stuck, IsWritten, after_start}
 use Rattle.store_journal.specs.Disk.{Bytes, Act, Read, Unread, Found, Unfound, Wrote, Tore, Synced, Unsynced, Turned, Unturned, FileState, Pointer, other, if_same, on_disk, on_current, with_write, with_tear, after_sync, after_reading, MayLeave, MayRead, IsAmong}
 use Rattle.store_journal.specs.Files.{Content, contents, records_in}
-use Rattle.store_journal.specs.Frames.{Frame, framed, IsFit, log_end, next_place, place_after, start}
+use Rattle.store_journal.specs.Frames.{Frame, framed, IsFit, log_end, next_place, place_after, start, wiped}
 use Rattle.store_journal.specs.Journaled.{Log, IsLog, IsIn, IsJournal, Names, NamesOne, at_begun, chance, place_of, position_of}
 use Rattle.store_journal.specs.Opening.{Chooses}
 use Rattle.store_journal.specs.Steps.{with_phase, with_later, with_one, all_kept, AreApart, FrameLaw, SyncLaw, TurnLaw, AdmitLaw, IsOf, OtherLaw, FirstLaw, PartLaw, new_log, WholeLaw, NewLaw, seen, all_seen, ReadLaw, Resumes, ResumeLaw}
@@ -184,12 +184,12 @@ sync_law log others acts j apart going =
           (λ s is. on_another c.slot s after_sync (on_disk s acts) is),
       step log (with_phase log Stuck) others acts (Unsynced c.slot ∷ acts) refl refl apart j
           (record {
-            written = sticks c.identity c.generation log.kept log.later log.at log.phase d l.written;
+            written = subst (IsWritten c.identity c.generation log.kept log.later log.at Stuck) (sym (on_itself c.slot after_reading d)) (reads c.identity c.generation log.kept log.later log.at Going d w);
             few = l.few;
             whole = l.whole;
             finished = l.finished;
           })
-          (λ s is. refl),
+          (λ s is. on_another c.slot s after_reading (on_disk s acts) is),
       ap (λ (x : List Frame). place_with (place_after c.identity (start c.generation) x) log.at) (append-nil (log.kept ++ log.later)),
     )
 
@@ -249,7 +249,7 @@ other_law s logs acts (Unfound t) j there apart of = absurd of
 other_law s logs acts (Wrote t at bytes) j there apart of = keep logs acts (Wrote t at bytes ∷ acts) refl there (λ l is. on_elsewhere s t (with_write at bytes) (on_disk l.current.slot acts) l.current.slot of (apart l is)) j
 other_law s logs acts (Tore t at bytes) j there apart of = keep logs acts (Tore t at bytes ∷ acts) refl there (λ l is. on_elsewhere s t (with_tear at bytes) (on_disk l.current.slot acts) l.current.slot of (apart l is)) j
 other_law s logs acts (Synced t) j there apart of = keep logs acts (Synced t ∷ acts) refl there (λ l is. on_elsewhere s t after_sync (on_disk l.current.slot acts) l.current.slot of (apart l is)) j
-other_law s logs acts (Unsynced t) j there apart of = keep logs acts (Unsynced t ∷ acts) refl there (λ l is. refl) j
+other_law s logs acts (Unsynced t) j there apart of = keep logs acts (Unsynced t ∷ acts) refl there (λ l is. on_elsewhere s t after_reading (on_disk l.current.slot acts) l.current.slot of (apart l is)) j
 other_law s logs acts (Turned bytes) j there apart of = absurd of
 other_law s logs acts (Unturned bytes) j there apart of = absurd of
 
@@ -360,7 +360,7 @@ resume_law log others begun acts file content position last_at last j apart m ch
           let few : length s.tail ≤ 1 = omega (arith, l.few, ap length s.of_later.is, length-append s.tail s.of_later.more) in
           let v = rewrites c.identity c.generation log.kept log.later log.at log.phase d1 l.written l.few now_is file m1 ch.frames ch.rest ch.holds last_at last ch.last s in
           let t = rewriting_tears c.identity c.generation log.kept log.later log.at log.phase d1 l.written l.few now_is file m1 ch.frames ch.rest ch.holds last_at last ch.last s in
-          let bytes : Bytes = last ++ log_end in
+          let bytes : Bytes = last ++ wiped in
           inl (record {
             front = s.tail;
             of_later = s.of_later;

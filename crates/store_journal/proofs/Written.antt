@@ -58,14 +58,14 @@ writes id generation kept later at d f w fit =
     let bytes = framed id q f in
     let of_f : AreOf id (place_after id p later) (f ∷ []) bytes = subst (λ (x : Place). AreOf id x (f ∷ []) bytes) (place_append id (start generation) kept later) (framed_is id q f fit) in
     let now_is : over at (bytes ++ log_end) d.now ≡ w.kept_bytes ++ (w.later_bytes ++ (bytes ++ log_end)) =
-    ap (over at (bytes ++ log_end)) w.stands ∙ over_front (w.kept_bytes ++ w.later_bytes) log_end (bytes ++ log_end) at w.at_is ∙ append_assoc w.kept_bytes w.later_bytes (bytes ++ log_end) in
+    ap (over at (bytes ++ log_end)) w.stands.is ∙ over_front (w.kept_bytes ++ w.later_bytes) (log_end ++ w.stands.more) (bytes ++ log_end) at w.at_is ∙ append_assoc w.kept_bytes w.later_bytes (bytes ++ log_end) in
     record {
       kept_bytes = w.kept_bytes;
       later_bytes = w.later_bytes ++ bytes;
       kept_are = w.kept_are;
       later_are = of_both id p later (f ∷ []) w.later_bytes bytes w.later_are of_f;
       safe = front_stays w.kept_bytes d.safe (over at (bytes ++ log_end) d.now) (w.later_bytes ++ (bytes ++ log_end)) w.safe now_is;
-      stands = now_is ∙ regrouped w.kept_bytes w.later_bytes bytes log_end;
+      stands = record { more = []; is = now_is ∙ regrouped w.kept_bytes w.later_bytes bytes log_end ∙ ap (λ (l : Bytes). (w.kept_bytes ++ (w.later_bytes ++ bytes)) ++ l) (sym (append-nil log_end)) };
       at_is = ap (λ (n : ℕ). n + length bytes) w.at_is ∙ sym (length-append (w.kept_bytes ++ w.later_bytes) bytes) ∙ ap length (append_assoc w.kept_bytes w.later_bytes bytes);
       none_later = λ settled. absurd (never_going settled);
     }
@@ -86,7 +86,7 @@ writes_first id generation d f fit =
       kept_are = of_none id (start generation);
       later_are = framed_is id (start generation) f fit;
       safe = record { more = shared d.safe (over 0 (bytes ++ log_end) d.now); is = refl };
-      stands = over_start (bytes ++ log_end) d.now;
+      stands = record { more = []; is = over_start (bytes ++ log_end) d.now ∙ ap (λ (l : Bytes). bytes ++ l) (sym (append-nil log_end)) };
       at_is = refl;
       none_later = λ settled. absurd (never_going settled);
     }
@@ -99,7 +99,10 @@ goes_on id generation kept at d w = record {
   kept_are = w.kept_are;
   later_are = w.later_are;
   safe = w.safe;
-  stands = w.stands.2 ∙ ap (λ (l : Bytes). l ++ log_end) (sym (append-nil w.kept_bytes) ∙ ap (λ (l : Bytes). w.kept_bytes ++ l) (sym w.stands.0));
+  stands = record {
+    more = w.stands.1.more;
+    is = w.stands.2 ∙ w.stands.1.is ∙ ap (λ (l : Bytes). l ++ (log_end ++ w.stands.1.more)) (sym (append-nil w.kept_bytes) ∙ ap (λ (l : Bytes). w.kept_bytes ++ l) (sym w.stands.0));
+  };
   at_is = w.at_is;
   none_later = λ settled. refl;
 }
@@ -116,8 +119,8 @@ keeps id generation kept later at d w = record {
   later_bytes = [];
   kept_are = of_both id (start generation) kept later w.kept_bytes w.later_bytes w.kept_are w.later_are;
   later_are = of_none id (place_after id (start generation) (kept ++ later));
-  safe = record { more = log_end; is = w.stands };
-  stands = (refl, w.stands, w.stands);
+  safe = record { more = log_end ++ w.stands.more; is = w.stands.is };
+  stands = (refl, w.stands, refl);
   at_is = w.at_is ∙ ap length (sym (append-nil (w.kept_bytes ++ w.later_bytes)));
   none_later = λ settled. refl;
 }

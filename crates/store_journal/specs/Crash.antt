@@ -1,5 +1,5 @@
 -- What a crash leaves of a file to which frames are written.
-use Rattle.std.specs.Prelude.{◌≡◌, ◌⊎◌, ◌≤◌, ℕ, List, [], ◌∷◌, ◌++◌, length, drop, Some}
+use Rattle.std.specs.Prelude.{◌≡◌, ◌⊎◌, ◌<◌, ℕ, List, [], ◌∷◌, ◌++◌, length, drop, Some}
 use Rattle.store_journal.specs.declared.digest.Identity.{Identity}
 use Rattle.store_journal.specs.declared.frames.Place.{Place}
 use Rattle.store_journal.specs.declared.head.Head.{Head}
@@ -30,10 +30,15 @@ after_start Settled = Settled
 after_start Going = Stuck
 after_start Stuck = Stuck
 
+-- these bytes stand there, and the end of the log behind them
+pub record EndsLog (bytes all : Bytes) : Type 0 where
+  pub more : Bytes
+  pub is : all ≡ bytes ++ (log_end ++ more)
+
 -- frames with these bytes stand so in a file
 abbrev pub StandsSo : Phase → Bytes → Bytes → FileState → Type 0
-StandsSo Settled kept later d = (later ≡ []) × (d.safe ≡ kept ++ log_end) × (d.now ≡ kept ++ log_end)
-StandsSo Going kept later d = d.now ≡ kept ++ later ++ log_end
+StandsSo Settled kept later d = (later ≡ []) × EndsLog kept d.safe × (d.now ≡ d.safe)
+StandsSo Going kept later d = EndsLog (kept ++ later) d.now
 StandsSo Stuck kept later d = Unit {0}
 
 -- The file has frames of a generation: the kept ones, which are safe, and after them the later ones, which may be
@@ -65,14 +70,14 @@ pub record Fluke (id : Identity) (p : Place) (later : List Frame) (tail : Bytes)
   pub differs : (others : List Frame) → left ≡ frame ∷ others → ⊥
 
 -- Torn bytes have come out as a head by chance. Its digest fits, it is of this generation, and no frame of its number
--- was ever written: the first that wasn't has this place.
+-- was ever written: behind the kept frames at most one was, at this place, until it is kept too.
 pub record HeadFluke (id : Identity) (p : Place) (tail : Bytes) : Type 0 where
   pub place : ℕ
   pub head : Head
   pub fits : head_at id (drop place tail) ≡ Some head
   pub version : head.version ≡ VERSION
   pub generation : head.generation ≡ p.generation
-  pub never : p.number ≤ head.number
+  pub never : p.number < head.number
 
 -- A digest fits by chance in what a crash left behind the kept frames, where something was loose.
 pub record Chance (id : Identity) (generation : ℕ) (kept later : List Frame) (phase : Phase) (file : Bytes)
@@ -81,4 +86,4 @@ pub record Chance (id : Identity) (generation : ℕ) (kept later : List Frame) (
   pub behind : Stand id (start generation) kept file tail
   pub loose : phase ≡ Settled → ⊥
   pub fluke : Fluke id (place_after id (start generation) kept) later tail
-      ⊎ HeadFluke id (place_after id (start generation) (kept ++ later)) tail
+      ⊎ HeadFluke id (place_after id (start generation) kept) tail

@@ -76,7 +76,7 @@ abbrev pub after_sync : FileState → FileState
 after_sync d = record { safe = d.now; now = d.now; touched = d.touched }
 
 -- What is read may have been written by a program that ended before its sync, or whose sync failed. No later sync
--- keeps that, so only the safe bytes are known to last.
+-- keeps that, nor what was written before a sync that failed. So only the safe bytes are known to last.
 abbrev pub after_reading : FileState → FileState
 after_reading d = record { safe = d.safe; now = d.safe; touched = d.touched }
 
@@ -97,7 +97,7 @@ on_disk s (Unfound t ∷ acts) = on_disk s acts
 on_disk s (Wrote t at bytes ∷ acts) = if_same s t (with_write at bytes) (on_disk s acts)
 on_disk s (Tore t at bytes ∷ acts) = if_same s t (with_tear at bytes) (on_disk s acts)
 on_disk s (Synced t ∷ acts) = if_same s t after_sync (on_disk s acts)
-on_disk s (Unsynced t ∷ acts) = on_disk s acts
+on_disk s (Unsynced t ∷ acts) = if_same s t after_reading (on_disk s acts)
 on_disk s (Turned bytes ∷ acts) = on_disk s acts
 on_disk s (Unturned bytes ∷ acts) = on_disk s acts
 

@@ -34,6 +34,10 @@ MARK = 3
 abbrev pub log_end : Bytes
 log_end = replicate 8 0
 
+-- A start wipes as many bytes as a head has. So a frame that an earlier program lost never comes together again.
+unfoldable pub wiped : Bytes
+wiped = replicate 64 0
+
 abbrev pub head_form : Xdr
 head_form = pair hyper (pair hyper (pair hyper (pair hyper (pair hyper (pair hyper hyper)))))
 

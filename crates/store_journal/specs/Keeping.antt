@@ -9,7 +9,7 @@ use Rattle.store_journal.specs.declared.journal.Journal.{Journal}
 use Rattle.store_journal.specs.declared.writing.Position.{Position}
 use Rattle.store_journal.specs.Current.{begun_next, turned_to_begun, current_bytes, IsFitCurrent}
 use Rattle.store_journal.specs.Disk.{Bytes, Wrote, Tore, Synced, Unsynced, Turned, Unturned, other}
-use Rattle.store_journal.specs.Frames.{Frame, END, MAX_BODY, frame_with, IsFit, log_end}
+use Rattle.store_journal.specs.Frames.{Frame, END, MAX_BODY, frame_with, IsFit, wiped}
 use Rattle.store_journal.specs.Passage.{Passage, Unchanged, Once, Twice, Thrice}
 use Rattle.store_journal.specs.Writing.{at_start, next_position, ended, IsLast}
 
@@ -169,19 +169,19 @@ noted Failed j = failed j
 
 -- ---- going on after a start
 
--- The last frame that was found is written again with the end of the log behind it, its file is synced, and CURRENT is
--- turned to what it says. Only then the journal goes on.
+-- The last frame that was found is written again, with what stands behind it wiped. Then its file is synced, and CURRENT
+-- is turned to what it says. Only then the journal goes on.
 abbrev pub ResumeGives : {D : Type 0} → Passage D → Current → Position → ℕ → Bytes
     → Result Journal JournalFault → Type 0
 ResumeGives p c position last_at last (Ok j) =
-    Thrice p (Wrote c.slot last_at (last ++ log_end)) (Synced c.slot) (Turned (current_bytes c))
+    Thrice p (Wrote c.slot last_at (last ++ wiped)) (Synced c.slot) (Turned (current_bytes c))
     × IsFitCurrent c × (j ≡ resumed c position)
 ResumeGives p c position last_at last (Err TooLong) = ⊥
 ResumeGives p c position last_at last (Err Memory) = Unchanged p
 ResumeGives p c position last_at last (Err Full) = ⊥
 ResumeGives p c position last_at last (Err NoCheckpoint) = ⊥
 ResumeGives p c position last_at last (Err Failed) =
-    Once p (Tore c.slot last_at (last ++ log_end))
-    ⊎ (Twice p (Wrote c.slot last_at (last ++ log_end)) (Unsynced c.slot)
-    ⊎ (Thrice p (Wrote c.slot last_at (last ++ log_end)) (Synced c.slot) (Unturned (current_bytes c))
+    Once p (Tore c.slot last_at (last ++ wiped))
+    ⊎ (Twice p (Wrote c.slot last_at (last ++ wiped)) (Unsynced c.slot)
+    ⊎ (Thrice p (Wrote c.slot last_at (last ++ wiped)) (Synced c.slot) (Unturned (current_bytes c))
     × IsFitCurrent c))

@@ -8,7 +8,7 @@ use Rattle.store_journal.specs.Crash.{IsFront, Phase, Settled, Going, Stuck, IsW
 use Rattle.store_journal.specs.Disk.{Bytes, Act, Read, Unread, Found, Unfound, Wrote, Tore, Synced, Unsynced}
 use Rattle.store_journal.specs.Disk.{Turned, Unturned, other, on_disk, on_current, MayLeave, MayRead}
 use Rattle.store_journal.specs.Files.{Content, contents, records_in}
-use Rattle.store_journal.specs.Frames.{Frame, framed, IsFit, log_end, place_after, start}
+use Rattle.store_journal.specs.Frames.{Frame, framed, IsFit, log_end, place_after, start, wiped}
 use Rattle.store_journal.specs.Journaled.{Log, IsLog, IsIn, IsJournal, Names, at_begun, chance, place_of, position_of}
 use Rattle.store_journal.specs.Opening.{Chooses}
 use Rattle.store_journal.specs.Writing.{ended, next_position}
@@ -186,9 +186,9 @@ pub record Resumes (log : Log) (others : List (Option Log)) (acts : List Act) (c
   pub content_is : content ≡ Some (all_kept (with_later log front position.at Going)).content
   pub position_is : position ≡ position_of (with_later log front position.at Going)
   pub wrote : IsJournal (Some (with_later log front position.at Going) ∷ others)
-      (Wrote log.current.slot last_at (last ++ log_end) ∷ acts)
+      (Wrote log.current.slot last_at (last ++ wiped) ∷ acts)
   pub tore : IsJournal (Some (with_later log front position.at Stuck) ∷ others)
-      (Tore log.current.slot last_at (last ++ log_end) ∷ acts)
+      (Tore log.current.slot last_at (last ++ wiped) ∷ acts)
 
 -- **What a start goes on from is a journal again**, unless a digest fits by chance.
 abbrev pub ResumeLaw : Type 0

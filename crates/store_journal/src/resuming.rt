@@ -8,13 +8,14 @@ use crate::disk::Disk;
 use crate::fault::JournalFault;
 use crate::journal::Journal;
 use crate::opening::Chosen;
-use crate::writing::{LOG_END, zeros};
+use crate::writing::wiped;
 use std::alloc::Allocator;
 
 impl Journal {
     /// Goes on after what a start found. What was read may never have come to the disk, where a program ended before
     /// its sync or the sync failed. All frames but the last were safe when that one was written. So that one is
-    /// written again, and synced, and CURRENT is turned again.
+    /// written again, and synced, and CURRENT is turned again. A head's bytes behind it are wiped, so that a frame
+    /// that an earlier program lost doesn't come together again.
     pub fn resume<D: Disk, A: Allocator>(
         disk: &mut D,
         alloc: A,
@@ -27,8 +28,7 @@ impl Journal {
         let Ok(writer) = current.bytes(alloc) else {
             return Err(JournalFault::Memory);
         };
-        let log_end = zeros(LOG_END);
-        if !disk.write(current.slot, chosen.last_at, chosen.last, &[], log_end) {
+        if !disk.write(current.slot, chosen.last_at, chosen.last, &[], wiped()) {
             return Err(JournalFault::Failed);
         }
         if !disk.sync(current.slot) {

@@ -3,7 +3,7 @@ ghost use Rattle.std.specs.Prelude.{◌≡◌, ◌≤◌, ◌+◌, ◌++◌, len
 ghost use Rattle.xdr_wire.specs.Xdr.{pair, hyper, uint, spelling, padding, HasSpelling};
 ghost use Rattle.store_journal.specs.Digest.{head_digest};
 ghost use Rattle.store_journal.specs.Disk.{wrote};
-ghost use Rattle.store_journal.specs.Frames.{head_for, head_form, head_value, lent};
+ghost use Rattle.store_journal.specs.Frames.{head_for, head_form, head_value, lent, wiped};
 ghost use Rattle.store_journal.specs.Passage.{passage};
 ghost use Rattle.store_journal.specs.Writing.{WriteGives, at_start};
 
@@ -20,13 +20,16 @@ use xdr_wire::{Spell, Writer};
 const FRONT: usize = 7 * 8 + 8 + 4;
 
 /// The zero bytes that end the log.
-pub(crate) const LOG_END: usize = 8;
+const LOG_END: usize = 8;
 
 /// The most bytes of a file before its last frame.
 const MOST: u64 = 1 << 62;
 
-/// Zero bytes: the padding of a body, and the end of the log.
-const ZEROS: [u8; 12] = [0; 12];
+/// The zero bytes that a start writes behind the last frame: as many bytes as a head and its digest have.
+const WIPED: usize = 7 * 8 + 8;
+
+/// Zero bytes: the padding of a body, the end of the log, and what a start wipes.
+const ZEROS: [u8; WIPED] = [0; WIPED];
 
 /// Where a frame goes.
 #[derive(Clone, Copy, Debug, PartialEq, Eq)]
@@ -89,11 +92,19 @@ fn front_of<A: Allocator>(
 }
 
 /// This many zero bytes.
-pub(crate) fn zeros(count: usize) -> &'static [u8]
-    requires { count ≤ 12 }
+fn zeros(count: usize) -> &'static [u8]
+    requires { count ≤ 64 }
     ensures { result.now ≡ replicate count 0 }
 {
     &ZEROS[..count]
+}
+
+/// What a start writes behind the last frame.
+#[tactic(auto, unfolding(crate::specs::Frames::wiped))]
+pub(crate) fn wiped() -> &'static [u8]
+    ensures { result.now ≡ wiped }
+{
+    zeros(WIPED)
 }
 
 /// Writes what stands before a body, the body, its padding, and the end of the log.
