@@ -1,25 +1,23 @@
 -- A checkpoint leads from a journal that keeps a log to one that keeps the next, and a start to one that goes on.
-use Rattle.std.proofs.Common.{◌≡◌, ◌≢◌, ◌⊎◌, inl, inr, ℕ, ◌+◌, Bool, true, false, List, [], ◌∷◌, ◌++◌, length, Option, Some, None, Result, Ok, Err, refl, sym, ◌∙◌, ap, subst, arith}
+use Rattle.std.proofs.Common.{◌≡◌, ◌⊎◌, inl, inr, ℕ, ◌+◌, true, false, List, [], ◌∷◌, ◌++◌, length, Option, Some, None, Ok, Err, refl, sym, ◌∙◌, ap, subst, arith}
 use Rattle.std.proofs.lemmas.List.{append-nil}
 use Rattle.store_journal.specs.declared.current.Current.{Current}
 use Rattle.store_journal.specs.declared.digest.Identity.{Identity}
 use Rattle.store_journal.specs.declared.disk.Slot.{Slot}
 use Rattle.store_journal.specs.declared.disk.Slot.TheVariants.{A, B}
-use Rattle.store_journal.specs.declared.fault.JournalFault.{JournalFault}
 use Rattle.store_journal.specs.declared.fault.JournalFault.TheVariants.{TooLong, Memory, Full, NoCheckpoint, Failed}
 use Rattle.store_journal.specs.declared.frames.Place.{Place}
 use Rattle.store_journal.specs.declared.journal.Journal.{Journal}
 use Rattle.store_journal.specs.declared.writing.Position.{Position}
-use Rattle.store_journal.specs.Crash.{IsFront, Phase, Settled, Going, Stuck, IsWritten, Chance, after_start}
+use Rattle.store_journal.specs.Crash.{Going, IsWritten, after_start}
 use Rattle.store_journal.specs.Current.{current_bytes, turned_to_begun, IsFitCurrent}
-use Rattle.store_journal.specs.Disk.{Bytes, Act, Read, Found, Wrote, Tore, Synced, Unsynced, Turned, Unturned, other, on_disk, on_current, MayRead, MayLeave}
-use Rattle.store_journal.specs.Files.{Content, contents, records_in}
+use Rattle.store_journal.specs.Disk.{Bytes, Act, Read, Found, Wrote, Tore, Synced, Unsynced, Turned, Unturned, other, on_disk, on_current, MayRead}
+use Rattle.store_journal.specs.Files.{Content, contents}
 use Rattle.store_journal.specs.Frames.{Frame, IsFit, log_end, next_place, place_after, start, framed, wiped}
-use Rattle.store_journal.specs.Journaled.{Log, IsLog, IsIn, IsJournal, Names, HasAll, at_begun, chance, place_of, position_of}
-use Rattle.store_journal.specs.Keeping.{PartGives, FinishGives, ResumeGives, Finished, with_part, with_checkpoint, end_frame}
-use Rattle.store_journal.specs.Opening.{Chooses}
-use Rattle.store_journal.specs.Serving.{of_acts, Follows, Matches, Serves, Stays, Writes, AfterPart, FurtherLaw, made_log, AfterFinish, FinishLaw, GoesOn, RestartLaw, EitherLaw}
-use Rattle.store_journal.specs.Steps.{AreApart, IsOf, with_phase, with_later, all_kept, new_log, seen, all_seen}
+use Rattle.store_journal.specs.Journaled.{Log, IsLog, IsIn, IsJournal, at_begun, chance}
+use Rattle.store_journal.specs.Keeping.{with_part, with_checkpoint, end_frame}
+use Rattle.store_journal.specs.Serving.{Matches, Serves, Writes, FurtherLaw, made_log, FinishLaw, RestartLaw, EitherLaw}
+use Rattle.store_journal.specs.Steps.{AreApart, IsOf, with_phase, with_later, all_kept, new_log, all_seen}
 use Rattle.store_journal.specs.Writing.{ended, next_position}
 use Rattle.store_journal.proofs.Standing.{place_append}
 use Rattle.store_journal.proofs.Stepping.{first_law, part_law, whole_law, other_law, admit_law, turn_law, sync_law, read_law, resume_law, of_seen, some_is, none_isnt}

@@ -1,5 +1,5 @@
 -- The last frame of a file that was read, and what is chosen of it.
-use Rattle.std.proofs.Common.{◌≡◌, ◌⊎◌, inl, inr, ℕ, ◌≤◌, ◌+◌, ◌-◌, Bool, true, false, List, [], ◌∷◌, ◌++◌, length, take, drop, Option, Some, None, refl, sym, ◌∙◌, ap, subst, arith, length-append}
+use Rattle.std.proofs.Common.{◌≡◌, inl, inr, ℕ, ◌+◌, ◌-◌, true, List, ◌++◌, length, take, drop, Some, None, sym, ◌∙◌, ap, subst, arith, length-append}
 use Rattle.std.proofs.lemmas.List.{take_at, drop_at}
 use Rattle.store_journal.specs.declared.current.Current.{Current}
 use Rattle.store_journal.specs.declared.digest.Identity.{Identity}
@@ -7,8 +7,8 @@ use Rattle.store_journal.specs.declared.frames.Place.{Place}
 use Rattle.store_journal.specs.declared.writing.Position.{Position}
 use Rattle.store_journal.specs.Disk.{Bytes}
 use Rattle.store_journal.specs.Files.{Content, contents, if_whole, IsRead, IsRotten, LastFrame}
-use Rattle.store_journal.specs.Frames.{Frame, place_after, start}
-use Rattle.store_journal.specs.Opening.{Chooses, IsDamaged}
+use Rattle.store_journal.specs.Frames.{Frame, start}
+use Rattle.store_journal.specs.Opening.{Chooses}
 
 -- of a whole checkpoint some frame is the last
 pub some_last : (id : Identity) (generation : ℕ) (file : Bytes) (place : Place) (rest : Bytes) (at : ℕ) (parts records : List Bytes) → (r : IsRead id generation file place rest at true parts records) → (bytes : Bytes) × LastFrame id (start generation) file r.frames rest at bytes

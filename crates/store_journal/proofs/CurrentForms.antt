@@ -1,5 +1,5 @@
 -- A CURRENT that was written is read again.
-use Rattle.std.proofs.Common.{◌≡◌, ℕ, Bool, true, false, List, [], ◌++◌, length, Ok, Err, Result, refl, sym, ◌∙◌, ap, arith}
+use Rattle.std.proofs.Common.{◌≡◌, ℕ, [], Ok, Err, Result, refl, sym, ◌∙◌, ap, arith}
 use Rattle.std.specs.Bool.{if◌then◌else◌}
 use Rattle.std.specs.Prelude.{◌==◌}
 use Rattle.std.proofs.lemmas.Bool.Decides.{nat_tests}
@@ -8,13 +8,12 @@ use Rattle.xdr_wire.specs.Xdr.{spelling}
 use Rattle.xdr_wire.specs.Reading.{read_at}
 use Rattle.xdr_wire.proofs.Spelling.{again, spelled}
 use Rattle.store_journal.specs.declared.current.Current.{Current}
-use Rattle.store_journal.specs.declared.current.CurrentForm.{CurrentForm}
 use Rattle.store_journal.specs.declared.digest.Identity.{Identity}
 use Rattle.store_journal.specs.declared.disk.Slot.{Slot}
 use Rattle.store_journal.specs.declared.disk.Slot.TheVariants.{A, B}
 use Rattle.store_journal.specs.declared.fault.CurrentFault.{CurrentFault}
-use Rattle.store_journal.specs.declared.fault.CurrentFault.TheVariants.{Version, Damaged}
-use Rattle.store_journal.specs.Current.{current_bytes, current_form, current_in, current_value, form_of, in_known_slot, of_form, of_read, IsFitCurrent}
+use Rattle.store_journal.specs.declared.fault.CurrentFault.TheVariants.{Damaged}
+use Rattle.store_journal.specs.Current.{current_bytes, current_form, current_in, current_value, form_of, in_known_slot, of_read, IsFitCurrent}
 use Rattle.store_journal.specs.Digest.{current_digest}
 use Rattle.store_journal.specs.Disk.{Bytes}
 

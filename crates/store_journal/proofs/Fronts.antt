@@ -1,5 +1,5 @@
 -- A frame is written as its front, its body and its back.
-use Rattle.std.proofs.Common.{◌≡◌, ℕ, ◌≤◌, ◌<◌, ◌+◌, ◌^◌, List, ◌++◌, length, take, replicate, refl, sym, ◌∙◌, ap, arith, append_assoc, length-append}
+use Rattle.std.proofs.Common.{◌≡◌, ℕ, ◌≤◌, ◌+◌, ◌++◌, length, take, replicate, refl, sym, ◌∙◌, ap, arith, append_assoc, length-append}
 use Rattle.std.proofs.lemmas.List.{length-replicate, replicate-append-replicate, take-replicate}
 use Rattle.std.specs.Int.{w32, w64, to_be_bytes}
 use Rattle.xdr_wire.specs.Xdr.{Value, hyper, uint, pair, padding, HasSpelling, spelling}
@@ -10,7 +10,7 @@ use Rattle.store_journal.specs.declared.writing.Position.{Position}
 use Rattle.store_journal.specs.Writing.{next_position}
 use Rattle.store_journal.specs.Digest.{head_digest}
 use Rattle.store_journal.specs.Disk.{Bytes}
-use Rattle.store_journal.specs.Frames.{Frame, MAX_BODY, form, head_form, head_value, head_for, framed, IsFit, log_end}
+use Rattle.store_journal.specs.Frames.{Frame, MAX_BODY, head_form, head_value, head_for, framed, IsFit, log_end}
 
 -- what stands before the body
 abbrev pub front_value : Identity → Place → Frame → Value (pair head_form (pair hyper uint))

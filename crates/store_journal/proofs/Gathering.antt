@@ -1,16 +1,13 @@
 -- Reading the frames of a file one after the other.
-use Rattle.std.proofs.Common.{◌≡◌, ◌⊎◌, inl, inr, ℕ, ◌<◌, ◌≤◌, ◌+◌, ◌-◌, Bool, true, false, List, [], ◌∷◌, ◌++◌, length, take, drop, Option, Some, None, Ok, Err, refl, sym, ◌∙◌, ap, subst, arith, append_assoc, length-append}
-use Rattle.std.specs.Bool.{if◌then◌else◌}
-use Rattle.std.proofs.lemmas.List.{append-nil, take_at, drop_at}
-use Rattle.xdr_wire.specs.Xdr.{Value}
-use Rattle.xdr_wire.specs.Reading.{Read, read_at}
+use Rattle.std.proofs.Common.{◌≡◌, ◌⊎◌, inl, inr, ℕ, ◌-◌, Bool, true, false, List, [], ◌∷◌, ◌++◌, length, Option, Some, None, refl, sym, ◌∙◌, ap, subst, arith, append_assoc, length-append}
+use Rattle.std.proofs.lemmas.List.{append-nil}
 use Rattle.xdr_wire.proofs.Spelling.{begins_from_read}
 use Rattle.store_journal.specs.declared.digest.Identity.{Identity}
 use Rattle.store_journal.specs.declared.frames.Place.{Place}
 use Rattle.store_journal.specs.Disk.{Bytes}
 use Rattle.store_journal.specs.Files.{Content, LastFrame, IsRead, contents, after_those, joined_to, if_whole}
 use Rattle.store_journal.proofs.Standing.{took, place_append}
-use Rattle.store_journal.specs.Frames.{Frame, form, frame_at, frame_of, fitting, head_of, in_place, next_place, place_after, start, Stand}
+use Rattle.store_journal.specs.Frames.{Frame, form, frame_at, next_place, place_after, start, Stand}
 
 -- the bytes end with what is left
 pub record Ends (bytes rest : Bytes) : Type 0 where

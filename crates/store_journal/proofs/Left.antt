@@ -1,20 +1,19 @@
 -- What a crash leaves of a file to which frames are written.
-use Rattle.std.proofs.Common.{◌≡◌, ◌≢◌, ◌⊎◌, inl, inr, ⊎_elim, ℕ, ◌<◌, ◌≤◌, ◌+◌, ◌*◌, Bool, true, false, List, [], ◌∷◌, ◌++◌, length, drop, Option, Some, None, refl, sym, ◌∙◌, ap, subst, arith, append_assoc, length-append}
+use Rattle.std.proofs.Common.{◌≡◌, ◌≢◌, ◌⊎◌, inl, inr, ℕ, ◌≤◌, ◌+◌, ◌*◌, Bool, true, false, List, [], ◌∷◌, ◌++◌, length, drop, Option, Some, None, refl, sym, ◌∙◌, ap, subst, arith, append_assoc, length-append}
 use Rattle.std.specs.Bool.{if◌then◌else◌}
 use Rattle.std.specs.Prelude.{◌==◌}
 use Rattle.std.proofs.lemmas.Bool.{cases_eq}
-use Rattle.std.proofs.lemmas.List.{append-nil, append_cancel_left}
+use Rattle.std.proofs.lemmas.List.{append_cancel_left}
 use Rattle.std.proofs.Math.Seq.{drop-append-add}
 use Rattle.store_journal.specs.declared.digest.Identity.{Identity}
 use Rattle.store_journal.specs.declared.frames.Place.{Place}
-use Rattle.store_journal.specs.declared.head.Head.{Head}
 use Rattle.store_journal.specs.Disk.{Bytes, FileState, MayLeave}
 use Rattle.store_journal.specs.Crash.{IsFront, Phase, Settled, StandsSo, IsWritten, Fluke, HeadFluke, Chance}
 use Rattle.store_journal.specs.Files.{Content, contents, with_part, records_in, IsRotten}
 use Rattle.store_journal.specs.Frames.{Frame, END, MARK, frame_at, head_at, frame_with, log_end, next_place, place_after, start, Stand, Holds}
 use Rattle.store_journal.proofs.Gathering.{Ends, frame_ends}
 use Rattle.store_journal.proofs.LogEnds.{none_at_end, not_rotten}
-use Rattle.store_journal.proofs.Standing.{Splits, splits, place_append, place_number, place_generation}
+use Rattle.store_journal.proofs.Standing.{Splits, splits, place_number, place_generation}
 
 -- ---- equal or not
 

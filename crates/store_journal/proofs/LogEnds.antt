@@ -1,6 +1,6 @@
 -- The end of the log is no frame, and nothing behind it is looked at.
-use Rattle.std.proofs.Common.{◌≡◌, ℕ, Bool, true, false, List, [], ◌∷◌, ◌++◌, length, Option, Some, None, Ok, Err, refl, sym, ◌∙◌, ap, arith, append_assoc}
-use Rattle.xdr_wire.specs.Xdr.{Value, hyper}
+use Rattle.std.proofs.Common.{◌≡◌, ℕ, true, false, ◌++◌, Option, Some, None, Ok, refl, sym, ◌∙◌, ap, arith, append_assoc}
+use Rattle.xdr_wire.specs.Xdr.{hyper}
 use Rattle.xdr_wire.specs.Reading.{Read, read_at}
 use Rattle.xdr_wire.proofs.Spelling.{again, begins_from_read}
 use Rattle.xdr_wire.proofs.Steps.{ok_is}
@@ -10,7 +10,7 @@ use Rattle.store_journal.specs.declared.head.Head.{Head}
 use Rattle.store_journal.specs.Current.{VERSION}
 use Rattle.store_journal.specs.Disk.{Bytes}
 use Rattle.store_journal.specs.Files.{is_ended, is_zero, IsRotten}
-use Rattle.store_journal.specs.Frames.{Frame, form, frame_at, frame_of, head_of, log_end}
+use Rattle.store_journal.specs.Frames.{Frame, form, frame_at, head_of, log_end}
 use Rattle.store_journal.proofs.Placing.{placed}
 use Rattle.store_journal.proofs.Standing.{took}
 

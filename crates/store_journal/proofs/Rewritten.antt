@@ -1,10 +1,9 @@
 -- What reading does to a file that frames were written to, and writing its last frame again.
-use Rattle.std.proofs.Common.{◌≡◌, ◌⊎◌, inl, inr, ℕ, ◌<◌, ◌≤◌, ◌+◌, List, [], ◌∷◌, ◌++◌, length, replicate, Some, refl, sym, ◌∙◌, ap, subst, arith, append_assoc, length-append}
+use Rattle.std.proofs.Common.{◌≡◌, ◌⊎◌, inl, inr, ℕ, ◌≤◌, ◌+◌, List, [], ◌∷◌, ◌++◌, length, replicate, Some, refl, sym, ◌∙◌, ap, subst, arith, append_assoc, length-append}
 use Rattle.std.proofs.lemmas.List.{append-nil, append_cancel_right, same_from_push, nil_from_length}
 use Rattle.store_journal.specs.declared.digest.Identity.{Identity}
-use Rattle.store_journal.specs.declared.frames.Place.{Place}
 use Rattle.store_journal.specs.Disk.{Bytes, FileState, MayLeave, over, with_write, with_tear, after_reading}
-use Rattle.store_journal.specs.Crash.{IsFront, AreOf, Phase, Settled, Going, Stuck, StandsSo, IsWritten, after_start}
+use Rattle.store_journal.specs.Crash.{IsFront, AreOf, Phase, Settled, Going, Stuck, IsWritten, after_start}
 use Rattle.store_journal.specs.Files.{LastFrame}
 use Rattle.store_journal.specs.Frames.{Frame, frame_at, log_end, place_after, start, wiped, Stand, Holds}
 use Rattle.store_journal.proofs.Left.{Stays, behind, tail}

@@ -1,25 +1,18 @@
 -- Each call leads from a journal that keeps a log to the next.
-use Rattle.std.proofs.Common.{◌≡◌, ◌≢◌, ◌⊎◌, inl, inr, ℕ, ◌+◌, Bool, true, false, List, [], ◌∷◌, ◌++◌, length, Option, Some, None, Result, Ok, Err, refl, sym, ◌∙◌, ap, subst, arith}
-use Rattle.std.proofs.lemmas.List.{append-nil}
+use Rattle.std.proofs.Common.{◌≡◌, inl, inr, ℕ, ◌+◌, true, false, List, [], ◌∷◌, Option, Some, None, Ok, Err, refl, sym, ◌∙◌, ap, subst, arith}
 use Rattle.store_journal.specs.declared.current.Current.{Current}
-use Rattle.store_journal.specs.declared.digest.Identity.{Identity}
 use Rattle.store_journal.specs.declared.disk.Slot.{Slot}
-use Rattle.store_journal.specs.declared.disk.Slot.TheVariants.{A, B}
-use Rattle.store_journal.specs.declared.fault.JournalFault.{JournalFault}
 use Rattle.store_journal.specs.declared.fault.JournalFault.TheVariants.{TooLong, Memory, Full, NoCheckpoint, Failed}
-use Rattle.store_journal.specs.declared.frames.Place.{Place}
 use Rattle.store_journal.specs.declared.journal.Journal.{Journal}
 use Rattle.store_journal.specs.declared.writing.Position.{Position}
-use Rattle.store_journal.specs.Crash.{IsFront, Phase, Settled, Going, Stuck, IsWritten, after_start}
-use Rattle.store_journal.specs.Current.{begun_next, current_bytes, turned_to_begun, IsFitCurrent}
-use Rattle.store_journal.specs.Disk.{Bytes, Act, Read, Found, Wrote, Tore, Synced, Unsynced, Turned, Unturned, other, on_disk, on_current, MayRead, MayLeave}
-use Rattle.store_journal.specs.Files.{Content, contents}
-use Rattle.store_journal.specs.Frames.{Frame, IsFit, log_end, next_place, place_after, start, framed}
-use Rattle.store_journal.specs.Journaled.{Log, IsLog, IsIn, IsJournal, Names, HasAll, at_begun, chance, place_of, position_of}
-use Rattle.store_journal.specs.Keeping.{AppendGives, BeginGives, with_frame, with_begun, failed}
-use Rattle.store_journal.specs.Passage.{Twice}
-use Rattle.store_journal.specs.Serving.{of_acts, Follows, Matches, Serves, Stays, loose_acts, AfterAppend, AppendLaw, Writes, AfterBegin, BeginLaw}
-use Rattle.store_journal.specs.Steps.{AreApart, with_phase, with_one, all_kept}
+use Rattle.store_journal.specs.Crash.{Going, Stuck}
+use Rattle.store_journal.specs.Current.{begun_next, current_bytes, IsFitCurrent}
+use Rattle.store_journal.specs.Disk.{Bytes, Act, Wrote, Tore, Synced, Unsynced, Turned, on_current, MayRead}
+use Rattle.store_journal.specs.Frames.{Frame, IsFit, start}
+use Rattle.store_journal.specs.Journaled.{Log, IsIn, IsJournal, Names, at_begun, place_of, position_of}
+use Rattle.store_journal.specs.Keeping.{with_begun}
+use Rattle.store_journal.specs.Serving.{Follows, Matches, loose_acts, AppendLaw, BeginLaw}
+use Rattle.store_journal.specs.Steps.{AreApart, with_one, all_kept}
 use Rattle.store_journal.specs.Writing.{at_start, ended, next_position}
 use Rattle.store_journal.proofs.Stepping.{frame_law, sync_law, turn_law}
 

@@ -1,20 +1,19 @@
 -- Frames that stand at the front of bytes.
-use Rattle.std.proofs.Common.{◌≡◌, ℕ, ◌<◌, ◌≤◌, ◌+◌, Bool, true, false, List, [], ◌∷◌, ◌++◌, length, Option, Some, None, Ok, Err, refl, sym, ◌∙◌, ap, subst, arith, append_assoc, length-append}
+use Rattle.std.proofs.Common.{◌≡◌, ℕ, ◌+◌, Bool, true, false, List, [], ◌∷◌, ◌++◌, length, Option, Some, None, Ok, Err, refl, sym, ◌∙◌, ap, subst, arith, append_assoc}
 use Rattle.std.specs.Bool.{if◌then◌else◌}
 use Rattle.std.specs.Prelude.{◌==◌}
 use Rattle.std.proofs.lemmas.Bool.Decides.{nat_tests}
-use Rattle.std.proofs.lemmas.List.{append_cancel_right, append-nil}
-use Rattle.xdr_wire.specs.Xdr.{Value, Spells, spelling}
+use Rattle.std.proofs.lemmas.List.{append_cancel_right}
+use Rattle.xdr_wire.specs.Xdr.{Value, spelling}
 use Rattle.xdr_wire.proofs.Spelling.{again, spelled, begins_from_read}
 use Rattle.xdr_wire.specs.Reading.{Read, read_at}
 use Rattle.store_journal.specs.declared.digest.Identity.{Identity}
 use Rattle.store_journal.specs.declared.frames.Place.{Place}
-use Rattle.store_journal.specs.declared.head.Head.{Head}
 use Rattle.store_journal.specs.Current.{VERSION}
 use Rattle.store_journal.specs.Digest.{digest, head_digest}
 use Rattle.store_journal.specs.Disk.{Bytes}
 use Rattle.store_journal.specs.Crash.{AreOf}
-use Rattle.store_journal.specs.Frames.{Frame, form, frame_of, frame_value, framed, IsFit, fitting, frame_at, head_of, head_for, head_value, in_place, next_place, place_after, Stand, Holds}
+use Rattle.store_journal.specs.Frames.{Frame, form, frame_of, frame_value, framed, IsFit, fitting, frame_at, head_of, head_for, in_place, next_place, place_after, Stand, Holds}
 
 -- a read took this frame
 pub record Took (id : Identity) (p : Place) (bytes : Bytes) (f : Frame) (after : Bytes) : Type 0 where

@@ -1,5 +1,5 @@
 -- The acts of each call lead from one journal to the next.
-use Rattle.std.proofs.Common.{◌≡◌, ◌≢◌, ◌⊎◌, inl, inr, ℕ, ◌≤◌, ◌+◌, Bool, true, false, List, [], ◌∷◌, ◌++◌, length, Option, Some, None, refl, sym, ◌∙◌, ap, subst, arith, length-append}
+use Rattle.std.proofs.Common.{◌≡◌, inl, inr, ℕ, ◌≤◌, ◌+◌, List, [], ◌∷◌, ◌++◌, length, Option, Some, None, refl, sym, ◌∙◌, ap, subst, arith, length-append}
 use Rattle.std.proofs.lemmas.List.{append-nil}
 use Rattle.store_journal.specs.declared.current.Current.{Current}
 use Rattle.store_journal.specs.declared.digest.Identity.{Identity}
@@ -8,18 +8,17 @@ use Rattle.store_journal.specs.declared.disk.Slot.TheVariants.{A, B}
 use Rattle.store_journal.specs.declared.frames.Place.{Place}
 use Rattle.store_journal.specs.declared.writing.Position.{Position}
 use Rattle.store_journal.specs.Current.{current_bytes, IsFitCurrent}
-use Rattle.store_journal.specs.Crash.{IsFront, Phase, Settled, Going, Stuck, IsWritten, after_start}
-use Rattle.store_journal.specs.Disk.{Bytes, Act, Read, Unread, Found, Unfound, Wrote, Tore, Synced, Unsynced, Turned, Unturned, FileState, Pointer, other, if_same, on_disk, on_current, with_write, with_tear, after_sync, after_reading, MayLeave, MayRead, IsAmong}
-use Rattle.store_journal.specs.Files.{Content, contents, records_in}
+use Rattle.store_journal.specs.Crash.{Phase, Settled, Going, Stuck, IsWritten, after_start}
+use Rattle.store_journal.specs.Disk.{Bytes, Act, Read, Unread, Found, Unfound, Wrote, Tore, Synced, Unsynced, Turned, Unturned, FileState, Pointer, other, if_same, on_disk, on_current, with_write, with_tear, after_sync, after_reading, MayLeave, MayRead}
+use Rattle.store_journal.specs.Files.{contents}
 use Rattle.store_journal.specs.Frames.{Frame, framed, IsFit, log_end, next_place, place_after, start, wiped}
-use Rattle.store_journal.specs.Journaled.{Log, IsLog, IsIn, IsJournal, Names, NamesOne, at_begun, chance, place_of, position_of}
-use Rattle.store_journal.specs.Opening.{Chooses}
-use Rattle.store_journal.specs.Steps.{with_phase, with_later, with_one, all_kept, AreApart, FrameLaw, SyncLaw, TurnLaw, AdmitLaw, IsOf, OtherLaw, FirstLaw, PartLaw, new_log, WholeLaw, NewLaw, seen, all_seen, ReadLaw, Resumes, ResumeLaw}
-use Rattle.store_journal.specs.Writing.{ended, next_position}
-use Rattle.store_journal.proofs.Left.{Stays, stays, more_contents}
+use Rattle.store_journal.specs.Journaled.{Log, IsLog, IsIn, IsJournal, Names, NamesOne, at_begun, position_of}
+use Rattle.store_journal.specs.Steps.{with_phase, with_later, with_one, all_kept, AreApart, FrameLaw, SyncLaw, TurnLaw, AdmitLaw, OtherLaw, FirstLaw, PartLaw, WholeLaw, NewLaw, seen, all_seen, ReadLaw, ResumeLaw}
+use Rattle.store_journal.specs.Writing.{ended}
+use Rattle.store_journal.proofs.Left.{stays, more_contents}
 use Rattle.store_journal.proofs.Rewritten.{reads, weakens, rewrites, rewriting_tears}
 use Rattle.store_journal.proofs.Standing.{place_append}
-use Rattle.store_journal.proofs.Written.{writes, tears, writes_first, goes_on, keeps, sticks}
+use Rattle.store_journal.proofs.Written.{writes, tears, writes_first, goes_on, keeps}
 
 -- ---- files
 

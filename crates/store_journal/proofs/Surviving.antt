@@ -1,15 +1,12 @@
 -- A crash leaves one of the logs of a journal.
-use Rattle.std.proofs.Common.{◌≡◌, ◌⊎◌, inl, inr, ℕ, List, ◌++◌, Option, Some, None, Ok, refl, sym, ◌∙◌, ap}
-use Rattle.store_journal.specs.declared.current.Current.{Current}
+use Rattle.std.proofs.Common.{◌≡◌, inl, inr, ℕ, List, ◌++◌, Option, Some, None, sym, ◌∙◌, ap}
 use Rattle.store_journal.specs.declared.disk.Slot.{Slot}
 use Rattle.store_journal.specs.declared.disk.Slot.TheVariants.{A, B}
-use Rattle.store_journal.specs.Crash.{Settled, Chance}
 use Rattle.store_journal.specs.Current.{current_in}
 use Rattle.store_journal.specs.Disk.{Bytes, Act, on_disk, MayLeave}
-use Rattle.store_journal.specs.Files.{Content, contents, records_in, IsRotten}
+use Rattle.store_journal.specs.Files.{Content, contents, records_in}
 use Rattle.store_journal.specs.Frames.{Frame}
-use Rattle.store_journal.specs.Journaled.{Log, IsLog, IsIn, IsJournal, Names, HasAll, Survives, Opens, in_slot, at_begun, chance, CrashLaw, SettledLaw}
-use Rattle.store_journal.specs.Opening.{IsDamaged}
+use Rattle.store_journal.specs.Journaled.{Log, IsLog, IsIn, IsJournal, Names, HasAll, Survives, Opens, in_slot, at_begun, CrashLaw, SettledLaw}
 use Rattle.store_journal.proofs.CurrentForms.{current_again}
 use Rattle.store_journal.proofs.Left.{Stays, stays, sound, more_contents}
 

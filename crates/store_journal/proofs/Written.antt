@@ -1,16 +1,15 @@
 -- What each act does to a file to which frames are written.
-use Rattle.std.proofs.Common.{◌≡◌, ◌≢◌, ◌⊎◌, inl, inr, ℕ, ◌<◌, ◌≤◌, ◌+◌, Bool, true, false, List, [], ◌∷◌, ◌++◌, length, take, refl, sym, ◌∙◌, ap, subst, arith, append_assoc, length-append}
+use Rattle.std.proofs.Common.{◌≡◌, ℕ, ◌≤◌, ◌+◌, List, [], ◌∷◌, ◌++◌, length, take, refl, sym, ◌∙◌, ap, subst, arith, append_assoc, length-append}
 use Rattle.std.specs.Bool.{if◌then◌else◌}
 use Rattle.std.specs.Prelude.{◌==◌, nat_lt}
 use Rattle.std.proofs.lemmas.Bool.Decides.{nat_tests}
-use Rattle.std.proofs.lemmas.List.{append-nil, take_at, append_cancel_right, same_from_push}
+use Rattle.std.proofs.lemmas.List.{append-nil, take_at}
 use Rattle.store_journal.specs.declared.digest.Identity.{Identity}
-use Rattle.store_journal.specs.Disk.{Bytes, FileState, shared, over, with_write, with_tear, after_sync, after_reading}
-use Rattle.store_journal.specs.Crash.{IsFront, AreOf, Phase, Settled, Going, Stuck, StandsSo, IsWritten}
-use Rattle.store_journal.specs.Files.{LastFrame}
-use Rattle.store_journal.specs.Frames.{Frame, framed, IsFit, frame_at, log_end, place_after, start, Stand}
+use Rattle.store_journal.specs.Disk.{Bytes, FileState, shared, over, with_write, with_tear, after_sync}
+use Rattle.store_journal.specs.Crash.{IsFront, AreOf, Phase, Settled, Going, Stuck, IsWritten}
+use Rattle.store_journal.specs.Frames.{Frame, framed, IsFit, log_end, place_after, start}
 use Rattle.store_journal.specs.declared.frames.Place.{Place}
-use Rattle.store_journal.proofs.Standing.{framed_is, again_so, of_both, of_none, one_rest, place_append}
+use Rattle.store_journal.proofs.Standing.{framed_is, of_both, of_none, place_append}
 
 if_same : (n : ℕ) (x y : Bytes) → (if n == n then x else y) ≡ x
 if_same n x y = grind (arith, nat_tests)

@@ -4,7 +4,7 @@ use Rattle.store_journal.specs.declared.digest.Identity.{Identity}
 use Rattle.store_journal.specs.declared.frames.Place.{Place}
 use Rattle.store_journal.specs.declared.head.Head.{Head}
 use Rattle.store_journal.specs.Current.{VERSION}
-use Rattle.store_journal.specs.Disk.{Bytes, FileState, MayLeave}
+use Rattle.store_journal.specs.Disk.{Bytes, FileState}
 use Rattle.store_journal.specs.Frames.{Frame, frame_at, head_at, log_end, place_after, start, Stand}
 
 -- one list begins with another

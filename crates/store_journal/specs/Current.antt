@@ -1,5 +1,5 @@
 -- CURRENT as it stands in its file: a struct of seven numbers and their digest (RFC 4506, section 4.14).
-use Rattle.std.specs.Prelude.{◌≡◌, ◌==◌, ◌+◌, ℕ, List, length, if◌then◌else◌, Result, Ok, Err}
+use Rattle.std.specs.Prelude.{◌==◌, ◌+◌, ℕ, length, if◌then◌else◌, Result, Ok, Err}
 use Rattle.xdr_wire.specs.Xdr.{Xdr, Value, hyper, pair, HasSpelling, spelling}
 use Rattle.xdr_wire.specs.Reading.{Read, read_at}
 use Rattle.store_journal.specs.declared.current.Current.{Current}

@@ -1,6 +1,6 @@
 -- The frames of a file, one after the other: each is a struct of a head, its digest and a body (RFC 4506,
 -- section 4.14), and says the digest of the frame before it.
-use Rattle.std.specs.Prelude.{◌≡◌, ◌==◌, ◌+◌, ℕ, Bool, false, List, [], ◌∷◌, ◌++◌, length, replicate}
+use Rattle.std.specs.Prelude.{◌≡◌, ◌==◌, ◌+◌, ℕ, Bool, false, List, [], ◌∷◌, length, replicate}
 use Rattle.std.specs.Prelude.{if◌then◌else◌, Option, Some, None, Ok, Err}
 use Rattle.xdr_wire.specs.Xdr.{Xdr, Value, hyper, opaque, pair, HasSpelling, spelling}
 use Rattle.xdr_wire.specs.Reading.{Read, read_at}

@@ -2,7 +2,6 @@
 use Rattle.std.specs.Prelude.{◌≡◌, ◌≢◌, ◌⊎◌, ◌<◌, ℕ, Bool, true, false, [], ◌++◌, length, Option, Some, None}
 use Rattle.std.specs.Prelude.{Result, Ok, Err}
 use Rattle.store_journal.specs.declared.current.Current.{Current}
-use Rattle.store_journal.specs.declared.disk.Slot.{Slot}
 use Rattle.store_journal.specs.declared.fault.JournalFault.{JournalFault}
 use Rattle.store_journal.specs.declared.fault.JournalFault.TheVariants.{TooLong, Memory, Full, NoCheckpoint, Failed}
 use Rattle.store_journal.specs.declared.journal.Journal.{Journal}

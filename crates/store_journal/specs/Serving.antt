@@ -4,7 +4,7 @@ use Rattle.store_journal.specs.declared.fault.JournalFault.{JournalFault}
 use Rattle.store_journal.specs.declared.fault.JournalFault.TheVariants.{TooLong, Memory, Full, NoCheckpoint, Failed}
 use Rattle.store_journal.specs.declared.journal.Journal.{Journal}
 use Rattle.store_journal.specs.declared.writing.Position.{Position}
-use Rattle.store_journal.specs.Crash.{IsFront, Settled, Going, Stuck, IsWritten}
+use Rattle.store_journal.specs.Crash.{Settled, Going, Stuck, IsWritten}
 use Rattle.store_journal.specs.Current.{turned_to_begun}
 use Rattle.store_journal.specs.Disk.{Bytes, Act, Read, Found, Wrote, Synced, other, on_disk, on_current}
 use Rattle.store_journal.specs.Disk.{MayLeave, MayRead}
@@ -14,8 +14,8 @@ use Rattle.store_journal.specs.Journaled.{Log, IsJournal, HasAll, at_begun, chan
 use Rattle.store_journal.specs.Keeping.{AppendGives, BeginGives, PartGives, FinishGives, ResumeGives, end_frame}
 use Rattle.store_journal.specs.Opening.{Chooses}
 use Rattle.store_journal.specs.Passage.{Passage, passage}
-use Rattle.store_journal.specs.Steps.{AreApart, all_kept, with_one, with_later, new_log, seen, all_seen}
-use Rattle.store_journal.specs.Writing.{ended, next_position}
+use Rattle.store_journal.specs.Steps.{AreApart, all_kept, with_one, with_later, new_log}
+use Rattle.store_journal.specs.Writing.{ended}
 
 -- a disk as the list of its acts, the newest first
 abbrev pub of_acts : List Act → List Act → Passage (List Act)

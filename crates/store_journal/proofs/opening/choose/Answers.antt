@@ -1,4 +1,4 @@
-use Rattle.std.proofs.Common.{◌≡◌, ◌∙◌, true, false, Bool, map, subst, sym}
+use Rattle.std.proofs.Common.{Bool, map, subst}
 use Rattle.store_journal.specs.Files.{IsRead}
 use Rattle.store_journal.proofs.Choosing.{chooses}
 use Rattle.store_journal.proofs.opening.choose.Goals as goal

@@ -1,4 +1,4 @@
-use Rattle.std.proofs.Common.{◌≡◌, ◌∙◌, ◌+◌, ◌≤◌, ℕ, [], Some, None, map, refl, sym, ap, subst, arith, length}
+use Rattle.std.proofs.Common.{◌≡◌, ◌∙◌, None, map, refl, sym, ap, subst, arith}
 use Rattle.store_journal.specs.declared.digest.Identity.{Identity}
 use Rattle.store_journal.specs.declared.frames.Place.{Place}
 use Rattle.store_journal.specs.Disk.{Bytes}

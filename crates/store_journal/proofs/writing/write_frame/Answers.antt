@@ -1,10 +1,9 @@
-use Rattle.std.proofs.Common.{◌≡◌, ◌∙◌, ◌++◌, ◌+◌, ◌≤◌, true, false, replicate, length, refl, sym, ap, subst, arith}
-use Rattle.xdr_wire.specs.Xdr.{Value, hyper, uint, pair, padding, HasSpelling}
-use Rattle.store_journal.specs.declared.head.Head.{Head}
+use Rattle.std.proofs.Common.{◌∙◌, ◌++◌, ◌+◌, replicate, length, refl, ap, subst, arith}
+use Rattle.xdr_wire.specs.Xdr.{hyper, uint, pair, padding, HasSpelling}
 use Rattle.store_journal.specs.Digest.{head_digest}
 use Rattle.store_journal.specs.Disk.{Act, Bytes, Wrote, Tore, wrote}
-use Rattle.store_journal.specs.Frames.{lent, head_for, head_form, head_value, MAX_BODY}
-use Rattle.store_journal.proofs.Fronts.{front_bytes, front_value, head_and_digest, front_is, whole_is, fit_is, written_position}
+use Rattle.store_journal.specs.Frames.{lent, head_form}
+use Rattle.store_journal.proofs.Fronts.{head_and_digest, front_is, whole_is, fit_is, written_position}
 use Rattle.store_journal.proofs.writing.write_frame.Goals as goal
 
 pub returns-then-not-put : goal.returns-then-not-put

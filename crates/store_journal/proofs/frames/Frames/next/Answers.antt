@@ -1,4 +1,4 @@
-use Rattle.std.proofs.Common.{◌≡◌, ◌∙◌, ◌<◌, true, false, sym, ap, refl, arith, length, Ok}
+use Rattle.std.proofs.Common.{◌≡◌, ◌∙◌, true, sym, ap, refl, arith, length, Ok}
 use Rattle.xdr_wire.specs.Reading.{read_at}
 use Rattle.store_journal.specs.Disk.{Bytes}
 use Rattle.store_journal.specs.Frames.{form, head_value, in_place}
