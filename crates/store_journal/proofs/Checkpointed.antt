@@ -1,23 +1,24 @@
 -- A checkpoint leads from a journal that keeps a log to one that keeps the next, and a start to one that goes on.
-use Rattle.std.proofs.Common.{◌≡◌, ◌⊎◌, inl, inr, ℕ, ◌+◌, true, false, List, [], ◌∷◌, ◌++◌, length, Option, Some, None, Ok, Err, refl, sym, ◌∙◌, ap, subst, arith}
+use Rattle.std.proofs.Common.{◌≡◌, ◌⊎◌, inl, inr, ℕ, ◌+◌, true, false, List, [], ◌∷◌, ◌++◌, length, Option, Some, None, Result, Ok, Err, refl, sym, ◌∙◌, ap, subst, arith}
 use Rattle.std.proofs.lemmas.List.{append-nil}
 use Rattle.store_journal.specs.declared.current.Current.{Current}
 use Rattle.store_journal.specs.declared.digest.Identity.{Identity}
 use Rattle.store_journal.specs.declared.disk.Slot.{Slot}
 use Rattle.store_journal.specs.declared.disk.Slot.TheVariants.{A, B}
+use Rattle.store_journal.specs.declared.fault.JournalFault.{JournalFault}
 use Rattle.store_journal.specs.declared.fault.JournalFault.TheVariants.{TooLong, Memory, Full, NoCheckpoint, Failed}
 use Rattle.store_journal.specs.declared.frames.Place.{Place}
 use Rattle.store_journal.specs.declared.journal.Journal.{Journal}
 use Rattle.store_journal.specs.declared.writing.Position.{Position}
-use Rattle.store_journal.specs.Crash.{Going, IsWritten, after_start}
+use Rattle.store_journal.specs.Crash.{Stuck, Going, IsWritten, after_start}
 use Rattle.store_journal.specs.Current.{current_bytes, turned_to_begun, IsFitCurrent}
 use Rattle.store_journal.specs.Disk.{Bytes, Act, Read, Found, Wrote, Tore, Synced, Unsynced, Turned, Unturned, other, on_disk, on_current, MayRead}
 use Rattle.store_journal.specs.Files.{Content, contents}
 use Rattle.store_journal.specs.Frames.{Frame, IsFit, log_end, next_place, place_after, start, framed, wiped}
-use Rattle.store_journal.specs.Journaled.{Log, IsLog, IsIn, IsJournal, at_begun, chance}
-use Rattle.store_journal.specs.Keeping.{with_part, with_checkpoint, end_frame}
-use Rattle.store_journal.specs.Serving.{Matches, Serves, Writes, FurtherLaw, made_log, FinishLaw, RestartLaw, EitherLaw}
-use Rattle.store_journal.specs.Steps.{AreApart, IsOf, with_phase, with_later, all_kept, new_log, all_seen}
+use Rattle.store_journal.specs.Journaled.{position_of, Log, IsLog, IsIn, IsJournal, at_begun, chance}
+use Rattle.store_journal.specs.Keeping.{resumed, ResumeGives, with_part, with_checkpoint, end_frame}
+use Rattle.store_journal.specs.Serving.{of_acts, Matches, Serves, Writes, GoesOn, StopsThere, AfterResume, FurtherLaw, made_log, FinishLaw, RestartLaw, EitherLaw}
+use Rattle.store_journal.specs.Steps.{Resumes, AreApart, IsOf, with_phase, with_later, all_kept, new_log, all_seen}
 use Rattle.store_journal.specs.Writing.{ended, next_position}
 use Rattle.store_journal.proofs.Standing.{place_append}
 use Rattle.store_journal.proofs.Stepping.{first_law, part_law, whole_law, other_law, admit_law, turn_law, sync_law, read_law, resume_law, of_seen, some_is, none_isnt}
@@ -196,8 +197,66 @@ seen_apart log others acts found file apart = record {
 unseen : (log : Log) (file : Bytes) → chance (with_phase log (after_start log.phase)) file → chance log file
 unseen log file fluke = record { tail = fluke.tail; behind = fluke.behind; loose = λ settled. fluke.loose (ap after_start settled); fluke = fluke.fluke }
 
+-- what is written again goes on, by each of its three acts
+module _ (log : Log) (others : List (Option Log)) (begun : ℕ) (content : Option Content) (position : Position) (last_at : ℕ) (last : Bytes) (acts1 : List Act) (apart1 : AreApart (with_phase log (after_start log.phase)) (all_seen others) acts1) (fit : IsFitCurrent (at_begun log.current begun)) (r : Resumes (with_phase log (after_start log.phase)) (all_seen others) acts1 content position last_at last) where
+  abbrev one : Log
+  one = with_later log r.front position.at Going
+
+  abbrev wrote : List Act
+  wrote = Wrote log.current.slot last_at (last ++ wiped) ∷ acts1
+
+  kept : IsJournal (Some (all_kept one) ∷ all_seen others) (Synced log.current.slot ∷ wrote) × IsJournal (Some (with_phase one Stuck) ∷ all_seen others) (Unsynced log.current.slot ∷ wrote) × (position_of (all_kept one) ≡ position_of one)
+  kept = sync_law one (all_seen others) wrote r.wrote (record { there = apart1.there; elsewhere = apart1.elsewhere }) refl
+
+  turned : IsJournal (Some (all_kept one) ∷ []) (Turned (current_bytes (at_begun log.current begun)) ∷ Synced log.current.slot ∷ wrote) × IsJournal (Some (all_kept one) ∷ all_seen others) (Unturned (current_bytes (at_begun log.current begun)) ∷ Synced log.current.slot ∷ wrote)
+  turned = turn_law (Some (all_kept one) ∷ all_seen others) (Synced log.current.slot ∷ wrote) (Some (all_kept one)) (current_bytes (at_begun log.current begun)) kept.0 (inl refl) (begun, refl, fit)
+
+  stops : (acts' : List Act) → IsJournal (Some (with_later log r.front position.at Stuck) ∷ all_seen others) acts' ⊎ IsJournal (Some (all_kept one) ∷ all_seen others) acts' → StopsThere log others content acts'
+  stops acts' journal = record { front = r.front; at = position.at; of_later = r.of_later; content_is = r.content_is; journal = journal }
+
+  goes_on : (j : Journal) (acts' : List Act) → j ≡ resumed (at_begun log.current begun) position → acts' ≡ Turned (current_bytes (at_begun log.current begun)) ∷ Synced log.current.slot ∷ wrote → GoesOn j log content acts'
+  goes_on j acts' is acts_are = record {
+    front = r.front;
+    at = position.at;
+    has_all = record { front = r.front; of_later = r.of_later; content_is = r.content_is };
+    serves = record {
+      journal = subst (IsJournal (Some (all_kept one) ∷ [])) (sym acts_are) turned.0;
+      matches = record {
+        settled = refl;
+        position_is = ap (λ (x : Journal). x.position) is ∙ r.position_is ∙ sym kept.2;
+        current_is = ap (λ (x : Journal). x.current) is ∙ ap (λ (x : Journal). at_begun log.current x.current.begun) (sym is);
+      };
+      going = ap (λ (x : Journal). x.has_failed) is;
+    };
+    content_is = r.content_is;
+  }
+
+resumes : (log : Log) (others : List (Option Log)) (begun : ℕ) (content : Option Content) (position : Position) (last_at : ℕ) (last : Bytes) (acts1 acts' : List Act) (result : Result Journal JournalFault) → AreApart (with_phase log (after_start log.phase)) (all_seen others) acts1 → IsJournal (Some (with_phase log (after_start log.phase)) ∷ all_seen others) acts1 → Resumes (with_phase log (after_start log.phase)) (all_seen others) acts1 content position last_at last
+    → ResumeGives (of_acts acts1 acts') (at_begun log.current begun) position last_at last result → AfterResume log others content acts1 result acts'
+resumes log others begun content position last_at last acts1 acts' (Ok j) apart1 j1 r gives =
+    goes_on log others begun content position last_at last acts1 apart1 gives.1 r j acts' gives.2
+    (gives.0.three ∙ ap (λ (l : List Act). Turned (current_bytes (at_begun log.current begun)) ∷ l) (gives.0.two ∙ ap (λ (l : List Act). Synced log.current.slot ∷ l) gives.0.one))
+resumes log others begun content position last_at last acts1 acts' (Err TooLong) apart1 j1 r gives = absurd gives
+resumes log others begun content position last_at last acts1 acts' (Err Memory) apart1 j1 r gives = (gives, subst (IsJournal (Some (with_phase log (after_start log.phase)) ∷ all_seen others)) (sym gives) j1)
+resumes log others begun content position last_at last acts1 acts' (Err Full) apart1 j1 r gives = absurd gives
+resumes log others begun content position last_at last acts1 acts' (Err NoCheckpoint) apart1 j1 r gives = absurd gives
+resumes log others begun content position last_at last acts1 acts' (Err Failed) apart1 j1 r (inl tore) =
+    record { front = r.front; at = position.at; of_later = r.of_later; content_is = r.content_is; journal = inl (subst (IsJournal (Some (with_later log r.front position.at Stuck) ∷ all_seen others)) (sym tore) r.tore) }
+resumes log others begun content position last_at last acts1 acts' (Err Failed) apart1 j1 r (inr (inl both)) =
+    let one = with_later log r.front position.at Going in
+    let wrote : List Act = Wrote log.current.slot last_at (last ++ wiped) ∷ acts1 in
+    let kept = sync_law one (all_seen others) wrote r.wrote (record { there = apart1.there; elsewhere = apart1.elsewhere }) refl in
+    let acts_are : acts' ≡ Unsynced log.current.slot ∷ wrote = both.two ∙ ap (λ (l : List Act). Unsynced log.current.slot ∷ l) both.one in
+    record { front = r.front; at = position.at; of_later = r.of_later; content_is = r.content_is; journal = inl (subst (IsJournal (Some (with_later log r.front position.at Stuck) ∷ all_seen others)) (sym acts_are) kept.1) }
+resumes log others begun content position last_at last acts1 acts' (Err Failed) apart1 j1 r (inr (inr all)) =
+    let wrote : List Act = Wrote log.current.slot last_at (last ++ wiped) ∷ acts1 in
+    let acts_are : acts' ≡ Unturned (current_bytes (at_begun log.current begun)) ∷ Synced log.current.slot ∷ wrote =
+    all.0.three ∙ ap (λ (l : List Act). Unturned (current_bytes (at_begun log.current begun)) ∷ l) (all.0.two ∙ ap (λ (l : List Act). Synced log.current.slot ∷ l) all.0.one) in
+    stops log others begun content position last_at last acts1 apart1 all.1 r acts'
+    (inr (subst (IsJournal (Some (all_kept (with_later log r.front position.at Going)) ∷ all_seen others)) (sym acts_are) (turned log others begun content position last_at last acts1 apart1 all.1 r).1))
+
 pub restart_law : RestartLaw
-restart_law j log others begun acts acts' found file content position last_at last journal apart left ch gives =
+restart_law log others begun acts acts' found file content position last_at last result journal apart left ch gives =
     let slog = with_phase log (after_start log.phase) in
     let read : List Act = Read found ∷ acts in
     let acts1 : List Act = Found log.current.slot file ∷ read in
@@ -205,31 +264,7 @@ restart_law j log others begun acts acts' found file content position last_at la
     let apart1 = seen_apart log others acts found file apart in
     elim (resume_law slog (all_seen others) begun read file content position last_at last j1 apart1 left ch) [
       | inr fluke ↦ inr (unseen log file fluke)
-      | inl r ↦
-          let c = at_begun log.current begun in
-          let one = with_later log r.front position.at Going in
-          let wrote : List Act = Wrote log.current.slot last_at (last ++ wiped) ∷ acts1 in
-          let apart2 : AreApart one (all_seen others) wrote = record { there = apart1.there; elsewhere = apart1.elsewhere } in
-          let kept = sync_law one (all_seen others) wrote r.wrote apart2 refl in
-          let synced : List Act = Synced log.current.slot ∷ wrote in
-          let turned = turn_law (Some (all_kept one) ∷ all_seen others) synced (Some (all_kept one)) (current_bytes c) kept.0 (inl refl) (begun, refl, gives.1) in
-          let acts_are : acts' ≡ Turned (current_bytes c) ∷ synced =
-          gives.0.three ∙ ap (λ (l : List Act). Turned (current_bytes c) ∷ l) (gives.0.two ∙ ap (λ (l : List Act). Synced log.current.slot ∷ l) gives.0.one) in
-          inl (record {
-            front = r.front;
-            at = position.at;
-            has_all = record { front = r.front; of_later = r.of_later; content_is = r.content_is };
-            serves = record {
-              journal = subst (IsJournal (Some (all_kept one) ∷ [])) (sym acts_are) turned.0;
-              matches = record {
-                settled = refl;
-                position_is = ap (λ (x : Journal). x.position) gives.2 ∙ r.position_is ∙ sym kept.2;
-                current_is = ap (λ (x : Journal). x.current) gives.2 ∙ ap (λ (x : Journal). at_begun log.current x.current.begun) (sym gives.2);
-              };
-              going = ap (λ (x : Journal). x.has_failed) gives.2;
-            };
-            content_is = r.content_is;
-          })
+      | inl r ↦ inl (resumes log others begun content position last_at last acts1 acts' result apart1 j1 r gives)
     ]
 
 pub either_law : EitherLaw

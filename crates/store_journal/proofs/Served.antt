@@ -118,14 +118,14 @@ matches_next j j' (Some log) m is = record {
 }
 
 pub begin_law : BeginLaw
-begin_law j j' log acts acts' (Ok done) s gives =
+begin_law j j' log logs acts acts' (Ok done) journal is m going gives =
     let bytes = current_bytes (begun_next j.current) in
-    let turned = turn_law (log ∷ []) acts log bytes s.journal (inl refl) (names_next j log acts s.matches gives.1) in
+    let turned = turn_law logs acts log bytes journal is (names_next j log acts m gives.1) in
     record {
       serves = record {
         journal = subst (IsJournal (log ∷ [])) (sym gives.0) turned.0;
-        matches = matches_next j j' log s.matches gives.3;
-        going = ap (λ (x : Journal). x.has_failed) gives.3 ∙ s.going;
+        matches = matches_next j j' log m gives.3;
+        going = ap (λ (x : Journal). x.has_failed) gives.3 ∙ going;
       };
       at = at_start (begun_next j.current).begun;
       is_begun = ap (λ (x : Journal). x.next) gives.3;
@@ -144,15 +144,15 @@ begin_law j j' log acts acts' (Ok done) s gives =
 
     some_more : (n : ℕ) → n + 1 ≡ 0 → ⊥
     some_more n is = absurd (omega (arith, is))
-begin_law j j' log acts acts' (Err TooLong) s gives = absurd gives
-begin_law j j' log acts acts' (Err Memory) s gives = (gives.0, gives.1)
-begin_law j j' log acts acts' (Err Full) s gives = (gives.1.0, gives.1.1)
-begin_law j j' log acts acts' (Err NoCheckpoint) s gives = absurd gives
-begin_law j j' log acts acts' (Err Failed) s (inl before) = absurd (apart (sym s.going ∙ before.0))
+begin_law j j' log logs acts acts' (Err TooLong) journal is m going gives = absurd gives
+begin_law j j' log logs acts acts' (Err Memory) journal is m going gives = (gives.0, gives.1)
+begin_law j j' log logs acts acts' (Err Full) journal is m going gives = (gives.1.0, gives.1.1)
+begin_law j j' log logs acts acts' (Err NoCheckpoint) journal is m going gives = absurd gives
+begin_law j j' log logs acts acts' (Err Failed) journal is m going (inl before) = absurd (apart (sym going ∙ before.0))
   where
     apart : false ≡ true → ⊥
     apart e = cc
-begin_law j j' log acts acts' (Err Failed) s (inr now) =
+begin_law j j' log logs acts acts' (Err Failed) journal is m going (inr now) =
     let bytes = current_bytes (begun_next j.current) in
-    let turned = turn_law (log ∷ []) acts log bytes s.journal (inl refl) (names_next j log acts s.matches now.1) in
-    subst (IsJournal (log ∷ [])) (sym now.0) turned.1
+    let turned = turn_law logs acts log bytes journal is (names_next j log acts m now.1) in
+    subst (IsJournal logs) (sym now.0) turned.1

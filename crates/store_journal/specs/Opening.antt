@@ -1,7 +1,6 @@
 -- What a start finds: CURRENT, and what the file that it names has.
 use Rattle.std.specs.Prelude.{◌≡◌, ◌≢◌, ◌⊎◌, ◌+◌, ℕ, List, [], length, Option, Some, None, Ok, Err}
 use Rattle.store_journal.specs.declared.current.Current.{Current}
-use Rattle.store_journal.specs.declared.disk.Slot.{Slot}
 use Rattle.store_journal.specs.declared.disk.Slot.TheVariants.{A, B}
 use Rattle.store_journal.specs.declared.fault.CurrentFault.{CurrentFault}
 use Rattle.store_journal.specs.declared.fault.CurrentFault.TheVariants.{Version as Another, Damaged as Broken}
@@ -40,11 +39,12 @@ Orphaned p =
     ((a : Bytes) × (a ≢ []) × Twice p (Read None) (Found A a))
     ⊎ ((b : Bytes) × (b ≢ []) × Thrice p (Read None) (Found A []) (Found B b))
 
--- CURRENT wasn't read, or a file after it
-pub record LeftUnread {D : Type 0} (p : Passage D) : Type 0 where
-  pub which : Once p Unread
-      ⊎ (((found : Option Bytes) × (s : Slot) × Twice p (Read found) (Unfound s))
-      ⊎ Thrice p (Read None) (Found A []) (Unfound B))
+-- CURRENT wasn't read. Or it was, and the file that it names wasn't. Or there is none, and a file wasn't read.
+abbrev pub LeftUnread : {D : Type 0} → Passage D → Type 0
+LeftUnread p =
+    Once p Unread
+    ⊎ (((found : Bytes) × (c : Current) × (current_in found ≡ Ok c) × Twice p (Read (Some found)) (Unfound c.slot))
+    ⊎ (Twice p (Read None) (Unfound A) ⊎ Thrice p (Read None) (Found A []) (Unfound B)))
 
 abbrev pub LoadFails : {D : Type 0} → Passage D → OpenFault → Type 0
 LoadFails p Failed = LeftUnread p
@@ -74,10 +74,10 @@ LoadsNamed p found (Some c) bytes =
     ⊎ ((c.generation ≢ 0) × Once p (Found c.slot bytes)))
 
 abbrev pub NamedFails : {D : Type 0} → Passage D → Bytes → OpenFault → Type 0
-NamedFails p found Failed = (s : Slot) × Once p (Unfound s)
+NamedFails p found Failed = (c : Current) × (current_in found ≡ Ok c) × Once p (Unfound c.slot)
 NamedFails p found Version = (current_in found ≡ Err Another) × Unchanged p
 NamedFails p found Damaged = (current_in found ≡ Err Broken) × Unchanged p
-NamedFails p found Memory = (s : Slot) × Once p (Unfound s)
+NamedFails p found Memory = (c : Current) × (current_in found ≡ Ok c) × Once p (Unfound c.slot)
 
 -- ---- what it has
 

@@ -4,17 +4,17 @@ use Rattle.store_journal.specs.declared.fault.JournalFault.{JournalFault}
 use Rattle.store_journal.specs.declared.fault.JournalFault.TheVariants.{TooLong, Memory, Full, NoCheckpoint, Failed}
 use Rattle.store_journal.specs.declared.journal.Journal.{Journal}
 use Rattle.store_journal.specs.declared.writing.Position.{Position}
-use Rattle.store_journal.specs.Crash.{Settled, Going, Stuck, IsWritten}
+use Rattle.store_journal.specs.Crash.{IsFront, Settled, Going, Stuck, IsWritten}
 use Rattle.store_journal.specs.Current.{turned_to_begun}
 use Rattle.store_journal.specs.Disk.{Bytes, Act, Read, Found, Wrote, Synced, other, on_disk, on_current}
 use Rattle.store_journal.specs.Disk.{MayLeave, MayRead}
 use Rattle.store_journal.specs.Files.{Content, contents}
 use Rattle.store_journal.specs.Frames.{Frame, place_after, start}
-use Rattle.store_journal.specs.Journaled.{Log, IsJournal, HasAll, at_begun, chance, position_of}
+use Rattle.store_journal.specs.Journaled.{Log, IsIn, IsJournal, HasAll, at_begun, chance, position_of}
 use Rattle.store_journal.specs.Keeping.{AppendGives, BeginGives, PartGives, FinishGives, ResumeGives, end_frame}
 use Rattle.store_journal.specs.Opening.{Chooses}
 use Rattle.store_journal.specs.Passage.{Passage, passage}
-use Rattle.store_journal.specs.Steps.{AreApart, all_kept, with_one, with_later, new_log}
+use Rattle.store_journal.specs.Steps.{AreApart, all_kept, with_one, with_later, new_log, seen, all_seen}
 use Rattle.store_journal.specs.Writing.{ended}
 
 -- a disk as the list of its acts, the newest first
@@ -80,19 +80,23 @@ pub record Writes (j : Journal) (log : Option Log) (parts : List Frame) (acts : 
   pub written : ((parts ≡ []) × (at.at ≡ 0))
       ⊎ IsWritten j.current.identity j.current.begun [] parts at.at Going (on_disk (other j.current.slot) acts)
 
-abbrev pub AfterBegin : Journal → Option Log → List Act → Result (Unit {0}) JournalFault → Journal → List Act → Type 0
-AfterBegin j log acts (Ok done) j' acts' = Writes j' log [] acts'
-AfterBegin j log acts (Err TooLong) j' acts' = ⊥
-AfterBegin j log acts (Err Memory) j' acts' = Stays j j' acts acts'
-AfterBegin j log acts (Err Full) j' acts' = Stays j j' acts acts'
-AfterBegin j log acts (Err NoCheckpoint) j' acts' = ⊥
-AfterBegin j log acts (Err Failed) j' acts' = IsJournal (log ∷ []) acts'
+abbrev pub AfterBegin : Journal → Option Log → List (Option Log) → List Act → Result (Unit {0}) JournalFault
+    → Journal → List Act → Type 0
+AfterBegin j log logs acts (Ok done) j' acts' = Writes j' log [] acts'
+AfterBegin j log logs acts (Err TooLong) j' acts' = ⊥
+AfterBegin j log logs acts (Err Memory) j' acts' = Stays j j' acts acts'
+AfterBegin j log logs acts (Err Full) j' acts' = Stays j j' acts acts'
+AfterBegin j log logs acts (Err NoCheckpoint) j' acts' = ⊥
+AfterBegin j log logs acts (Err Failed) j' acts' = IsJournal logs acts'
 
--- a checkpoint that is begun leaves the log
+-- A checkpoint that is begun leaves the log. It may be one of several that may count, as where a first checkpoint was
+-- finished but for its turn, and a start found the CURRENT before it.
 abbrev pub BeginLaw : Type 0
 BeginLaw =
-    (j j' : Journal) (log : Option Log) (acts acts' : List Act) (result : Result (Unit {0}) JournalFault)
-    → Serves j log acts → BeginGives (of_acts acts acts') j result j' → AfterBegin j log acts result j' acts'
+    (j j' : Journal) (log : Option Log) (logs : List (Option Log)) (acts acts' : List Act)
+    (result : Result (Unit {0}) JournalFault)
+    → IsJournal logs acts → IsIn log logs → Matches j log → j.has_failed ≡ false
+    → BeginGives (of_acts acts acts') j result j' → AfterBegin j log logs acts result j' acts'
 
 abbrev pub AfterPart : Journal → Option Log → List Frame → List Act → Result (Unit {0}) JournalFault → Journal
     → List Act → Type 0
@@ -146,15 +150,36 @@ pub record GoesOn (j : Journal) (log : Log) (content : Option Content) (acts : L
   pub serves : Serves j (Some (all_kept (with_later log front at Going))) acts
   pub content_is : content ≡ Some (all_kept (with_later log front at Going)).content
 
+-- going on has failed: what was chosen may count yet, as one of those that may
+pub record StopsThere (log : Log) (others : List (Option Log)) (content : Option Content) (acts : List Act)
+    : Type 0 where
+  pub front : List Frame
+  pub at : ℕ
+  pub of_later : IsFront front log.later
+  pub content_is : content ≡ Some (all_kept (with_later log front at Going)).content
+  pub journal : IsJournal (Some (with_later log front at Stuck) ∷ all_seen others) acts
+      ⊎ IsJournal (Some (all_kept (with_later log front at Going)) ∷ all_seen others) acts
+
+abbrev pub AfterResume : Log → List (Option Log) → Option Content → List Act → Result Journal JournalFault
+    → List Act → Type 0
+AfterResume log others content acts (Ok j) acts' = GoesOn j log content acts'
+AfterResume log others content acts (Err TooLong) acts' = ⊥
+AfterResume log others content acts (Err Memory) acts' =
+    (acts' ≡ acts) × IsJournal (seen (Some log) ∷ all_seen others) acts'
+AfterResume log others content acts (Err Full) acts' = ⊥
+AfterResume log others content acts (Err NoCheckpoint) acts' = ⊥
+AfterResume log others content acts (Err Failed) acts' = StopsThere log others content acts'
+
 abbrev pub RestartLaw : Type 0
 RestartLaw =
-    (j : Journal) (log : Log) (others : List (Option Log)) (begun : ℕ) (acts acts' : List Act)
+    (log : Log) (others : List (Option Log)) (begun : ℕ) (acts acts' : List Act)
     (found : Option Bytes) (file : Bytes) (content : Option Content) (position : Position) (last_at : ℕ) (last : Bytes)
+    (result : Result Journal JournalFault)
     → IsJournal (Some log ∷ others) acts → AreApart log others acts → MayLeave (on_disk log.current.slot acts) file
     → Chooses (at_begun log.current begun) file content position last_at last
     → ResumeGives (of_acts (Found log.current.slot file ∷ Read found ∷ acts) acts') (at_begun log.current begun)
-    position last_at last (Ok j)
-    → GoesOn j log content acts' ⊎ chance log file
+    position last_at last result
+    → AfterResume log others content (Found log.current.slot file ∷ Read found ∷ acts) result acts' ⊎ chance log file
 
 -- two logs of which either may count
 abbrev pub EitherLaw : Type 0
