@@ -168,8 +168,8 @@ noted Failed j = failed j
 
 -- ---- going on after a start
 
--- The last frame that was found is written again, with what stands behind it wiped. Then its file is synced, and CURRENT
--- is turned to what it says. Only then the journal goes on.
+-- The last frame that was found is written again, with what stands behind it wiped. Then its file is synced, and
+-- CURRENT is turned to what it says. Only then the journal goes on.
 abbrev pub ResumeGives : {D : Type 0} → Passage D → Current → Position → ℕ → Bytes
     → Result Journal JournalFault → Type 0
 ResumeGives p c position last_at last (Ok j) =
