@@ -10,6 +10,7 @@ pub mod Placing
 pub mod Rewritten
 pub mod Served
 pub mod Standing
+pub mod Started
 pub mod Stepping
 pub mod Surviving
 pub mod Written

@@ -31,7 +31,7 @@ damaged log frames whole none s = apart (sym none ∙ ap contents s.parts ∙ mo
     apart : None ≡ Some content → ⊥
     apart e = cc
 
-survives : (log : Log) (acts : List Act) (file : Bytes) (begun : ℕ) → IsLog log acts → MayLeave (on_disk log.current.slot acts) file → Survives log (at_begun log.current begun) file
+pub survives : (log : Log) (acts : List Act) (file : Bytes) (begun : ℕ) → IsLog log acts → MayLeave (on_disk log.current.slot acts) file → Survives log (at_begun log.current begun) file
 survives log acts file begun l m =
     let c = log.current in
     let d = on_disk c.slot acts in

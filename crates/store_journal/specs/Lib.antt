@@ -9,5 +9,6 @@ pub mod Keeping
 pub mod Opening
 pub mod Passage
 pub mod Serving
+pub mod Starting
 pub mod Steps
 pub mod Writing

@@ -1,6 +1,7 @@
 //! The laws of a journal: what a crash leaves of it at any moment, and what each act does to it.
 ghost use Rattle.store_journal.specs.Journaled.{CrashLaw, SettledLaw};
 ghost use Rattle.store_journal.specs.Serving.{AppendLaw, BeginLaw, EitherLaw, FinishLaw, FurtherLaw, RestartLaw};
+ghost use Rattle.store_journal.specs.Starting.{FindLaw, RefuseLaw};
 ghost use Rattle.store_journal.specs.Steps.{AdmitLaw, FirstLaw, FrameLaw, NewLaw, OtherLaw, PartLaw, ReadLaw};
 ghost use Rattle.store_journal.specs.Steps.{ResumeLaw, SyncLaw, TurnLaw, WholeLaw};
 
@@ -88,6 +89,16 @@ pub fn a_further_part_leaves_the_log()
 /// After `finish` the new log counts. Where the disk fails it is the old one, or either.
 pub fn a_finished_checkpoint_counts()
     ensures { FinishLaw }
+{}
+
+/// Over a disk that gives what its acts may have left, `load` gives one of the logs that may count.
+pub fn a_start_finds_one_of_the_logs()
+    ensures { FindLaw }
+{}
+
+/// And it refuses nothing, but for a disk that can't be read or for want of memory.
+pub fn a_start_is_never_refused()
+    ensures { RefuseLaw }
 {}
 
 /// After `load`, `choose` and `resume` what was chosen is kept again, and the journal goes on after it, unless a digest
