@@ -15,7 +15,7 @@ use Rattle.store_journal.specs.Current.{current_bytes, turned_to_begun, IsFitCur
 use Rattle.store_journal.specs.Disk.{Bytes, Act, Read, Found, Wrote, Tore, Synced, Unsynced, Turned, Unturned, other, on_disk, on_current, MayRead}
 use Rattle.store_journal.specs.Files.{Content, contents}
 use Rattle.store_journal.specs.Frames.{Frame, IsFit, log_end, next_place, place_after, start, framed, wiped}
-use Rattle.store_journal.specs.Journaled.{position_of, Log, IsLog, IsIn, IsJournal, at_begun, chance}
+use Rattle.store_journal.specs.Journaled.{position_of, Log, IsLog, IsIn, IsJournal, at_begun, ByChance}
 use Rattle.store_journal.specs.Keeping.{resumed, ResumeGives, with_part, with_checkpoint, end_frame}
 use Rattle.store_journal.specs.Serving.{of_acts, Matches, Serves, Writes, GoesOn, StopsThere, AfterResume, FurtherLaw, made_log, FinishLaw, RestartLaw, EitherLaw}
 use Rattle.store_journal.specs.Steps.{Resumes, AreApart, IsOf, with_phase, with_later, all_kept, new_log, all_seen}
@@ -194,7 +194,7 @@ seen_apart log others acts found file apart = record {
       ap (λ (x : Log). x.current.slot) w.is ∙ apart.elsewhere w.was w.of_these;
 }
 
-unseen : (log : Log) (file : Bytes) → chance (with_phase log (after_start log.phase)) file → chance log file
+unseen : (log : Log) (file : Bytes) → ByChance (with_phase log (after_start log.phase)) file → ByChance log file
 unseen log file fluke = record { tail = fluke.tail; behind = fluke.behind; loose = λ settled. fluke.loose (ap after_start settled); fluke = fluke.fluke }
 
 -- what is written again goes on, by each of its three acts

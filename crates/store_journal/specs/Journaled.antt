@@ -78,8 +78,8 @@ abbrev pub in_slot : {X : Type 0} → Slot → X → X → X
 in_slot A x y = x
 in_slot B x y = y
 
-abbrev pub chance : Log → Bytes → Type 0
-chance log file = Chance log.current.identity log.current.generation log.kept log.later log.phase file
+abbrev pub ByChance : Log → Bytes → Type 0
+ByChance log file = Chance log.current.identity log.current.generation log.kept log.later log.phase file
 
 -- the checkpoint, all records that are kept, and a front of the later ones
 pub record HasAll (log : Log) (content : Option Content) : Type 0 where
@@ -94,8 +94,8 @@ pub record HasAll (log : Log) (content : Option Content) : Type 0 where
 -- of the later ones, and it isn't damaged.**
 pub record Survives (log : Log) (c : Current) (file : Bytes) : Type 0 where
   pub chosen : (content : Option Content) (position : Position) (at : ℕ) (bytes : Bytes)
-      → Chooses c file content position at bytes → HasAll log content ⊎ chance log file
-  pub sound : IsDamaged c file → chance log file
+      → Chooses c file content position at bytes → HasAll log content ⊎ ByChance log file
+  pub sound : IsDamaged c file → ByChance log file
 
 -- CURRENT is whole, and what it names survives
 abbrev pub Opens : Option Log → Option Bytes → Bytes → Bytes → Type 0
@@ -121,4 +121,4 @@ CrashLaw =
 
 -- **Where all is synced nothing is owed to chance.**
 abbrev pub SettledLaw : Type 0
-SettledLaw = (log : Log) (file : Bytes) → log.phase ≡ Settled → chance log file → ⊥
+SettledLaw = (log : Log) (file : Bytes) → log.phase ≡ Settled → ByChance log file → ⊥

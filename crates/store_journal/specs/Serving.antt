@@ -10,7 +10,7 @@ use Rattle.store_journal.specs.Disk.{Bytes, Act, Read, Found, Wrote, Synced, oth
 use Rattle.store_journal.specs.Disk.{MayLeave, MayRead}
 use Rattle.store_journal.specs.Files.{Content, contents}
 use Rattle.store_journal.specs.Frames.{Frame, place_after, start}
-use Rattle.store_journal.specs.Journaled.{Log, IsIn, IsJournal, HasAll, at_begun, chance, position_of}
+use Rattle.store_journal.specs.Journaled.{Log, IsIn, IsJournal, HasAll, at_begun, ByChance, position_of}
 use Rattle.store_journal.specs.Keeping.{AppendGives, BeginGives, PartGives, FinishGives, ResumeGives, end_frame}
 use Rattle.store_journal.specs.Opening.{Chooses}
 use Rattle.store_journal.specs.Passage.{Passage, passage}
@@ -179,7 +179,7 @@ RestartLaw =
     → Chooses (at_begun log.current begun) file content position last_at last
     → ResumeGives (of_acts (Found log.current.slot file ∷ Read found ∷ acts) acts') (at_begun log.current begun)
     position last_at last result
-    → AfterResume log others content (Found log.current.slot file ∷ Read found ∷ acts) result acts' ⊎ chance log file
+    → AfterResume log others content (Found log.current.slot file ∷ Read found ∷ acts) result acts' ⊎ ByChance log file
 
 -- two logs of which either may count
 abbrev pub EitherLaw : Type 0

@@ -9,7 +9,7 @@ use Rattle.store_journal.specs.Disk.{Bytes, Act, Read, Unread, Found, Unfound, W
 use Rattle.store_journal.specs.Disk.{Turned, Unturned, other, on_disk, on_current, MayLeave, MayRead}
 use Rattle.store_journal.specs.Files.{Content, contents, records_in}
 use Rattle.store_journal.specs.Frames.{Frame, framed, IsFit, log_end, place_after, start, wiped}
-use Rattle.store_journal.specs.Journaled.{Log, IsLog, IsIn, IsJournal, Names, at_begun, chance, place_of, position_of}
+use Rattle.store_journal.specs.Journaled.{Log, IsLog, IsIn, IsJournal, Names, at_begun, ByChance, place_of, position_of}
 use Rattle.store_journal.specs.Opening.{Chooses}
 use Rattle.store_journal.specs.Writing.{ended, next_position}
 
@@ -199,4 +199,4 @@ ResumeLaw =
     → AreApart log others (Found log.current.slot file ∷ acts)
     → MayLeave (on_disk log.current.slot acts) file
     → Chooses (at_begun log.current begun) file content position last_at last
-    → Resumes log others (Found log.current.slot file ∷ acts) content position last_at last ⊎ chance log file
+    → Resumes log others (Found log.current.slot file ∷ acts) content position last_at last ⊎ ByChance log file

@@ -17,7 +17,7 @@ use std::alloc::Allocator;
 
 /// CURRENT, and the bytes of the file that it names.
 #[derive(Drop)]
-pub struct Found<A: Allocator> {
+pub struct Loaded<A: Allocator> {
     /// `None`: nothing is there, and the store is new. Of generation 0: no checkpoint was finished yet.
     pub current: Option<Current>,
     /// The bytes of the file that counts, and none where no checkpoint was finished yet.
@@ -43,7 +43,7 @@ pub struct Chosen<'a, A: Allocator> {
 /// Loads CURRENT, and the file that it names. Where there is no CURRENT, both files have to be
 /// empty. `Version`: CURRENT is of another version. `Damaged`: CURRENT isn't whole, or it isn't
 /// there and a file isn't empty.
-pub fn load<D: Disk, A: Allocator + Copy>(disk: &mut D, alloc: A) -> Result<Found<A>, OpenFault>
+pub fn load<D: Disk, A: Allocator + Copy>(disk: &mut D, alloc: A) -> Result<Loaded<A>, OpenFault>
     ensures { MatchResult result
         (λ found. LoadsSo (passage D.adds disk.old disk.new) found.current found.bytes.items)
         (λ e. LoadFails (passage D.adds disk.old disk.new) e) }
@@ -60,7 +60,7 @@ pub fn load<D: Disk, A: Allocator + Copy>(disk: &mut D, alloc: A) -> Result<Foun
 }
 
 /// Sees that both files are empty.
-fn load_none<D: Disk, A: Allocator + Copy>(disk: &mut D, alloc: A) -> Result<Found<A>, OpenFault>
+fn load_none<D: Disk, A: Allocator + Copy>(disk: &mut D, alloc: A) -> Result<Loaded<A>, OpenFault>
     ensures { MatchResult result
         (λ found. NoFiles (passage D.adds disk.old disk.new) found.current found.bytes.items)
         (λ e. NoneFails (passage D.adds disk.old disk.new) e) }
@@ -81,7 +81,7 @@ fn load_none<D: Disk, A: Allocator + Copy>(disk: &mut D, alloc: A) -> Result<Fou
     if !bytes.is_empty() {
         return Err(OpenFault::Damaged);
     }
-    Ok(Found {
+    Ok(Loaded {
         current: None,
         bytes,
     })
@@ -92,7 +92,7 @@ fn load_named<D: Disk, A: Allocator + Copy>(
     disk: &mut D,
     alloc: A,
     bytes: &[u8],
-) -> Result<Found<A>, OpenFault>
+) -> Result<Loaded<A>, OpenFault>
     ensures { MatchResult result
         (λ found. LoadsNamed (passage D.adds disk.old disk.new) bytes.now found.current found.bytes.items)
         (λ e. NamedFails (passage D.adds disk.old disk.new) bytes.now e) }
@@ -103,13 +103,13 @@ fn load_named<D: Disk, A: Allocator + Copy>(
         Err(CurrentFault::Damaged) => return Err(OpenFault::Damaged),
     };
     if current.generation == 0 {
-        return Ok(Found {
+        return Ok(Loaded {
             current: Some(current),
             bytes: Vec::new(alloc),
         });
     }
     match disk.load(alloc, current.slot) {
-        Ok(bytes) => Ok(Found {
+        Ok(bytes) => Ok(Loaded {
             current: Some(current),
             bytes,
         }),
