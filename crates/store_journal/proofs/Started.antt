@@ -77,14 +77,18 @@ file_read logs acts acts' c found file j honest is some acts_are =
           let c_is : c ≡ at_begun log.current one.2.0 = same ∙ one.2.1 in
           let slot : c.slot ≡ log.current.slot = ap (λ (x : Current). x.slot) c_is in
           let left : MayLeave (on_disk log.current.slot acts) file = subst (λ (t : Slot). MayLeave (on_disk t acts) file) slot honest_so.0 in
-          inr (log, one.1, record {
-            begun = one.2.0;
-            current_is = c_is;
-            found = Some found;
-            acts_are = acts_are ∙ ap (λ (t : Slot). Found t file ∷ Read (Some found) ∷ acts) slot;
-            left = left;
-            survives = subst (λ (x : Current). Survives log x file) (sym c_is) (survives log acts file one.2.0 (j.written log one.1) left);
-          })
+          inr (
+            log,
+            one.1,
+            record {
+              begun = one.2.0;
+              current_is = c_is;
+              found = Some found;
+              acts_are = acts_are ∙ ap (λ (t : Slot). Found t file ∷ Read (Some found) ∷ acts) slot;
+              left = left;
+              survives = subst (λ (x : Current). Survives log x file) (sym c_is) (survives log acts file one.2.0 (j.written log one.1) left);
+            },
+          )
     ]
 
 none_finished : (logs : List (Option Log)) (acts acts' : List Act) (c : Current) (found file : Bytes) → IsJournal logs acts → IsHonest acts' → current_in found ≡ Ok c → c.generation ≡ 0 → acts' ≡ Read (Some found) ∷ acts → file ≡ [] → Finds logs acts acts' (Some c) file

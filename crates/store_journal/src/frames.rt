@@ -34,7 +34,7 @@ pub struct Place {
 
 impl Place {
     /// The place of the first frame.
-    pub(crate) fn start(generation: u64) -> Self
+    pub fn start(generation: u64) -> Self
         ensures { result ≡ start generation }
     {
         Place {

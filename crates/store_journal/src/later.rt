@@ -9,7 +9,7 @@ use xdr_wire::Reader;
 
 /// Whether the log ends in order at the front of the bytes: eight zero bytes stand there.
 #[tactic(auto, unfolding(crate::specs::Files::is_ended))]
-pub(crate) fn is_ended(rest: &[u8]) -> bool
+pub fn is_ended(rest: &[u8]) -> bool
     ensures { result ≡ is_ended rest.now }
 {
     match Reader::new(rest).u64() {
