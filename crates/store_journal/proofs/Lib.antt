@@ -1,3 +1,4 @@
+pub mod BegunOnce
 pub mod Checkpointed
 pub mod Choosing
 pub mod CurrentForms

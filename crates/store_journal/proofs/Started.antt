@@ -1,17 +1,14 @@
 -- A start finds one of the logs of a journal, and is never refused.
-use Rattle.std.proofs.Common.{◌≡◌, ◌≢◌, ◌⊎◌, inl, inr, ℕ, Bool, false, List, [], ◌∷◌, Option, Some, None, Result, Ok, Err, refl, sym, ◌∙◌, ap, subst}
+use Rattle.std.proofs.Common.{◌≡◌, ◌≢◌, ◌⊎◌, inl, inr, ℕ, false, List, [], ◌∷◌, Option, Some, None, Result, Ok, Err, refl, sym, ◌∙◌, ap, subst}
 use Rattle.store_journal.specs.declared.current.Current.{Current}
 use Rattle.store_journal.specs.declared.disk.Slot.{Slot}
 use Rattle.store_journal.specs.declared.disk.Slot.TheVariants.{A, B}
 use Rattle.store_journal.specs.declared.fault.CurrentFault.{CurrentFault}
-use Rattle.store_journal.specs.declared.fault.OpenFault.{OpenFault}
 use Rattle.store_journal.specs.declared.fault.OpenFault.TheVariants.{Failed, Version, Damaged, Memory}
-use Rattle.store_journal.specs.Current.{current_in, current_bytes, IsFitCurrent}
+use Rattle.store_journal.specs.Current.{current_in}
 use Rattle.store_journal.specs.Disk.{Bytes, Act, Read, Found, on_disk, on_current, MayLeave, MayRead}
-use Rattle.store_journal.specs.Journaled.{Log, IsIn, IsJournal, Names, NamesOne, Survives, at_begun}
-use Rattle.store_journal.specs.Opening.{LoadsSo, LoadFails}
-use Rattle.store_journal.specs.Serving.{of_acts}
-use Rattle.store_journal.specs.Starting.{IsHonest, FindsLog, Finds, FindLaw, RefuseLaw}
+use Rattle.store_journal.specs.Journaled.{Log, IsIn, IsJournal, Names, Survives, at_begun}
+use Rattle.store_journal.specs.Starting.{IsHonest, Finds, FindLaw, RefuseLaw}
 use Rattle.store_journal.proofs.CurrentForms.{current_again}
 use Rattle.store_journal.proofs.Surviving.{survives}
 

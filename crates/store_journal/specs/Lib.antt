@@ -1,3 +1,4 @@
+pub mod Begun
 pub mod Crash
 pub mod Current
 pub mod Digest

@@ -1,4 +1,5 @@
 //! The laws of a journal: what a crash leaves of it at any moment, and what each act does to it.
+ghost use Rattle.store_journal.specs.Begun.{AgainLaw, FreshLaw, NewGenerationLaw};
 ghost use Rattle.store_journal.specs.Journaled.{CrashLaw, SettledLaw};
 ghost use Rattle.store_journal.specs.Serving.{AppendLaw, BeginLaw, EitherLaw, FinishLaw, FurtherLaw, RestartLaw};
 ghost use Rattle.store_journal.specs.Starting.{FindLaw, RefuseLaw};
@@ -105,6 +106,21 @@ pub fn a_start_is_never_refused()
 /// fits by chance.
 pub fn a_start_goes_on_with_all()
     ensures { RestartLaw }
+{}
+
+/// No frame of a generation, nor of a later one, was ever written when it is begun.
+pub fn a_generation_that_is_begun_is_new()
+    ensures { NewGenerationLaw }
+{}
+
+/// So it stays over each call, also where the disk fails.
+pub fn each_call_leaves_the_next_generation_new()
+    ensures { FreshLaw }
+{}
+
+/// And over a start.
+pub fn a_start_leaves_the_next_generation_new()
+    ensures { AgainLaw }
 {}
 
 /// The order of two logs of which either may count says nothing.
