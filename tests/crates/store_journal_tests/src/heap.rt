@@ -66,3 +66,37 @@ fn a_call_succeeds_or_changes_nothing(rt: HostRuntime) -> Result<(), Fail> {
     assert!(rt; done > 0);
     Ok(())
 }
+
+#[test]
+fn each_call_of_a_checkpoint_too(rt: HostRuntime) -> Result<(), Fail> {
+    let alloc = rt.alloc();
+    let mut refused = 0u32;
+    for size in 0..48usize {
+        let mut disk = Memory::new(alloc, nothing(alloc), 1000);
+        let Ok(mut journal) = run(alloc, &mut disk) else {
+            return Ok(());
+        };
+        let heap = LocalHeap::new(alloc, 16 + size * 8)?;
+        let count = disk.events.len();
+        if let Err(fault) = journal.begin(&mut disk, &heap) {
+            assert!(rt; fault == JournalFault::Memory && disk.events.len() == count);
+            assert!(rt; journal.begin(&mut disk, alloc).is_ok());
+            refused = refused.saturating_add(1);
+        }
+        assert_eq!(rt; disk.events.len(), count + 1);
+        if let Err(fault) = journal.part(&mut disk, &heap, &[7]) {
+            assert!(rt; fault == JournalFault::Memory && disk.events.len() == count + 1);
+            assert!(rt; journal.part(&mut disk, alloc, &[7]).is_ok());
+            refused = refused.saturating_add(1);
+        }
+        assert_eq!(rt; disk.events.len(), count + 2);
+        if let Err(fault) = journal.finish(&mut disk, &heap, 5) {
+            assert!(rt; fault == JournalFault::Memory && disk.events.len() == count + 2);
+            assert!(rt; journal.finish(&mut disk, alloc, 5).is_ok());
+            refused = refused.saturating_add(1);
+        }
+        assert_eq!(rt; disk.events.len(), count + 5);
+    }
+    assert!(rt; refused > 0);
+    Ok(())
+}
