@@ -1,0 +1,17 @@
+pub mod BegunOnce
+pub mod Checkpointed
+pub mod Choosing
+pub mod CurrentForms
+pub mod Fronts
+pub mod Gathering
+pub mod LaterHeads
+pub mod Left
+pub mod LogEnds
+pub mod Placing
+pub mod Rewritten
+pub mod Served
+pub mod Standing
+pub mod Started
+pub mod Stepping
+pub mod Surviving
+pub mod Written

@@ -1,0 +1,15 @@
+pub mod Begun
+pub mod Crash
+pub mod Current
+pub mod Digest
+pub mod Disk
+pub mod Files
+pub mod Frames
+pub mod Journaled
+pub mod Keeping
+pub mod Opening
+pub mod Passage
+pub mod Serving
+pub mod Starting
+pub mod Steps
+pub mod Writing

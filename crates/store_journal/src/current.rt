@@ -1,0 +1,200 @@
+//! CURRENT: which store this is, and which file and generation count.
+ghost use Rattle.std.specs.Prelude.{◌≡◌, ◌+◌, ◌<◌, ◌^◌, IfOk};
+ghost use Rattle.store_journal.specs.Current.{new_current, begun_next, turned_to_begun, form_of, in_known_slot};
+ghost use Rattle.store_journal.specs.Current.{current_in, current_bytes, IsFitCurrent};
+ghost use Rattle.store_journal.specs.Disk.{other};
+
+use crate::digest::{Identity, current_digest_of};
+use crate::disk::Slot;
+use crate::fault::CurrentFault;
+use std::alloc::{AllocError, Allocator};
+use xdr_wire::{Full, Reader, Spell, Wire, Writer, XdrFault};
+
+/// The version of the form of CURRENT and of frames.
+pub(crate) const VERSION: u64 = 3;
+
+/// The bytes of CURRENT: seven numbers and their digest.
+const SIZE: usize = 8 * 8;
+
+/// What CURRENT says.
+#[derive(Clone, Copy, Debug, PartialEq, Eq)]
+pub struct Current {
+    pub identity: Identity,
+    /// The generation that counts, and 0 where no checkpoint was finished yet.
+    pub generation: u64,
+    /// The last generation that was begun. None is begun twice, so that no frame that a checkpoint
+    /// which was given up left behind is of a later one's generation.
+    pub begun: u64,
+    /// The file of the generation that counts.
+    pub slot: Slot,
+    /// A number of the caller's, as the version of what the bytes of parts and records mean.
+    pub machine: u64,
+}
+
+/// The numbers of CURRENT, as they stand in its file. They keep this form in all versions.
+#[derive(Clone, Copy, Debug, PartialEq, Eq)]
+pub(crate) struct CurrentForm {
+    pub version: u64,
+    pub high: u64,
+    pub low: u64,
+    pub generation: u64,
+    pub begun: u64,
+    /// 0 the first file, 1 the second one.
+    pub slot: u64,
+    pub machine: u64,
+}
+
+/// The other file.
+pub(crate) fn other_slot(slot: Slot) -> Slot
+    ensures { result ≡ other slot }
+{
+    match slot {
+        Slot::A => Slot::B,
+        Slot::B => Slot::A,
+    }
+}
+
+impl Current {
+    /// That of a new store. Its identity is drawn once, at random.
+    pub fn new(identity: Identity, machine: u64) -> Self
+        ensures { result ≡ new_current identity machine }
+    {
+        Current {
+            identity,
+            generation: 0,
+            begun: 0,
+            slot: Slot::B,
+            machine,
+        }
+    }
+
+    /// One generation more is begun.
+    pub(crate) fn begin_next(self) -> Self
+        requires { self.begun + 1 < 2 ^ 64 }
+        ensures { result ≡ begun_next self }
+    {
+        Current {
+            begun: self.begun + 1,
+            ..self
+        }
+    }
+
+    /// The generation that was begun last counts, in the other file.
+    pub(crate) fn turn_to_begun(self, machine: u64) -> Self
+        ensures { result ≡ turned_to_begun self machine }
+    {
+        Current {
+            generation: self.begun,
+            slot: other_slot(self.slot),
+            machine,
+            ..self
+        }
+    }
+
+    /// Its numbers.
+    fn form(self) -> CurrentForm
+        ensures { result ≡ form_of self }
+    {
+        CurrentForm {
+            version: VERSION,
+            high: self.identity.high,
+            low: self.identity.low,
+            generation: self.generation,
+            begun: self.begun,
+            slot: match self.slot {
+                Slot::A => 0,
+                Slot::B => 1,
+            },
+            machine: self.machine,
+        }
+    }
+
+    /// Its bytes.
+    #[tactic(auto, unfolding(crate::specs::Current::current_bytes, crate::specs::Current::IsFitCurrent))]
+    pub(crate) fn bytes<A: Allocator>(self, alloc: A) -> Result<Writer<A>, AllocError>
+        ensures bytes { IfOk result (λ w. w.bytes ≡ current_bytes self) }
+        ensures fit { IfOk result (λ w. IsFitCurrent self) }
+    {
+        let mut writer = Writer::new(alloc, SIZE)?;
+        let form = self.form();
+        let Ok(()) = (form, current_digest_of(form)).write(&mut writer) else {
+            return Err(AllocError);
+        };
+        Ok(writer)
+    }
+}
+
+impl CurrentForm {
+    /// What it says, in a file that is known.
+    fn in_known_slot(self) -> Result<Current, CurrentFault>
+        ensures { result ≡ in_known_slot self }
+    {
+        let slot = match self.slot {
+            0 => Slot::A,
+            1 => Slot::B,
+            _ => return Err(CurrentFault::Damaged),
+        };
+        Ok(Current {
+            identity: Identity {
+                high: self.high,
+                low: self.low,
+            },
+            generation: self.generation,
+            begun: self.begun,
+            slot,
+            machine: self.machine,
+        })
+    }
+}
+
+/// What CURRENT says. `Version`: it is whole, and of another version. `Damaged`: it isn't whole.
+#[tactic(auto, unfolding(crate::specs::Current::current_in))]
+pub(crate) fn read_current(bytes: &[u8]) -> Result<Current, CurrentFault>
+    ensures { result ≡ current_in bytes.now }
+{
+    let mut reader = Reader::new(bytes);
+    let Ok((form, digest)) = <(CurrentForm, u64)>::read(&mut reader) else {
+        return Err(CurrentFault::Damaged);
+    };
+    if reader.len() != 0 {
+        return Err(CurrentFault::Damaged);
+    }
+    if digest != current_digest_of(form) {
+        return Err(CurrentFault::Damaged);
+    }
+    if form.version != VERSION {
+        return Err(CurrentFault::Version);
+    }
+    form.in_known_slot()
+}
+
+impl Spell for CurrentForm {
+    ghost use Rattle.std.specs.Prelude.{None};
+    ghost use Rattle.store_journal.specs.Current.{numbers_form, numbers_value};
+
+    ghost form = { numbers_form };
+
+    ghost view = { numbers_value };
+
+    ghost normal = { None };
+
+    fn write<A: Allocator>(self, writer: &mut Writer<A>) -> Result<(), Full> {
+        let file = (self.generation, (self.begun, (self.slot, self.machine)));
+        (self.version, (self.high, (self.low, file))).write(writer)
+    }
+}
+
+impl<'a> Wire<'a> for CurrentForm {
+    fn read(reader: &mut Reader<'a>) -> Result<Self, XdrFault> {
+        let (version, (high, (low, (generation, (begun, (slot, machine)))))) = Wire::read(reader)?;
+        Ok(CurrentForm {
+            version,
+            high,
+            low,
+            generation,
+            begun,
+            slot,
+            machine,
+        })
+    }
+}

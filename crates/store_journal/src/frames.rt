@@ -1,0 +1,124 @@
+//! The frames at the front of a file's bytes, and the frames that are written.
+ghost use Rattle.std.specs.Prelude.{◌≡◌, ◌<◌, ◌+◌, ◌++◌, ◌^◌, ◌↔◌, length, Err, IfOk, IfNone, OnSome};
+ghost use Rattle.store_journal.specs.Frames.{Takes, lent, framed, in_place, start, IsFit, head_at};
+
+use crate::current::VERSION;
+use crate::digest::{Identity, digest_of, head_digest_of};
+use crate::head::Head;
+use xdr_wire::{Opaque, Reader, Wire};
+
+/// The most bytes of a body.
+pub(crate) const MAX_BODY: u32 = 67_108_864;
+
+/// The kind of a frame that is a part of a checkpoint.
+pub(crate) const PART: u64 = 0;
+
+/// The kind of the frame that ends a checkpoint.
+pub(crate) const END: u64 = 1;
+
+/// The kind of a frame that is a record.
+pub(crate) const RECORD: u64 = 2;
+
+/// The kind of a frame that says that all before it is safe.
+pub(crate) const MARK: u64 = 3;
+
+/// Where a frame stands among those of its generation.
+#[derive(Clone, Copy, Debug, PartialEq, Eq)]
+pub struct Place {
+    pub generation: u64,
+    /// The number of frames before it.
+    pub number: u64,
+    /// The digest of the head of the frame before it, and 0 for the first one.
+    pub before: u64,
+}
+
+impl Place {
+    /// The place of the first frame.
+    pub fn start(generation: u64) -> Self
+        ensures { result ≡ start generation }
+    {
+        Place {
+            generation,
+            number: 0,
+            before: 0,
+        }
+    }
+}
+
+/// A frame, whose body is lent.
+#[derive(Clone, Copy, Debug)]
+pub struct Frame<'a> {
+    /// Its kind: 0 a part of the checkpoint, 1 the checkpoint's end, 2 a record, 3 a mark.
+    pub kind: u64,
+    pub body: &'a [u8],
+}
+
+/// The bytes of a file that are left to read, frame by frame.
+#[derive(Drop)]
+pub struct Frames<'a> {
+    pub identity: Identity,
+    /// The place of the next frame.
+    pub place: Place,
+    pub rest: &'a [u8],
+}
+
+/// The head at the front of the bytes. `None`: there is no whole one whose digest fits.
+#[tactic(auto, unfolding(crate::specs::Frames::head_at))]
+pub(crate) fn head_at(identity: Identity, bytes: &[u8]) -> Option<Head>
+    ensures { result ≡ head_at identity bytes.now }
+{
+    let mut reader = Reader::new(bytes);
+    let Ok((head, digest)) = <(Head, u64)>::read(&mut reader) else {
+        return None;
+    };
+    if digest != head_digest_of(identity, head) {
+        return None;
+    }
+    Some(head)
+}
+
+impl<'a> Frames<'a> {
+    /// Whether a head, its digest and a body are the next frame: of this version and place, with digests that fit.
+    fn is_next(&self, head: Head, digest: u64, body: &[u8]) -> bool
+        ensures { result ≡ in_place self.now.identity self.now.place head digest body.now }
+    {
+        digest == head_digest_of(self.identity, head)
+            && (head.version == VERSION
+                && (head.generation == self.place.generation
+                    && (head.number == self.place.number
+                        && (head.before == self.place.before
+                            && (head.length == body.len() as u64
+                                && head.body == digest_of(self.identity, body))))))
+    }
+
+    /// Takes the next frame. `None`: no whole frame of this version and place whose digests fit stands at the front,
+    /// and nothing is taken.
+    #[tactic(auto, unfolding(crate::specs::Frames::frame_at))]
+    pub fn next(&mut self) -> Option<Frame<'a>>
+        requires { self.old.place.number + length self.old.rest.now < 2 ^ 64 }
+        ensures takes { Takes self.old result self.new }
+        ensures shorter { OnSome result (length self.new.rest.now < length self.old.rest.now) }
+        ensures number { OnSome result (self.new.place.number ≡ self.old.place.number + 1) }
+        ensures identity { self.new.identity ≡ self.old.identity }
+    {
+        let mut reader = Reader::new(self.rest);
+        let Ok((head, (digest, Opaque { bytes }))) = <(Head, (u64, Opaque<MAX_BODY>))>::read(
+            &mut reader,
+        ) else {
+            return None;
+        };
+        if !self.is_next(head, digest, bytes) {
+            return None;
+        }
+        self.rest = reader.rest();
+        self.place = Place {
+            generation: self.place.generation,
+            number: self.place.number + 1,
+            before: digest,
+        };
+        Some(Frame {
+            kind: head.kind,
+            body: bytes,
+        })
+    }
+}

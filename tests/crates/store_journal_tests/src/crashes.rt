@@ -1,0 +1,132 @@
+//! Each crash of a run, and each call that fails.
+
+use crate::image::Image;
+use crate::memory::{Done, Left, Memory, apply, left_of};
+use crate::script::{nothing, number_in, run};
+use std::alloc::{AllocError, Global};
+use std::process::Abort;
+use std::test::Fail;
+use store_journal::JournalFault;
+
+/// The first place at which a write changes what is on the disk. Up to it a crash leaves the bytes,
+/// since old and new agree.
+fn first_change(file: &[u8], at: usize, bytes: &[u8]) -> usize {
+    for (place, byte) in bytes.iter().enumerate() {
+        if file.get(at.saturating_add(place)) != Some(byte) {
+            return at.saturating_add(place);
+        }
+    }
+    at.saturating_add(bytes.len())
+}
+
+/// What a crash leaves: of each sixth of a loose write the new bytes, the old ones, or others.
+pub(crate) fn spoiled(
+    alloc: Global,
+    left: &Left,
+    mask: u32,
+    other: Option<u8>,
+) -> Result<Image, AllocError> {
+    let mut image = left.safe.copy(alloc)?;
+    for write in &left.loose {
+        let first = first_change(left.safe.file(write.slot), write.at, &write.bytes);
+        let sixth = write.bytes.len() / 6 + 1;
+        for (place, byte) in write.bytes.iter().enumerate() {
+            let at = write.at.saturating_add(place);
+            let stands = (mask >> (place / sixth).min(31) as u32) & 1 == 1;
+            let file = image.file_mut(write.slot);
+            while file.len() <= at {
+                file.push(0)?;
+            }
+            if let Some(old) = file.get_mut(at) {
+                if stands {
+                    *old = *byte;
+                } else if at >= first
+                    && let Some(other) = other
+                {
+                    *old = other;
+                }
+            }
+        }
+    }
+    Ok(image)
+}
+
+/// The number of crashes after some events that leave less than was answered, more than was appended, or a refusal.
+/// The next event may be under way.
+pub(crate) fn bad_after(
+    alloc: Global,
+    disk: &Memory,
+    count: usize,
+    most: u32,
+) -> Result<u32, AllocError> {
+    let Some(events) = disk.events.get(..count) else {
+        return Ok(1);
+    };
+    let mut left = left_of(alloc, &disk.before, events)?;
+    let (kept, all) = match disk.events.get(count) {
+        Some(event) => (event.kept, event.all),
+        None => (disk.kept, disk.all),
+    };
+    let mut turned = None;
+    if let Some(event) = disk.events.get(count) {
+        match &event.done {
+            Done::Wrote(_, _, _) => apply(alloc, &mut left, &event.done)?,
+            Done::Turned(bytes) => turned = Some(bytes.to_vec(alloc)?),
+            _ => {}
+        }
+    }
+    let mut bad = 0u32;
+    for mask in 0..most {
+        for other in [None, Some(0u8), Some(0xa5u8)] {
+            let mut image = spoiled(alloc, &left, mask, other)?;
+            let number = number_in(alloc, &mut image);
+            if number < kept || all < number {
+                bad = bad.saturating_add(1);
+            }
+            if let Some(bytes) = &turned {
+                image.current = Some(bytes.to_vec(alloc)?);
+                let number = number_in(alloc, &mut image);
+                if number < kept || all < number {
+                    bad = bad.saturating_add(1);
+                }
+            }
+        }
+    }
+    Ok(bad)
+}
+
+pub(crate) fn bad_in(alloc: Global, disk: &Memory, most: u32) -> Result<u32, AllocError> {
+    let mut bad = 0u32;
+    for count in 0..disk.events.len().saturating_add(1) {
+        bad = bad.saturating_add(bad_after(alloc, disk, count, most)?);
+    }
+    Ok(bad)
+}
+
+/// Three checkpoints of a turn, three frames, a sync and a turn are 18 calls. Seven records are 14, a mark two, and a
+/// checkpoint that is given up five.
+const CALLS: u32 = 39;
+
+#[test]
+fn each_crash_leaves_all_that_was_answered(rt: HostRuntime) -> Result<(), Fail> {
+    let alloc = rt.alloc();
+    let mut disk = Memory::new(alloc, nothing(alloc), 1000);
+    assert!(rt; run(alloc, &mut disk).is_ok());
+    assert_eq!(rt; (disk.kept, disk.all), (7, 7));
+    assert_eq!(rt; disk.events.len(), CALLS as usize);
+    assert_eq!(rt; bad_in(alloc, &disk, 64)?, 0);
+    Ok(())
+}
+
+#[test]
+fn each_call_that_fails_too(rt: HostRuntime) -> Result<(), Fail> {
+    let alloc = rt.alloc();
+    for good in 0..CALLS {
+        let mut disk = Memory::new(alloc, nothing(alloc), good);
+        assert!(rt; matches!(run(alloc, &mut disk), Err(JournalFault::Failed)));
+        assert_eq!(rt; disk.late, 0);
+        let count = disk.events.len();
+        assert_eq!(rt; bad_after(alloc, &disk, count, 64)?, 0);
+    }
+    Ok(())
+}
