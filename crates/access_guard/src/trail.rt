@@ -97,7 +97,7 @@ impl<A: Allocator + Copy> Trail<A> {
     pub(crate) fn forget(&mut self)
         ensures { self.new ≡ no_lines }
     {
-        self.held.clear();
+        self.settle(false);
         self.kept.clear();
         self.total = 0;
     }
