@@ -3,7 +3,8 @@ ghost use Rattle.std.specs.Prelude.{◌≡◌, Ok, IfOk, IfSome, true, option_ma
 ghost use Rattle.toml.specs.Parse.{parse_document};
 ghost use Rattle.toml.specs.View.{table_view};
 ghost use Rattle.who_book.specs.Content.{IsBook, nameless, table_of};
-ghost use Rattle.who_book.specs.Document.{Answers, AnswersFrom, Parses, Fills, book_from, book_of, filled, is_in_range, is_up_to, natural};
+ghost use Rattle.who_book.specs.Document.{Answers, AnswersFrom, Parses, Fills, book_from, book_of, filled};
+ghost use Rattle.who_book.specs.Document.{is_in_range, is_up_to, natural};
 ghost use Rattle.who_book.specs.Members.{member};
 ghost use Rattle.who_book.specs.Names.{name_at, number_at};
 ghost use Rattle.who_book.specs.Outlines.{outline_of, rows_of, rolls_of, IsAscending};
@@ -119,8 +120,8 @@ impl Book {
         Book::fill(alloc, &said, text)
     }
 
-    /// The book of a text whose values are in range. `Twice` where two names of a table have one number, else `Member` where
-    /// `members` doesn't agree with the tables.
+    /// The book of a text whose values are in range. `Twice` where two names of a table have one number,
+    /// else `Member` where `members` doesn't agree with the tables.
     fn fill(alloc: Global, said: &Outline<'_>, text: &str) -> Result<Book, BookFault>
         requires text { book_of text.now ≡ filled (outline_of said.now) }
         requires in_range { is_in_range (outline_of said.now) ≡ true }
