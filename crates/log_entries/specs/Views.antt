@@ -1,4 +1,4 @@
--- What an entry of the program is.
+-- The entry of the definitions for an entry of the program.
 use Rattle.std.specs.Prelude.{ℕ, List, Option}
 use Rattle.std.specs.Option.{option_map}
 use Rattle.xdr_wire.specs.declared.opaque.Opaque.{Opaque}

@@ -22,7 +22,7 @@ pub fn an_entry_has_one_spelling()
     ensures fits { (e : Entry) (bytes rest : List ℕ) → AreBytes bytes → entry_at bytes ≡ Some (e, rest) → IsEntry e }
 {}
 
-/// So have the entries of a record: its bytes are those that are written of them. They can be written, too.
+/// The entries of a record have one spelling too: its bytes are those that are written. They can be written.
 pub fn a_record_has_one_spelling()
     ensures bytes { (es : List Entry) (bytes : List ℕ) → AreBytes bytes → entries_in bytes ≡ Some es →
         bytes ≡ flat_map entry_bytes es }

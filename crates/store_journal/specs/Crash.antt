@@ -1,4 +1,4 @@
--- What a crash leaves of a file to which frames are written.
+-- A file to which frames are written, after a crash.
 use Rattle.std.specs.Prelude.{◌≡◌, ◌⊎◌, ◌<◌, ℕ, List, [], ◌∷◌, ◌++◌, length, drop, Some}
 use Rattle.store_journal.specs.declared.digest.Identity.{Identity}
 use Rattle.store_journal.specs.declared.frames.Place.{Place}

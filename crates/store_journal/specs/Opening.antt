@@ -1,4 +1,4 @@
--- What a start finds: CURRENT, and what the file that it names has.
+-- A start reads CURRENT and the file that it names.
 use Rattle.std.specs.Prelude.{◌≡◌, ◌≢◌, ◌⊎◌, ◌+◌, ℕ, List, [], length, Option, Some, None, Ok, Err}
 use Rattle.store_journal.specs.declared.current.Current.{Current}
 use Rattle.store_journal.specs.declared.disk.Slot.TheVariants.{A, B}

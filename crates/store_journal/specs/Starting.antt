@@ -1,4 +1,4 @@
--- What a start finds of a journal, over a disk that gives what its acts may have left.
+-- A start over a disk that gives bytes which its acts may have left.
 use Rattle.std.specs.Prelude.{◌≡◌, ◌⊎◌, ℕ, List, [], ◌∷◌, Option, Some, None}
 use Rattle.store_journal.specs.declared.current.Current.{Current}
 use Rattle.store_journal.specs.declared.fault.OpenFault.{OpenFault}

@@ -16,7 +16,7 @@ pub(crate) const VERSION: u64 = 3;
 /// The bytes of CURRENT: seven numbers and their digest.
 const SIZE: usize = 8 * 8;
 
-/// What CURRENT says.
+/// The content of CURRENT.
 #[derive(Clone, Copy, Debug, PartialEq, Eq)]
 pub struct Current {
     pub identity: Identity,
@@ -125,7 +125,7 @@ impl Current {
 }
 
 impl CurrentForm {
-    /// What it says, in a file that is known.
+    /// The content of this form. `Damaged`: the slot is neither A nor B.
     fn in_known_slot(self) -> Result<Current, CurrentFault>
         ensures { result ≡ in_known_slot self }
     {
@@ -147,7 +147,7 @@ impl CurrentForm {
     }
 }
 
-/// What CURRENT says. `Version`: it is whole, and of another version. `Damaged`: it isn't whole.
+/// Reads CURRENT. `Version`: it is whole, and of another version. `Damaged`: it isn't whole.
 #[tactic(auto, unfolding(crate::specs::Current::current_in))]
 pub(crate) fn read_current(bytes: &[u8]) -> Result<Current, CurrentFault>
     ensures { result ≡ current_in bytes.now }

@@ -14,7 +14,7 @@ use std::alloc::Allocator;
 /// A journal to which records are appended, and whose next checkpoint is written.
 #[derive(Drop, Debug)]
 pub struct Journal {
-    /// What CURRENT says.
+    /// The content of CURRENT.
     pub current: Current,
     /// Where the next record goes, in the file that counts.
     pub position: Position,

@@ -37,7 +37,7 @@ pub fn a_whole_log_may_count()
     ensures { AdmitLaw }
 {}
 
-/// What is done with the file that doesn't count leaves the journal.
+/// Acts on the file that doesn't count leave the journal as it is.
 pub fn the_other_file_is_not_looked_at()
     ensures { OtherLaw }
 {}

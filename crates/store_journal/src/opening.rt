@@ -24,7 +24,7 @@ pub struct Loaded<A: Allocator> {
     pub bytes: Vec<u8, A>,
 }
 
-/// What the file that counts has.
+/// The content of the file that counts.
 #[derive(Drop)]
 pub struct Chosen<'a, A: Allocator> {
     pub current: Current,

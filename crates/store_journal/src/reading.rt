@@ -41,7 +41,7 @@ impl<'a, A: Allocator> Bodies<'a, A> {
     }
 }
 
-/// What a file has.
+/// The content of a file.
 #[derive(Drop)]
 pub(crate) struct FileRead<'a, A: Allocator> {
     /// The place after its frames.

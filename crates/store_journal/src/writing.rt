@@ -73,7 +73,7 @@ fn head_of(identity: Identity, place: Place, frame: Frame<'_>) -> Head
     }
 }
 
-/// What stands before a frame's body.
+/// The bytes of a frame before its body: its head, the digest of the head, and the length of the body.
 fn front_of<A: Allocator>(
     alloc: A,
     head: Head,
@@ -99,7 +99,7 @@ fn zeros(count: usize) -> &'static [u8]
     &ZEROS[..count]
 }
 
-/// What a start writes behind the last frame.
+/// The zero bytes that a start writes after the last frame.
 #[tactic(auto, unfolding(crate::specs::Frames::wiped))]
 pub(crate) fn wiped() -> &'static [u8]
     ensures { result.now ≡ wiped }
