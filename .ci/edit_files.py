@@ -1,13 +1,13 @@
-"""Must-fail edits as files: what each says, what it makes, and where it stands.
+"""Must-fail edits as files: the content of each, the text that it makes, and the function that it changes.
 
 An edit is a file `crates/NAME/must-fail/X.edit` of lines:
 
     # SENTENCE           the wrong body, in a sentence; the first line
     file: src/F.rt       the file that the pairs below change
-    old: TEXT            a text that stands once in the file
+    old: TEXT            a text that occurs once in the file
     new: TEXT            the wrong text in its place
     right: TEXT          the right text in its place, of the shape of the wrong one: the right twin, which the prover must prove
-    stands: WHY          why the edit stands although no clause of its own function refuses it, or although it has no right twin
+    stands: WHY          why the edit is valid although no clause of its own function refuses it, or although it has no right twin
 
 Further pairs apply to what the earlier ones made. A pair without `right:` has the text of `new:` in the twin too.
 """

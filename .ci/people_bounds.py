@@ -1,4 +1,4 @@
-"""Scenes of .ci/people at the bounds of what is taken: names, depths, directories, lists and lengths; closed output; a server that goes."""
+"""Scenes of .ci/people at the limits of what is accepted: names, depths, directories, ACLs and lengths; closed output; a server that ends."""
 import contextlib
 import os
 import random
@@ -8,7 +8,7 @@ import subprocess
 import threading
 import time
 
-from people_lab import MOST, PATIENCE, PIECE, Lab, built, free_port, pattern, read, see, write
+from people_lab import MOST, PATIENCE, PIECE, Lab, built, denied, free_port, pattern, read, see, write
 
 TOO_LONG = "nfsc: a name has at most 255 bytes\n"
 
@@ -62,7 +62,7 @@ def depths(lab, _room):
     lab.see(1001, ["setfacl", "-R", "/lab/deep", "A::OWNER@:RWX"], "ok\n")
     lab.see(1001, ["getfacl", deep], "A::OWNER@:rwaDxtTnNcCy\n")
     see("how many are below", len(lab.run(1001, "list", "-R", "/lab/deep")[0].splitlines()), 41)
-    lab.see(1002, ["get", f"{deep}/g"], "refused LOOKUP ACCESS\n", "nfsc: the access control list doesn't allow it to this user\n")
+    lab.see(1002, ["get", f"{deep}/g"], "refused LOOKUP ACCESS\n", denied(f"on the way to {deep}/g"))
     lab.see(1001, ["rm", "-R", "/lab/deep"], "ok\n")
 
 
@@ -72,7 +72,7 @@ def many(lab, _room):
     made = [f"name {number}" for number in range(4096)]
     script = "".join(f"mkdir '/lab/many/{name}'\n" for name in made)
     lab.see(1001, ["batch"], "ok\n" * 4096, given=script.encode())
-    lab.see(1001, ["mkdir", "/lab/many/more"], "refused CREATE NOSPC\n", "nfsc: the server has no room left\n")
+    lab.see(1001, ["mkdir", "/lab/many/more"], "refused CREATE NOSPC\n", "nfsc: the directory has 4,096 names, or the server has 16,384 objects, or its disk is full\n")
     for command, columns in (("ls", 5), ("list", 8)):
         said, told, status = lab.run(1001, command, "/lab/many")
         listed = [line.split(" ", columns)[columns] for line in said.decode().splitlines()]
@@ -82,7 +82,7 @@ def many(lab, _room):
 
 def long_lists(lab, _room):
     """A list that is set has at most 59 entries, and by a new mode up to 64."""
-    full = "nfsc: a list that is set has at most 59 entries, or the server has no room left\n"
+    full = "nfsc: a list that is set has at most 59 entries, or the server's disk is full\n"
     lab.see(1001, ["put", "/lab/listed", "x"], "ok\n")
     own, others = "A::1001:rwatTnNcCoy", [f"A::{number}:r" for number in range(2000, 2064)]
     lab.see(1001, ["setfacl", "/lab/listed", own, *others[:58]], "ok\n")

@@ -1,4 +1,4 @@
-"""A server that listens, commands of users over it, and what both have to say, for the scenes of .ci/people."""
+"""A server that listens, commands of users over it, and the expected output of both, for the scenes of .ci/people."""
 import os
 import signal
 import socket
@@ -64,6 +64,11 @@ class Lab:
     def stop(self):
         self.server.send_signal(signal.SIGTERM)
         self.server.wait(timeout=PATIENCE)
+
+
+def denied(place):
+    """What nfsc says where the access control lists of this place refuse something."""
+    return f"nfsc: {place}: the access control list doesn't allow it to this user\n"
 
 
 def see(what, given, wanted):

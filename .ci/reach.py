@@ -1,35 +1,35 @@
-"""What of the crates a proof can rest on, by names: the items of sources, definitions and lemmas, each with the names that it declares and the words that it
+"""The items of the crates that a proof can depend on, by names: of sources, definitions and lemmas, each with the names that it declares and the words that it
 has.
 
 A function is proved by its own contract and body, and by the contracts, types, constants, definitions and lemmas that these name, and that those name in turn.
-So of other text only what is reached by a name can bear on a proof. A word by itself reaches what its own file declares, or brings by a `use` line. A word in
-a `use` line, or after a dot or two colons, reaches every item that declares it, whatever module it is of: a field, a method and a module's item of one name
-alike. So what is reached is more than what is meant, never less. What limits it is who can name an item at all: no crate what is of a crate above it; a
-function that isn't `pub` only its own crate, and one without any `pub`, as a definition or a `use` line without, only its own module and those inside it; and
-a line that brings a name by its whole path, `Rattle.CRATE.` and so on, only what that crate declares, or brings itself. And functions and macros are named
-only where they can be called: in the bodies that the edit stands in, in macros, constants, and attributes that a derive reads, and on the way there in `use`
-lines. So are the `use` lines of sources whose name is in all sources that of functions or macros alone. No clause and no definition can name one
-(CONTRACTS.md, "Clauses": constants, types, variants and members of traits), but through what the kit makes of it, `Rattle.CRATE.specs.contracts` and
-`Rattle.CRATE.proofs`: a file that has such a path can.
+So other text can affect a proof only if it is reached by a name. A word by itself reaches the items that its own file declares, or imports by a `use` line. A
+word in a `use` line, or after a dot or two colons, reaches every item that declares it, in any module: a field, a method and a module's item of one name
+alike. So more is reached than is meant, never less. The limit is which text can name an item at all. No crate can name an item of a crate above it. A function
+that isn't `pub` can be named only in its own crate. One without any `pub`, and a definition or a `use` line without it, can be named only in its own module and
+those inside it. A line that imports a name by its complete path, `Rattle.CRATE.` and so on, names only an item that this crate declares or imports. Functions
+and macros are named only in text that can call them: in the bodies that the edit changes, in macros, constants, and attributes that a derive reads, and in
+`use` lines that lead there. The same holds for `use` lines of sources whose name is, in all sources, that of functions or macros alone. No clause and no
+definition can name one (CONTRACTS.md, "Clauses": constants, types, variants and members of traits), except through the modules that the kit makes of it,
+`Rattle.CRATE.specs.contracts` and `Rattle.CRATE.proofs`: a file that has such a path can.
 
 Items are, without the tactics that they are proved by: the signature and contract of one function, with the head of the `impl` that it is in; a type with its
-fields, variants and ghost lines; a trait; a constant; a macro, whole; each name that a `use` line brings; a `mod` line; and of definitions and of shared
-proofs each declaration with its equations, a block `module` or `mutual` as one. Of a declaration whose equations are shut outside of it, as a lemma's are,
-only its type: "a definition's clauses are shut to everything", but for `abbrev`, for `unfoldable`, and for what its module or one below it names in an
+fields, variants and ghost lines; a trait; a constant; a complete macro; each name that a `use` line brings; a `mod` line; and of definitions and of shared
+proofs each declaration with its equations, a block `module` or `mutual` as one. Of a declaration whose equations are hidden outside of it, as a lemma's are,
+only its type: "a definition's clauses are shut to everything", except for `abbrev`, for `unfoldable`, and for the names that its module or one below it has in an
 `unfolding` (antt/docs/primer-language.md, section 4.11). An `enum` or `data` is reached by its variants as well, a trait by its methods, an operator by each of
-its parts. A record isn't reached by its fields: where a value of it is, its type stands by name in what gives that value.
+its parts. A record isn't reached by its fields: text that has a value of it uses an item that names its type.
 
-What acts without being named, and is reached so:
-  an `impl` of a trait (operators, `?`, `for`, drop, `Model`, derived functions call it) where the type that it is for is reached, since a value of a type
-    comes only from what names the type; an `impl` for types that the crates don't declare where its trait is reached; else, and for an alias, always;
+Items that have an effect without being named, and how they are reached:
+  an `impl` of a trait (operators, `?`, `for`, drop, `Model`, derived functions call it) if the type that it is for is reached, since a value of a type
+    comes only from an item that names the type; an `impl` for types that the crates don't declare if its trait is reached; else, and for an alias, always;
   the lines `#![..]` of a source, and a `mod` line with a tactic, which name lemmas for all functions below them: always;
-  a call of a macro among items, a glob, and what this script can't read: always, and with a glob each word of its file reaches any item;
-  a proof in a folder that begins with a +, by which several functions go down: always;
-  the words of a macro reach what any file declares, since they mean what they mean where it is called; but not what a file of definitions brings for itself.
-No lemma or definition acts unnamed. By the kit's pages the tactics take the hypotheses and their list (antt/docs/primer-tactics.md, section 4.10: "the
-hypotheses, the lemmas of `L` and the members of the sets that it names"; a `ruleset` "is its list and nothing more"). Where a goal has no answer,
-`tactic(auto)` tries `search rules` and `grind` with sets of std's alone, with what `using(..)` and `unfolding(..)` of its attribute name
-(SHORTER_PROOFS.md, "How to get proofs to close"). Hypotheses are facts of the context: contracts of what is called, and invariants of types.
+  a call of a macro among items, a glob, and text that this script can't read: always, and with a glob each word of its file reaches any item;
+  a proof in a folder that begins with a +, by which several functions terminate: always;
+  the words of a macro reach the items that any file declares, since they have the meaning of the place of the call; but not the names that a file of definitions imports for itself.
+No lemma or definition has an effect unnamed. By the kit's pages the tactics take the hypotheses and their list (antt/docs/primer-tactics.md, section 4.10: "the
+hypotheses, the lemmas of `L` and the members of the sets that it names"; a `ruleset` "is its list and nothing more"). If a goal has no answer,
+`tactic(auto)` tries `search rules` and `grind` with sets of std alone, with the names in `using(..)` and `unfolding(..)` of its attribute
+(SHORTER_PROOFS.md, "How to get proofs to close"). Hypotheses are facts of the context: contracts of the called functions, and invariants of types.
 """
 import functools
 import hashlib

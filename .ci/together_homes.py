@@ -1,4 +1,4 @@
-"""Scenes of homes, for .ci/together: a home whose book is gone, one whose book comes later, and clocks that are set."""
+"""Scenes of homes, for .ci/together: a home whose book is missing, one whose book appears later, and clocks that are set."""
 import calendar
 import os
 import shutil

@@ -1,4 +1,4 @@
-"""A server that listens, calls and sessions over it, and what they have to answer, for the scenes of .ci/together."""
+"""A server that listens, calls and sessions over it, and the expected answers, for the scenes of .ci/together."""
 import signal
 import socket
 import struct

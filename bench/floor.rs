@@ -1,10 +1,10 @@
-//! floor: what this machine's loopback gives at best to a server of one blocking thread that does nothing.
+//! floor: the best figures of this machine's loopback for a server of one blocking thread that does nothing.
 //!
 //!   rustc -O --edition 2021 floor.rs -o floor && ./floor
 //!
-//! A server thread reads at most CHUNK bytes per read (`serve` reads at most 4,096), and for every whole
-//! record of the asked size writes a canned reply. The client keeps 1 or 8 requests outstanding. Sizes are those of the
-//! rows of load.rs, so no server of this form can be above these figures here. It stops by itself (about 15 seconds).
+//! A server thread reads at most CHUNK bytes per read (`serve` reads at most 4,096), and for every complete
+//! record of the requested size writes a canned reply. The client keeps 1 or 8 requests outstanding. Sizes are those of the
+//! rows of load.rs, so no server of this form can exceed these figures here. It stops by itself (about 15 seconds).
 
 use std::io::{Read, Write};
 use std::net::{TcpListener, TcpStream};

@@ -4,9 +4,9 @@
     calls.py NFSD bare|net|many FIRST SEEDS CALLS [BOOK ..]
 
 Each seed from FIRST on begins a server, over standard input and output (bare), or over 127.0.0.1 with sessions (net, many), and makes that many calls. A reply
-that differs in a byte is printed, and the status is 1; with net and many so is the first line in which the audit trail's file differs. Both have the names and
-members of the file BOOK, where it is given. With many there are four connections at once: a call may come in two parts, between which the others make theirs;
-several may be sent at once; a fifth connection breaks now and then; and where several books are given, one after the other is loaded. Times aren't asked for,
+that differs in a byte is printed, and the status is 1; with net and many the first line in which the audit trail's file differs is printed too. Both have the names and
+members of the file BOOK, if it is given. With many there are four connections at once: a call may arrive in two parts, between which the others make theirs;
+several may be sent at once; a fifth connection breaks now and then; and if several books are given, one after the other is loaded. Times aren't requested,
 since the server's clock is its own.
 """
 import random, shutil, socket, subprocess, sys, tempfile, time, os, tomllib
@@ -302,7 +302,7 @@ def remember(g, srv, rec, cred):
         return
     for k, s in srv.sessions.items():
         for j, sl in enumerate(s['slots']):
-            if sl.get('args') is not None and sl['args'] == rec[24 + len(cred):]:
+            if sl.get('args') is not None and sl['args'] == srv.compared(rec[24 + len(cred):]):
                 g.hist[k, j] = (rec, cred)
 
 

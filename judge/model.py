@@ -1,8 +1,9 @@
 """The server as a plain program in Python: records in, replies out.
 
-It was written from the profile of the protocol alone, by one who had neither the definitions nor the code before them, and shares nothing with
-either. dacl, sacl and a book's members were added later from the same profile, but by one who knew the definitions and the code. It is slow and simple: a map of objects, a map of names a directory, lists walked bit by bit. `calls.py` sends random calls to it and to
-`nfsd`, and compares the replies byte for byte.
+It was written from the profile of the protocol alone, by an author who had seen neither the definitions nor the code, and shares nothing with either.
+dacl, sacl and a book's members were added later from the same profile, but by an author who knew the definitions and the code. It is slow and simple:
+a map of objects, a map of names for each directory, access control lists walked bit by bit. `calls.py` sends random calls to it and to `nfsd`, and
+compares the replies byte for byte.
 
 The letters of the items are those of XDR here: u is a u32, U a u64, I an i64, o variable opaque data, M a bitmap (`bitmap4`), F attributes
 (`fattr4`), S a stateid (`stateid4`), H a filehandle.
@@ -409,7 +410,7 @@ def read_args(op, r):
                 r.o()
             else:
                 raise Short()
-        return (cl, sq, K)
+        return (cl, sq, K, fl)
     if op == 44:
         return r.take(16)
     if op == 53:
@@ -430,9 +431,10 @@ LIMITS = dict(names=4096, objects=16384, opens=4096, links=1000, file=1048576)
 
 
 class Server:
-    def __init__(self, book=None, bare=False):
+    def __init__(self, book=None, bare=False, lasting=False):
         self.book = book or Book()
         self.bare = bare
+        self.lasting = lasting
         self.objs = {}
         self.names = {}
         self.num = 1
@@ -741,9 +743,16 @@ class Server:
         rep = u(status) + o(tag) + u(len(out)) + b''.join(out)
         if self.keep is not None:
             self.keep['rep'] = rep
-            self.keep['args'] = args
+            self.keep['args'] = self.compared(args)
             self.keep['caller'] = caller
         return rep
+
+    def compared(self, args):
+        """the bytes that a repeat has to have: without sa_highest_slotid where sessions outlive a restart"""
+        if not self.lasting:
+            return args
+        at = 4 + int.from_bytes(args[:4], 'big') + -int.from_bytes(args[:4], 'big') % 4
+        return args[:at + 36] + args[at + 40:]
 
     def one(self, r):
         try:
@@ -1212,7 +1221,7 @@ class Server:
         return U(n) + u((r['seq'] + 1) % 2 ** 32) + u(fl) + u(0) + U(0) + o(b'nfs41-lists') + o(b'nfs41-lists') + u(0)
 
     def op43(self, a):
-        cl, sq, (F, B) = a
+        cl, sq, (F, B), fl = a
         need(cl in self.clients, 'STALE_CLIENTID')
         r = self.clients[cl]
         if r['kept'] is not None and sq == r['seq']:
@@ -1240,7 +1249,7 @@ class Server:
         ops = max(1, min(F[4], 16))
         slots = max(1, min(F[5], 8))
         self.sessions[n] = dict(cl=cl, req=req, rep=rep, ops=ops, slots=[dict(last=0, used=False) for _ in range(slots)])
-        res = bytes(8) + U(n) + u(sq) + u(0) + u(0) + u(req) + u(rep) + u(rep) + u(ops) + u(slots) + u(0) + b''.join(map(u, B)) + u(0)
+        res = bytes(8) + U(n) + u(sq) + u(fl & 1 if self.lasting else 0) + u(0) + u(req) + u(rep) + u(rep) + u(ops) + u(slots) + u(0) + b''.join(map(u, B)) + u(0)
         r['seq'] = sq
         r['kept'] = (None, res)
         return res
@@ -1280,7 +1289,7 @@ class Server:
         need(high < k, 'BAD_HIGH_SLOT')
         q = s['slots'][slot]
         if q['used'] and num == q['last']:
-            need(q['args'] == self.args and q['caller'] == self.sent, 'SEQ_FALSE_RETRY')
+            need(q['args'] == self.compared(self.args) and q['caller'] == self.sent, 'SEQ_FALSE_RETRY')
             self.again = q['rep']
             return b''
         need(num == (q['last'] + 1) % 2 ** 32, 'SEQ_MISORDERED')

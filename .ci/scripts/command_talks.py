@@ -1,6 +1,6 @@
-"""What a scene's client has to write and is given, what it is asked, and what has to come of it (RFC 5531, RFC 8881).
+"""The calls of a scene's client and the replies to them, its commands, and their expected outcomes (RFC 5531, RFC 8881).
 
-tests/commands/README.md says what the lines are.
+tests/commands/README.md describes the lines.
 """
 from scripts.command_texts import escaped, repeated, written
 from scripts.words import OPERATIONS, STATUSES, Unreadable, bytes_of, call_of, number_in, numbers, record, reply_record

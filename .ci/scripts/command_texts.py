@@ -1,6 +1,6 @@
 """The scenes of a text of commands or of scripts, its tables and books, and the places and repetitions in a line.
 
-tests/commands/README.md says what the lines are.
+tests/commands/README.md describes the lines.
 """
 import itertools
 import re

@@ -1,4 +1,4 @@
-"""Houses over heaps of a size, where memory is refused."""
+"""Houses over heaps of a size, in which allocations fail."""
 from scripts.probe import Difference, Talk
 
 PAGE = 4096

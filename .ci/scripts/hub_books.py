@@ -1,4 +1,4 @@
-"""Books that are loaded between the bytes of calls: a call is judged by the book that is there when its last byte comes (RFC 8881, section 5.9)."""
+"""Books that are loaded between the bytes of calls: a call is judged by the book that is loaded when its last byte arrives (RFC 8881, section 5.9)."""
 from scripts.hub_lines import connect, load, send, take
 from scripts.probe import Talk
 from scripts.streams import BREAKING, CREATE_D, CREATE_E, calls_of, records_in, replies_of

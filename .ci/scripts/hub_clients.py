@@ -1,4 +1,4 @@
-"""Sixteen connections of four clients, whose calls come in 2,000 pieces, beside one connection that is sent the same calls whole, in the order of their last bytes."""
+"""Sixteen connections of four clients, whose calls arrive in 2,000 pieces, beside one connection that gets the same calls complete, in the order of their last bytes."""
 from scripts.hub_lines import MOST, close, connect
 from scripts.probe import Difference, Talk, digits, expect
 from scripts.streams import calls_of, records_in, replies_of

@@ -1,4 +1,4 @@
-"""Connections: closed, broken, and as many as may be open at once."""
+"""Connections: closed, broken, and the largest number that may be open at once."""
 from scripts.hub_lines import close, connect, send
 from scripts.probe import Talk, expect
 from scripts.streams import BREAKING, NULL, NULL_REPLY

@@ -1,5 +1,5 @@
-"""Every growth refused: runs of calls over hubs in heaps of every size in turn. Each call is answered as with ample memory, up to the first whose last operation is
-delayed, or that breaks the connection for want of memory."""
+"""Each growth fails: runs of calls over hubs in heaps of every size in turn. Each call is answered as with ample memory, up to the first whose last operation is
+answered DELAY, or that breaks the connection because an allocation failed."""
 from collections import Counter
 
 from scripts.heaps import PAGE, first_size, in_heaps, least_size, steps

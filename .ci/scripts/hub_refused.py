@@ -1,5 +1,6 @@
-"""Each growth refused in turn, and no other: the scenes of texts over hubs whose memory refuses the growth of one number. A run gives the answers of its text up to the first whose last
-operation is delayed, or to which the connection breaks for want of memory. It goes on as if that operation and those after it in its call weren't there, or that call; and has no second."""
+"""Each growth fails in turn, and no other: the scenes of texts over hubs in which the growth of one number fails. A run gives the answers of its text up to the first whose last
+operation is answered DELAY, or at which the connection breaks because an allocation failed. It continues as without that operation and those after it in its call, or as without that
+call. No later answer differs."""
 import os
 from collections import Counter
 

@@ -1,4 +1,4 @@
-"""What stands in a server or a hub: its trail, its tree, its opens."""
+"""The state of a server or a hub: its trail, its tree, its opens."""
 from scripts.probe import digits
 from scripts.words import number_in, split_word
 

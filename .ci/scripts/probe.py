@@ -1,4 +1,4 @@
-"""Lines for server_probe, what it answers, and whether that is what is wanted."""
+"""Lines for server_probe, its answers, and whether these are the expected ones."""
 import os
 import subprocess
 

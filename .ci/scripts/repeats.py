@@ -1,4 +1,4 @@
-"""Scenes in which calls are made again: beside the same calls made once, all results and what is left are equal."""
+"""Scenes in which calls are made again: beside the same calls made once, all results and the final state are equal."""
 from scripts.lines import lines_in
 from scripts.looks import Looks, Picture
 from scripts.servers import LATER, ask_call

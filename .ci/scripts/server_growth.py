@@ -1,4 +1,4 @@
-"""Every growth of a server's tree refused: over each size of a heap about the least that has a server, a call that wants memory is done, or delayed with all as it was."""
+"""Each growth of a server's tree fails: over each size of a heap about the least that has a server, a call that allocates is done, or answered DELAY with the state unchanged."""
 from scripts.heaps import PAGE, in_heaps, least_size, steps
 from scripts.probe import Difference, digits
 from scripts.servers import ask_call

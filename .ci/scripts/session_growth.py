@@ -1,4 +1,4 @@
-"""Every growth of clients and of sessions refused: all memory of a heap is taken, and given back piece by piece until a call is answered."""
+"""Each growth of clients and of sessions fails: all memory of a heap is taken, and freed piece by piece until a call is answered."""
 from scripts.heaps import in_heaps, steps
 from scripts.probe import Difference, digits
 from scripts.server_growth import BOOK, LIMIT

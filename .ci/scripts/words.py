@@ -1,6 +1,6 @@
-"""Operations of COMPOUND and their results as words, and the bytes that the words stand for.
+"""Operations of COMPOUND and their results as words, and the bytes that the words represent.
 
-The numbers stand here as the standards have them (RFC 4506; RFC 8881, sections 15.1, 16.2 and 18), and are not taken
+The numbers are written here as the standards have them (RFC 4506; RFC 8881, sections 15.1, 16.2 and 18), and are not taken
 from the code, so that a server is compared with another's reading.
 
     the name of an operation or of a status     its number
@@ -11,16 +11,16 @@ from the code, so that a server is compared with another's reading.
     a>b                                         a directory's change before and after
     ^n                                          a number of 8 bytes
     +a+b                                        the bitmap of these attributes, whose numbers are decimal
-    TYPE:FLAGS:MASK:WHO                         an entry of a list, of type A, D, U or L
-    n*TYPE:FLAGS:MASK:WHO                       n of that entry
-    *n                                          n entries that allow user 5 to read
-    #n                                          attributes: a list of n such entries
+    TYPE:FLAGS:MASK:WHO                         an access control entry (ACE), of type A, D, U or L
+    n*TYPE:FLAGS:MASK:WHO                       n of that ACE
+    *n                                          n ACEs that allow user 5 to read
+    #n                                          attributes: an ACL of n of these ACEs
     ( words )                                   the bytes of words with their length
     [ words ]                                   the bytes of words as a record of one fragment
     %n                                          n bytes of zero
     anon, bypass, closed                        the special stateids, and that of an open that has ended
     $s.n                                        SEQUENCE of session s, whose slot 0 has the call of this number
-    =s.n                                        the result of it, where the session has 8 slots
+    =s.n                                        the result of it, if the session has 8 slots
 """
 import re
 import struct

@@ -1,4 +1,4 @@
-"""Kills of a server that has a home: by the clock, and right after what its store was to grow by is written."""
+"""Kills of a server that has a home: by the clock, and right after its store has grown by a given number of bytes."""
 import random
 import threading
 import time

@@ -1,4 +1,4 @@
-"""The tour: scenes of steps as texts, and how one is played. README.md says what their lines are."""
+"""The tour: scenes of steps as texts, and how one is played. README.md describes their lines."""
 import glob
 import os
 import re

@@ -12,7 +12,7 @@ use Rattle.access_guard.specs.declared.memory.Key.{Key}
 use Rattle.access_guard.specs.Asker.{Asker, member_of}
 use Rattle.access_guard.specs.Keys.{is_key}
 use Rattle.access_guard.specs.Lists.{Lists, sum_of}
-use Rattle.access_guard.specs.Memory.{Memory, LooksUp, LooksUpAt, LooksUpFor, Decides, key_of, examined_more, used, learnt, is_told, walked}
+use Rattle.access_guard.specs.Memory.{Memory, LooksUp, LooksUpAt, LooksUpFor, Decides, key_of, examined_more, used, learnt, grants_silently, walked}
 use Rattle.access_guard.specs.History.{IsLookUp, AreLookUps, looks_at, looks_for}
 
 pub looks_in_turn : (capacity : ℕ) (first second : List (Key × Summary)) (old between new : List (Key × Summary)) → AreLookUps capacity first old between → AreLookUps capacity second between new → AreLookUps capacity (first ++ second) old new
@@ -41,8 +41,8 @@ looks-for lists asker (Removal parent target) old new (between, first, second) =
     let two = looks-at asker (lists parent) between new second in
     (looks_in_turn old.capacity _ _ old.remembered between.remembered new.remembered one.0 (subst (λ n. AreLookUps n (looks_at lists asker parent) between.remembered new.remembered) one.1 two.0), two.1 ∙ one.1)
 
--- a walk leaves the remembered summaries
-pub walk-leaves : (lists : Lists) (demand : Demand) (told : Bool) (m : Memory) → ((cond told m (walked lists demand m)).remembered ≡ m.remembered) × ((cond told m (walked lists demand m)).capacity ≡ m.capacity)
+-- a walk leaves the remembered summaries unchanged
+pub walk-leaves : (lists : Lists) (demand : Demand) (silent : Bool) (m : Memory) → ((cond silent m (walked lists demand m)).remembered ≡ m.remembered) × ((cond silent m (walked lists demand m)).capacity ≡ m.capacity)
 walk-leaves lists demand true m = (refl, refl)
 walk-leaves lists (Bits object mask) false m = (refl, refl)
 walk-leaves lists (Removal parent target) false m = (refl, refl)
@@ -50,7 +50,7 @@ walk-leaves lists (Removal parent target) false m = (refl, refl)
 pub decision-looks : (lists : Lists) (asker : Asker) (demand : Demand) (old new : Memory) → Decides lists asker demand old new
     → AreLookUps old.capacity (looks_for lists asker demand) old.remembered new.remembered × (new.capacity ≡ old.capacity)
 decision-looks lists asker demand old new (between, looks, walk) =
-    let leaves = walk-leaves lists demand (is_told lists (member_of asker) demand) between in
+    let leaves = walk-leaves lists demand (grants_silently lists (member_of asker) demand) between in
     let made = looks-for lists asker demand old between looks in
     (subst (λ es. AreLookUps old.capacity (looks_for lists asker demand) old.remembered es) (sym (ap (λ (m : Memory). m.remembered) walk ∙ leaves.0)) made.0, ap (λ (m : Memory). m.capacity) walk ∙ leaves.1 ∙ made.1)
 

@@ -1,4 +1,4 @@
--- A decision that remembered summaries tell looks at no entry.
+-- A decision by remembered summaries alone examines no access control entry.
 use Rattle.std.proofs.Common.{◌≡◌, ℕ, ◌^◌, ◌<◌, ◌∙◌, Bool, true, false, ◌&&◌, ◌||◌, cond, List, [], ◌∷◌, ◌++◌, length, Some, None, refl, ap, subst, inl, inr, ◌⊎◌, arith}
 use Rattle.std.specs.Prelude.{Option, All, MatchOption, IsSome}
 use Rattle.std.specs.Option.{option_map, option_map_or}
@@ -8,14 +8,14 @@ use Rattle.std.proofs.lemmas.List.Elements.{All-nil, All-cons, All-head, All-tai
 use Rattle.lru.specs.LruCache.{promoted}
 use Rattle.rpc_record.specs.Identity.{Identity}
 use Rattle.acl_list.specs.Places as places
-use Rattle.acl_list.specs.Deciding.{mention, mentioned}
+use Rattle.acl_list.specs.Deciding.{first_match, match_of}
 use Rattle.acl_list.specs.Verdicts.{verdict, verdict_on_bit}
 use Rattle.acl_list.specs.Summaries.{watched_bits}
 use Rattle.acl_list.specs.declared.mask.TheConstants.{DELETE, DELETE_CHILD}
 use Rattle.acl_list.specs.declared.answer.Summary.{Summary}
 use Rattle.acl_list.specs.declared.answer.Verdict.TheVariants as verdicts
-use Rattle.acl_list.specs.declared.answer.Mention.{Mention}
-use Rattle.acl_list.specs.declared.answer.Mention.TheVariants.{Unmentioned}
+use Rattle.acl_list.specs.declared.answer.FirstMatch.{FirstMatch}
+use Rattle.acl_list.specs.declared.answer.FirstMatch.TheVariants.{Unmatched}
 use Rattle.acl_list.proofs.Covering.{granted_iff_covered}
 use Rattle.acl_list.proofs.Watching.{unwatched_iff}
 use Rattle.acl_list.proofs.OneBit.{verdict-bit}
@@ -26,12 +26,12 @@ use Rattle.access_guard.specs.declared.memory.Key.{Key}
 use Rattle.access_guard.specs.Asker.{Asker, member_of}
 use Rattle.access_guard.specs.Keys.{is_key}
 use Rattle.access_guard.specs.Lists.{Lists, names, sum_of, grants, is_quiet}
-use Rattle.access_guard.specs.Memory.{Memory, LooksUp, LooksUpFor, Decides, key_of, examined_more, used, learnt, tells, tells_removal, is_told, walked}
+use Rattle.access_guard.specs.Memory.{Memory, LooksUp, LooksUpFor, Decides, key_of, examined_more, used, learnt, is_silent_grant, is_silent_removal, grants_silently, walked}
 use Rattle.access_guard.specs.History.{looks_for}
-use Rattle.access_guard.specs.Telling.{IsAllow, IsAllowed, IsQuiet, AreHits}
-use Rattle.access_guard.proofs.Telling.{Fits}
+use Rattle.access_guard.specs.SilentGrants.{IsAllow, IsAllowed, IsQuiet, AreHits}
+use Rattle.access_guard.proofs.SilentGrants.{Fits}
 
--- ---- the decision that a summary tells
+-- ---- the decision by a summary alone
 
 both : (a b : Bool) → a ≡ true → b ≡ true → a && b ≡ true
 both a b p q = rw p q
@@ -43,8 +43,8 @@ module _ (caller : Identity) (j : Judged) (mask : ℕ) (fits : mask < 2 ^ 32) wh
   quiet : All (λ e. watched_bits (names j caller) places.successful mask e ≡ 0) j.list → is_quiet (sum_of j caller) mask ≡ true
   quiet h = (Decides-eqb _ _).1 ((unwatched_iff (names j caller) places.successful j.list mask fits).1 h)
 
--- an ALLOW of one bit is a grant of it
-allow_grants : (caller : Identity) (j : Judged) (place : ℕ) → place < 32 → 2 ^ place < 2 ^ 32 → IsAllow (mentioned (mention (names j caller) j.list place)) → grants (sum_of j caller) (2 ^ place) ≡ true
+-- if the first matching access control entry (ACE) of a bit is an ALLOW, the bit is granted
+allow_grants : (caller : Identity) (j : Judged) (place : ℕ) → place < 32 → 2 ^ place < 2 ^ 32 → IsAllow (match_of (first_match (names j caller) j.list place)) → grants (sum_of j caller) (2 ^ place) ≡ true
 allow_grants caller j place low fits allow = covers caller j (2 ^ place) fits (verdict-bit (names j caller) j.list place low ∙ ap (verdict_on_bit place) allow.1)
 
 module _ (caller : Identity) where
@@ -54,34 +54,34 @@ module _ (caller : Identity) where
   abbrev Quiet : Option Judged → ℕ → Type 0
   Quiet o mask = MatchOption o ⊥ (λ j. All (λ e. watched_bits (names j caller) places.successful mask e ≡ 0) j.list)
 
-  bits_told : (o : Option Judged) (mask : ℕ) → mask < 2 ^ 32 → option_map_or (λ j. verdict (names j caller) j.list mask) o (verdicts.Missing 0) ≡ verdicts.Granted → Quiet o mask → tells (sum o) mask ≡ true
-  bits_told None mask fits h q = absurd q
-  bits_told (Some j) mask fits h q = both _ _ (covers caller j mask fits h) (quiet caller j mask fits q)
+  bits_silent : (o : Option Judged) (mask : ℕ) → mask < 2 ^ 32 → option_map_or (λ j. verdict (names j caller) j.list mask) o (verdicts.Missing 0) ≡ verdicts.Granted → Quiet o mask → is_silent_grant (sum o) mask ≡ true
+  bits_silent None mask fits h q = absurd q
+  bits_silent (Some j) mask fits h q = both _ _ (covers caller j mask fits h) (quiet caller j mask fits q)
 
-  abbrev mention_in : Option Judged → ℕ → Mention
-  mention_in o place = option_map_or (λ j. mentioned (mention (names j caller) j.list place)) o Unmentioned
+  abbrev first_match_in : Option Judged → ℕ → FirstMatch
+  first_match_in o place = option_map_or (λ j. match_of (first_match (names j caller) j.list place)) o Unmatched
 
-  either_told : (t p : Judged) → IsAllow (mention_in (Some t) places.delete) ⊎ IsAllow (mention_in (Some p) places.delete_child) → grants (sum_of t caller) DELETE || grants (sum_of p caller) DELETE_CHILD ≡ true
-  either_told t p (inl a) = rw (allow_grants caller t places.delete (omega arith) (omega arith) a) refl
-  either_told t p (inr a) = let e : grants (sum_of p caller) DELETE_CHILD ≡ true = allow_grants caller p places.delete_child (omega arith) (omega arith) a in go (grants (sum_of t caller) DELETE) e
+  either_grants : (t p : Judged) → IsAllow (first_match_in (Some t) places.delete) ⊎ IsAllow (first_match_in (Some p) places.delete_child) → grants (sum_of t caller) DELETE || grants (sum_of p caller) DELETE_CHILD ≡ true
+  either_grants t p (inl a) = rw (allow_grants caller t places.delete (omega arith) (omega arith) a) refl
+  either_grants t p (inr a) = let e : grants (sum_of p caller) DELETE_CHILD ≡ true = allow_grants caller p places.delete_child (omega arith) (omega arith) a in go (grants (sum_of t caller) DELETE) e
     where
       go : (b : Bool) {c : Bool} → c ≡ true → b || c ≡ true
       go true e = refl
       go false e = e
 
-  removal_told : (t p : Option Judged) → IsAllow (mention_in t places.delete) ⊎ IsAllow (mention_in p places.delete_child) → Quiet t DELETE → Quiet p DELETE_CHILD → tells_removal (sum t) (sum p) ≡ true
-  removal_told None p h q r = absurd q
-  removal_told (Some t) None h q r = absurd r
-  removal_told (Some t) (Some p) h q r = both _ _ (either_told t p h) (both _ _ (quiet caller t DELETE (omega arith) q) (quiet caller p DELETE_CHILD (omega arith) r))
+  removal_silent : (t p : Option Judged) → IsAllow (first_match_in t places.delete) ⊎ IsAllow (first_match_in p places.delete_child) → Quiet t DELETE → Quiet p DELETE_CHILD → is_silent_removal (sum t) (sum p) ≡ true
+  removal_silent None p h q r = absurd q
+  removal_silent (Some t) None h q r = absurd r
+  removal_silent (Some t) (Some p) h q r = both _ _ (either_grants t p h) (both _ _ (quiet caller t DELETE (omega arith) q) (quiet caller p DELETE_CHILD (omega arith) r))
 
 -- ---- hits
 
-picked : {V : Type 0} (front back : Bool) (v w : V) (rest old : Option V) → IsSome (cond back (Some w) old) → (IsSome old → IsSome (cond front (Some v) rest)) → IsSome (cond front (Some v) (cond back (Some w) rest))
+picked : {V : Type 0} (prefix back : Bool) (v w : V) (rest old : Option V) → IsSome (cond back (Some w) old) → (IsSome old → IsSome (cond prefix (Some v) rest)) → IsSome (cond prefix (Some v) (cond back (Some w) rest))
 picked true back v w rest old h more = refl
 picked false true v w rest old h more = refl
 picked false false v w rest old h more = more h
 
--- a summary that is there is there after an entry went to the front
+-- a remembered summary is still found after another key moved to the front
 found_after : {K V : Type 0} (test p : K → Bool) (es : List (K × V)) (e : K × V) → lookup_entry test es ≡ Some e → IsSome (lookup p es) → IsSome (lookup p (e ∷ remove_entry test es))
 found_after test p [] e at there = cc
 found_after {K} {V} test p (f ∷ es) e at there = go (test f.0) (found_after test p es e) at
@@ -131,9 +131,9 @@ still-hits asker (Some j) old new left hits =
     All-cons (λ (l : Key × Summary). IsSome (lookup (is_key l.0) new.remembered)) _ [] (left.found (key_of j asker) (All-head (λ (l : Key × Summary). IsSome (lookup (is_key l.0) old.remembered)) (key_of j asker, sum_of j (member_of asker)) [] hits)) (All-nil (λ (l : Key × Summary). IsSome (lookup (is_key l.0) new.remembered)))
 
 module _ (lists : Lists) (caller : Identity) where
-  told : (demand : Demand) → Fits demand → IsAllowed lists caller demand → IsQuiet lists caller demand → is_told lists caller demand ≡ true
-  told (Bits object mask) fits h q = bits_told caller (lists object) mask fits h q
-  told (Removal parent target) fits h q = removal_told caller (lists target) (lists parent) h q.0 q.1
+  silent : (demand : Demand) → Fits demand → IsAllowed lists caller demand → IsQuiet lists caller demand → grants_silently lists caller demand ≡ true
+  silent (Bits object mask) fits h q = bits_silent caller (lists object) mask fits h q
+  silent (Removal parent target) fits h q = removal_silent caller (lists target) (lists parent) h q.0 q.1
 
 module _ (lists : Lists) (asker : Asker) where
   all_hit : (demand : Demand) (old new : Memory) → LooksUpFor lists asker demand old new → AreHits (looks_for lists asker demand) old.remembered → new.examined ≡ old.examined
@@ -145,4 +145,4 @@ module _ (lists : Lists) (asker : Asker) where
 
   pub quiet_hits : (demand : Demand) (old new : Memory) → Fits demand → IsAllowed lists (member_of asker) demand → IsQuiet lists (member_of asker) demand → AreHits (looks_for lists asker demand) old.remembered → Decides lists asker demand old new → new.examined ≡ old.examined
   quiet_hits demand old new fits h q hits (between, looks, walk) =
-      ap (λ (m : Memory). m.examined) (walk ∙ ap (λ b. cond b between (walked lists demand between)) (told lists (member_of asker) demand fits h q)) ∙ all_hit demand old between looks hits
+      ap (λ (m : Memory). m.examined) (walk ∙ ap (λ b. cond b between (walked lists demand between)) (silent lists (member_of asker) demand fits h q)) ∙ all_hit demand old between looks hits

@@ -1,7 +1,6 @@
 pub mod Lines
-pub mod Telling
+pub mod SilentGrants
 pub mod Remembering
 pub mod Calls
 pub mod Hits
 pub mod Hashing
-pub mod Noting

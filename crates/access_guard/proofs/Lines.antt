@@ -6,11 +6,11 @@ use Rattle.std.proofs.Math.Seq.{drop-cons}
 use Rattle.rpc_record.specs.Identity.{Identity}
 use Rattle.acl_list.specs.Places as places
 use Rattle.acl_list.specs.declared.mask.TheConstants.{DELETE, ADD_FILE}
-use Rattle.acl_list.specs.declared.answer.Mention.{Mention}
+use Rattle.acl_list.specs.declared.answer.FirstMatch.{FirstMatch}
 use Rattle.access_rows.specs.declared.demand.Demand.TheVariants.{Removal}
 use Rattle.access_guard.specs.declared.decision.Decision.{Decision}
 use Rattle.access_guard.specs.declared.line.Line.{Line}
-use Rattle.access_guard.specs.Lists.{Lists, mention_at, verdict_at}
+use Rattle.access_guard.specs.Lists.{Lists, first_match_at, verdict_at}
 use Rattle.access_guard.specs.Decisions.{removal, is_granted}
 use Rattle.access_guard.specs.Lines.{watch_lines, deny_lines, parent_mask, lines}
 use Rattle.access_guard.specs.Log.{Log, held}
@@ -27,9 +27,9 @@ step-none f xs ys i d done same below gives = rw (sym same) (rw (drop-cons ys i 
 held-three : (log : Log) (a b c : List Line) → held c (held b (held a log)) ≡ held ((a ++ b) ++ c) log
 held-three log a b c = ap (λ lines. record log { held = lines }) (simp append_assoc)
 
--- the lines of a removal, one part after another
-pub removal_lines : (lists : Lists) (caller : Identity) (op parent target : ℕ) (on_target on_parent : Mention) (decided : Decision) (granted : Bool) (mask : ℕ) (old one two new : Log)
-    → on_target ≡ mention_at lists caller target places.delete → on_parent ≡ mention_at lists caller parent places.delete_child
+-- the lines of a removal, part by part
+pub removal_lines : (lists : Lists) (caller : Identity) (op parent target : ℕ) (on_target on_parent : FirstMatch) (decided : Decision) (granted : Bool) (mask : ℕ) (old one two new : Log)
+    → on_target ≡ first_match_at lists caller target places.delete → on_parent ≡ first_match_at lists caller parent places.delete_child
     → decided ≡ removal parent target on_target on_parent (verdict_at lists caller parent ADD_FILE) → granted ≡ is_granted decided → mask ≡ parent_mask on_target on_parent
     → one ≡ held (watch_lines lists caller op granted target DELETE) old → two ≡ held (watch_lines lists caller op granted parent mask) one → new ≡ held (deny_lines caller op decided) two
     → new ≡ held (lines lists caller op (Removal parent target)) old

@@ -1,4 +1,4 @@
--- The summaries that a guard remembers agree with the tree and the book, and look-ups keep it so.
+-- The summaries that a guard remembers agree with the tree and the book, and look-ups keep them in agreement.
 use Rattle.std.proofs.Common.{◌≡◌, ℕ, ◌+◌, ◌-◌, ◌^◌, ◌<◌, ◌≤◌, Bool, true, false, cond, nat_lt, ◌&&◌, List, [], ◌∷◌, length, take, refl, ap, sym, ◌∙◌, subst, Contains, arith, Some, None, Ok, Err, inl, inr, ◌⊎◌}
 use Rattle.std.specs.Prelude.{Option, Result, OnOk, OnErr, MatchOption, ◌==◌}
 use Rattle.std.specs.Option.{option_map, option_map_or}
@@ -33,7 +33,7 @@ no_entry test (e ∷ es) h = (elim (test e.0) as (λ y. test e.0 ≡ y → looku
 abbrev pub memory_of : LruCache Key Summary → ℕ → Memory
 memory_of pairs examined = record { capacity = pairs.cap; remembered = pairs.entries; examined = examined }
 
--- a look-up that finds no summary, and then puts the computed one, where there is memory for it
+-- a look-up that finds no summary, and then puts the computed one, unless an allocation fails
 pub looks_up-put : {E : Type 0} (j : Judged) (asker : Asker) (old : Memory) (pairs after : LruCache Key Summary) (examined : ℕ) (r : Result (Option Summary) E) (key : Key) (sum : Summary)
     → key ≡ key_of j asker → sum ≡ sum_of j (member_of asker)
     → None ≡ lookup (is_key key) old.remembered
@@ -84,10 +84,10 @@ same_key a b h =
 
 -- fewer summaries agree too
 fewer : (old new : List (Key × Summary)) (book : Content) (epoch : ℕ) (w : World) → ((e : Key × Summary) → Contains new e → Contains old e) → Agrees old book epoch w → Agrees new book epoch w
-fewer old new book epoch w stood agrees = record {
-  known = λ key sum is. agrees.known key sum (stood (key, sum) is);
-  past = λ key sum is. agrees.past key sum (stood (key, sum) is);
-  now = λ key sum is. agrees.now key sum (stood (key, sum) is);
+fewer old new book epoch w was agrees = record {
+  known = λ key sum is. agrees.known key sum (was (key, sum) is);
+  past = λ key sum is. agrees.past key sum (was (key, sum) is);
+  now = λ key sum is. agrees.now key sum (was (key, sum) is);
 }
 
 -- a change of the tree that keeps the access attributes keeps the agreement
@@ -114,7 +114,7 @@ next_is epoch next is = go (nat_lt epoch (2 ^ 63)) is
     go true h = cc
     go false h = cc
 
--- a summary that a look-up finds is the summary of the list with that stamp now
+-- a summary that a look-up finds is that of the current access control list (ACL) with its stamp
 pub found : (pairs : List (Key × Summary)) (asker : Asker) (w : World) → Agrees pairs asker.book asker.epoch w → (number : ℕ) (j : Judged) (sum : Summary) → judged_of w number ≡ Some j
     → lookup (is_key (key_of j asker)) pairs ≡ Some sum → sum ≡ sum_of j (member_of asker)
 found pairs asker w agrees number j sum at there =
@@ -142,7 +142,7 @@ stamp_there w number j at = through (object w number) ∙ ap (option_map (λ j. 
     through None = refl
     through (Some o) = refl
 
--- the summary of an object's list, put first, keeps the agreement
+-- putting the summary of an object's ACL in front keeps the agreement
 added : (pairs : List (Key × Summary)) (asker : Asker) (w : World) → IsSound w → Agrees pairs asker.book asker.epoch w → (number : ℕ) (j : Judged) → judged_of w number ≡ Some j
     → (count : ℕ) → Agrees ((key_of j asker, sum_of j (member_of asker)) ∷ take count pairs) asker.book asker.epoch w
 added pairs asker w sound agrees number j at count = record {

@@ -1,4 +1,4 @@
--- The requester.
+-- The caller that a decision is for.
 use Rattle.std.specs.Prelude.{ℕ}
 use Rattle.rpc_record.specs.Identity.{Identity}
 use Rattle.who_book.specs.Content.{Content}
@@ -15,6 +15,6 @@ pub record Asker : Type 0 where
 abbrev pub asker : Content → ℕ → Identity → Asker
 asker book epoch caller = record { book = book; epoch = epoch; sent = caller }
 
--- the caller by the book, for whom the lists decide
+-- the caller by the book, for whom access control lists are evaluated
 abbrev pub member_of : Asker → Identity
 member_of a = member a.book a.sent

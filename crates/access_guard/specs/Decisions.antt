@@ -1,44 +1,45 @@
--- The decision of lists on a demand.
+-- The decision of access control lists (ACLs) on a demand.
 use Rattle.std.specs.Prelude.{ℕ, Bool, true, false}
 use Rattle.rpc_record.specs.Identity.{Identity}
 use Rattle.acl_list.specs.Places as places
 use Rattle.acl_list.specs.declared.mask.TheConstants.{DELETE, DELETE_CHILD, ADD_FILE}
 use Rattle.acl_list.specs.declared.answer.Verdict.{Verdict}
 use Rattle.acl_list.specs.declared.answer.Verdict.TheVariants as verdicts
-use Rattle.acl_list.specs.declared.answer.Mention.{Mention}
-use Rattle.acl_list.specs.declared.answer.Mention.TheVariants.{Unmentioned, AllowedBy, DeniedBy}
+use Rattle.acl_list.specs.declared.answer.FirstMatch.{FirstMatch}
+use Rattle.acl_list.specs.declared.answer.FirstMatch.TheVariants.{Unmatched, AllowedBy, DeniedBy}
 use Rattle.access_rows.specs.declared.demand.Demand.{Demand}
 use Rattle.access_rows.specs.declared.demand.Demand.TheVariants.{Bits, Removal}
 use Rattle.access_guard.specs.declared.decision.Decision.{Decision}
 use Rattle.access_guard.specs.declared.decision.Decision.TheVariants.{Granted, Refused}
 use Rattle.access_guard.specs.declared.decision.Cause.TheVariants.{ByEntry, Missing}
-use Rattle.access_guard.specs.Lists.{Lists, verdict_at, mention_at}
+use Rattle.access_guard.specs.Lists.{Lists, verdict_at, first_match_at}
 
--- a refusal names the object, the bits demanded of it, and the entry that denies or the bit that no entry allows
+-- A refusal names the object and the bits demanded of it. Its cause is the access control entry (ACE) that denies, or
+-- the bit that no ACE allows.
 abbrev pub answer : ℕ → ℕ → Verdict → Decision
 answer object mask verdicts.Granted = Granted
 answer object mask (verdicts.Denied index) = Refused object mask (ByEntry index)
 answer object mask (verdicts.Missing bit) = Refused object mask (Missing bit)
 
--- Whether a name of the target may be removed from the parent (RFC 8881, section 6.2.1.3.2). It
--- goes by DELETE in the target's list, and by DELETE_CHILD and ADD_FILE in the parent's. An ALLOW
--- of DELETE or of DELETE_CHILD suffices, whatever the other list says; ADD_FILE suffices where
--- neither is mentioned. A refusal names the parent's DENY of DELETE_CHILD if there is one, else the
--- target's of DELETE if there is one, else the refusal of ADD_FILE.
-abbrev pub removal : ℕ → ℕ → Mention → Mention → Verdict → Decision
+-- Whether a name of the target may be removed from the parent (RFC 8881, section 6.2.1.3.2). DELETE in the target's ACL
+-- decides, and DELETE_CHILD and ADD_FILE in the parent's. An ALLOW of DELETE or of DELETE_CHILD suffices, whatever the
+-- other ACL has. ADD_FILE suffices if no ACE matches DELETE and none DELETE_CHILD. A refusal names the parent's DENY of
+-- DELETE_CHILD if there is one. Otherwise it names the target's DENY of DELETE if there is one, else the refusal of
+-- ADD_FILE.
+abbrev pub removal : ℕ → ℕ → FirstMatch → FirstMatch → Verdict → Decision
 removal parent target (AllowedBy index) on_parent add = Granted
 removal parent target (DeniedBy index) (AllowedBy other) add = Granted
 removal parent target (DeniedBy index) (DeniedBy other) add = Refused parent DELETE_CHILD (ByEntry other)
-removal parent target (DeniedBy index) Unmentioned add = Refused target DELETE (ByEntry index)
-removal parent target Unmentioned (AllowedBy other) add = Granted
-removal parent target Unmentioned (DeniedBy other) add = Refused parent DELETE_CHILD (ByEntry other)
-removal parent target Unmentioned Unmentioned add = answer parent ADD_FILE add
+removal parent target (DeniedBy index) Unmatched add = Refused target DELETE (ByEntry index)
+removal parent target Unmatched (AllowedBy other) add = Granted
+removal parent target Unmatched (DeniedBy other) add = Refused parent DELETE_CHILD (ByEntry other)
+removal parent target Unmatched Unmatched add = answer parent ADD_FILE add
 
 abbrev pub decision : Lists → Identity → Demand → Decision
 decision lists caller (Bits object mask) = answer object mask (verdict_at lists caller object mask)
 decision lists caller (Removal parent target) =
-    removal parent target (mention_at lists caller target places.delete)
-    (mention_at lists caller parent places.delete_child) (verdict_at lists caller parent ADD_FILE)
+    removal parent target (first_match_at lists caller target places.delete)
+    (first_match_at lists caller parent places.delete_child) (verdict_at lists caller parent ADD_FILE)
 
 abbrev pub is_granted : Decision → Bool
 is_granted Granted = true

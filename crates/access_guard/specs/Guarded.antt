@@ -1,5 +1,5 @@
--- A tree beside the guard of its lists, and the book of its callers. The summaries that the guard
--- remembers make no difference, only how many they may be.
+-- A tree beside the guard of its access control lists, and the book of its callers. It doesn't have the remembered
+-- summaries, but it has how many there may be.
 use Rattle.std.specs.Prelude.{ℕ, []}
 use Rattle.who_book.specs.Content.{Content}
 use Rattle.node_tree.specs.World.{World}
@@ -12,7 +12,7 @@ pub record Guarded : Type 0 where
   -- the epoch of the book, counted from 1
   pub epoch : ℕ
   pub log : Log
-  -- the most summaries that are remembered
+  -- the most summaries that may be remembered
   pub capacity : ℕ
 
 -- a tree and its first book, beside a guard that has decided nothing yet

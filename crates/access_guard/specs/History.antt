@@ -1,4 +1,4 @@
--- The summaries that are remembered after any list of look-ups.
+-- The summaries that are remembered after any sequence of look-ups.
 use Rattle.std.specs.Prelude.{◌≡◌, ◌⊎◌, ℕ, ◌-◌, List, [], ◌∷◌, ◌++◌, take, MatchOption}
 use Rattle.std.specs.Option.{option_map_or}
 use Rattle.std.specs.Map.{lookup}
@@ -12,8 +12,8 @@ use Rattle.access_guard.specs.Keys.{is_key}
 use Rattle.access_guard.specs.Lists.{Lists, sum_of}
 use Rattle.access_guard.specs.Memory.{key_of}
 
--- A look-up of a summary that is there moves it to the front. Another summary goes in front, and
--- the last one goes if the list was full; or, where memory is refused for it, the list stays.
+-- A look-up that finds its summary moves it to the front. Otherwise the new summary is put in front, and the last one
+-- is evicted if the list was full. If an allocation for it fails, the list is unchanged.
 abbrev pub IsLookUp : ℕ → Key × Summary → List (Key × Summary) → List (Key × Summary) → Type 0
 IsLookUp capacity (key, sum) old new =
     MatchOption (lookup (is_key key) old)
@@ -26,7 +26,7 @@ AreLookUps capacity [] old new = new ≡ old
 AreLookUps capacity (look ∷ more) old new =
     (between : List (Key × Summary)) × IsLookUp capacity look old between × AreLookUps capacity more between new
 
--- the look-up of an object, if it is there
+-- the look-up of an object, if it exists
 abbrev pub looks_at : Lists → Asker → ℕ → List (Key × Summary)
 looks_at lists asker object = option_map_or (λ j. (key_of j asker, sum_of j (member_of asker)) ∷ []) (lists object) []
 

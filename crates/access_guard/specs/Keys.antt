@@ -1,13 +1,8 @@
--- Whether two remembered summaries are of one list and one caller, under one book, and what is hashed of a key.
-use Rattle.std.specs.Prelude.{Bool, ◌==◌, ◌&&◌, ◌++◌}
-use Rattle.std.specs.Hash.{HashWrites, u64}
-use Rattle.std.specs.List.{flat_map}
+-- Whether two remembered summaries are of one access control list (ACL) and one caller, under one book, and what is
+-- hashed of a key.
+use Rattle.std.specs.Prelude.{Bool, ◌==◌, ◌&&◌}
 use Rattle.rpc_record.specs.Identity.{is_same}
 use Rattle.access_guard.specs.declared.memory.Key.{Key}
 
 abbrev pub is_key : Key → Key → Bool
 is_key a b = (a.epoch == b.epoch) && (a.stamp == b.stamp) && is_same a.caller b.caller
-
--- the list, and the caller's user, group and groups, each a word of 64 bits; the epoch isn't hashed
-abbrev pub hashed : Key → HashWrites
-hashed k = u64 k.stamp ++ u64 k.caller.uid ++ u64 k.caller.gid ++ flat_map u64 k.caller.groups

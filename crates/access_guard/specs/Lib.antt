@@ -10,4 +10,5 @@ pub mod State
 pub mod Text
 pub mod History
 pub mod Guarded
-pub mod Telling
+pub mod SilentGrants
+pub mod internal

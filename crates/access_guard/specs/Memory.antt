@@ -1,4 +1,5 @@
--- The summaries that a guard remembers, their agreement with a tree and a book, and how many entries it has looked at.
+-- The summaries that a guard remembers, their agreement with a tree and a book, and how many access control entries
+-- (ACEs) it has examined.
 use Rattle.std.specs.Prelude.{◌≡◌, ◌⊎◌, ℕ, ◌+◌, ◌-◌, ◌^◌, ◌<◌, ◌≤◌, min, Bool, false, ◌&&◌, ◌||◌, if◌then◌else◌, List}
 use Rattle.std.specs.Prelude.{◌∷◌, length, take, Option, Some, None, Contains, MatchOption}
 use Rattle.std.specs.Map.{lookup}
@@ -18,17 +19,17 @@ use Rattle.access_guard.specs.Keys.{is_key}
 use Rattle.access_guard.specs.Lists.{Lists, sum_of, sum_at, entries_at, grants, is_quiet}
 
 pub record Memory : Type 0 where
-  -- the most summaries that are remembered
+  -- the most summaries that may be remembered
   pub capacity : ℕ
-  -- the summaries by book, list and caller, the last one used first
+  -- the summaries by book, access control list (ACL) and caller, the last one used first
   pub remembered : List (Key × Summary)
-  -- the number of entries of lists that were looked at, as far as 64 bits count
+  -- the count of ACEs that were examined, up to the limit of 64 bits
   pub examined : ℕ
 
 -- ---- agreement
 
--- Each summary of this epoch is the summary of the list with that stamp now, for the caller by the
--- book. No stamp and no epoch is yet to come.
+-- Each summary of this epoch is that of the current ACL with its stamp, for the caller by the book. No key has a stamp
+-- or an epoch that is yet to be given out.
 pub record Agrees (remembered : List (Key × Summary)) (book : Content) (epoch : ℕ) (w : World) : Type 0 where
   pub known : (key : Key) (sum : Summary) → Contains remembered (key, sum) → key.stamp < w.next_stamp
   pub past : (key : Key) (sum : Summary) → Contains remembered (key, sum) → key.epoch ≤ epoch
@@ -38,24 +39,24 @@ pub record Agrees (remembered : List (Key × Summary)) (book : Content) (epoch :
 
 -- ---- look-ups
 
--- the caller as sent, the epoch of the book, and the list that the object has now
+-- the caller as sent, the epoch of the book, and the stamp of the object's current ACL
 abbrev pub key_of : Judged → Asker → Key
 key_of j asker = record { epoch = asker.epoch; stamp = j.stamp; caller = asker.sent }
 
--- this many more entries were looked at
+-- `entries` more ACEs are examined
 abbrev pub examined_more : ℕ → Memory → Memory
 examined_more entries m = record m { examined = min (m.examined + entries) (2 ^ 64 - 1) }
 
--- a summary that is there goes first
+-- a summary that is found moves to the front
 abbrev pub used : Key → Memory → Memory
 used key m = record m { remembered = promoted (is_key key) m.remembered }
 
--- a new summary goes first, and the last one goes if the list was full
+-- a new summary is put in front, and the last one is evicted if the list was full
 abbrev pub learnt : Key → Summary → Memory → Memory
 learnt key sum m = record m { remembered = (key, sum) ∷ take (m.capacity - 1) m.remembered }
 
--- A look-up of the summary of an object's list. A summary that isn't remembered is computed from
--- the whole list and put first, or, where memory is refused for it, isn't remembered.
+-- A look-up of the summary of an object's ACL. A summary that isn't remembered is computed from the whole ACL and put
+-- in front. If an allocation for it fails, it isn't remembered.
 abbrev pub LooksUp : Judged → Asker → Memory → Memory → Type 0
 LooksUp j asker old new =
     MatchOption (lookup (is_key (key_of j asker)) old.remembered)
@@ -63,7 +64,7 @@ LooksUp j asker old new =
     ⊎ (new ≡ examined_more (length j.list) old))
     (λ sum. new ≡ used (key_of j asker) old)
 
--- an object that isn't there isn't looked up
+-- an object that doesn't exist isn't looked up
 abbrev pub LooksUpAt : Lists → Asker → ℕ → Memory → Memory → Type 0
 LooksUpAt lists asker object old new = MatchOption (lists object) (new ≡ old) (λ j. LooksUp j asker old new)
 
@@ -75,33 +76,33 @@ LooksUpFor lists asker (Removal parent target) old new =
 
 -- ---- decisions
 
--- A summary alone tells that the mask is granted and that no line is written.
-abbrev pub tells : Option Summary → ℕ → Bool
-tells None mask = false
-tells (Some s) mask = grants s mask && is_quiet s mask
+-- A summary alone shows that the mask is granted and that no line is written.
+abbrev pub is_silent_grant : Option Summary → ℕ → Bool
+is_silent_grant None mask = false
+is_silent_grant (Some s) mask = grants s mask && is_quiet s mask
 
--- The summaries of the target and of the parent alone tell that a removal is granted and that no
--- line is written. It is granted so by DELETE or by DELETE_CHILD, and not by ADD_FILE. A summary
--- doesn't distinguish a denied bit from a bit that isn't mentioned.
-abbrev pub tells_removal : Option Summary → Option Summary → Bool
-tells_removal None on_parent = false
-tells_removal (Some on_target) None = false
-tells_removal (Some on_target) (Some on_parent) =
+-- The summaries of the target and of the parent alone show that a removal is granted and that no line is written. They
+-- show a grant by DELETE or by DELETE_CHILD, and not by ADD_FILE. A summary doesn't distinguish a denied bit from a bit
+-- that no ACE matches.
+abbrev pub is_silent_removal : Option Summary → Option Summary → Bool
+is_silent_removal None on_parent = false
+is_silent_removal (Some on_target) None = false
+is_silent_removal (Some on_target) (Some on_parent) =
     (grants on_target DELETE || grants on_parent DELETE_CHILD)
     && (is_quiet on_target DELETE && is_quiet on_parent DELETE_CHILD)
 
-abbrev pub is_told : Lists → Identity → Demand → Bool
-is_told lists caller (Bits object mask) = tells (sum_at lists caller object) mask
-is_told lists caller (Removal parent target) = tells_removal (sum_at lists caller target) (sum_at lists caller parent)
+abbrev pub grants_silently : Lists → Identity → Demand → Bool
+grants_silently lists caller (Bits object mask) = is_silent_grant (sum_at lists caller object) mask
+grants_silently lists caller (Removal parent target) = is_silent_removal (sum_at lists caller target) (sum_at lists caller parent)
 
--- the entries of the lists that a demand is about are looked at
+-- the ACEs of the ACLs that a demand reads are examined
 abbrev pub walked : Lists → Demand → Memory → Memory
 walked lists (Bits object mask) m = examined_more (entries_at lists object) m
 walked lists (Removal parent target) m =
     examined_more (entries_at lists parent) (examined_more (entries_at lists target) m)
 
--- The memory after a decision: its look-ups, and where the summaries don't tell it a walk over its lists.
+-- The memory after a decision: its look-ups, and a walk over its ACLs if the summaries alone don't decide it.
 abbrev pub Decides : Lists → Asker → Demand → Memory → Memory → Type 0
 Decides lists asker demand old new =
     (between : Memory) × LooksUpFor lists asker demand old between
-    × (new ≡ (if is_told lists (member_of asker) demand then between else walked lists demand between))
+    × (new ≡ (if grants_silently lists (member_of asker) demand then between else walked lists demand between))

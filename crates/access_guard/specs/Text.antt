@@ -14,7 +14,7 @@ use Rattle.access_guard.specs.declared.line.Line.{Line}
 abbrev pub mask_text : ℕ → List ℕ
 mask_text mask = encode_lower (to_be_bytes w32 mask)
 
--- the name of an operation that this server has, and the decimal digits of any other number
+-- the name of an operation of this server, and the decimal digits of any other number
 abbrev pub operation_text : ℕ → List ℕ
 operation_text op = option_map_or (λ name. name) (operation_name op) (decimal op)
 
@@ -23,7 +23,7 @@ kind_text Audit = codes "AUDIT"
 kind_text Alarm = codes "ALARM"
 kind_text Deny = codes "DENY"
 
--- an AUDIT or ALARM line says how the demand ended
+-- an AUDIT or ALARM line has the outcome of the demand
 abbrev pub end_text : LineKind → Bool → List ℕ
 end_text Audit granted = if granted then codes " granted" else codes " refused"
 end_text Alarm granted = if granted then codes " granted" else codes " refused"

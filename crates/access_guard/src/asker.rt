@@ -1,4 +1,4 @@
-//! The requester.
+//! The caller that a decision is for.
 ghost use Rattle.std.specs.Prelude.{◌≡◌};
 ghost use Rattle.access_guard.specs.Asker.{asker, member_of};
 
@@ -6,8 +6,8 @@ use acl_list::Caller;
 use std::marker::Model;
 use who_book::Book;
 
-/// A caller under the book of an epoch. The caller by the book is looked up where it is needed, and
-/// only once: remembered summaries are found without it.
+/// A caller under the book of an epoch. The caller by the book is looked up only when it is needed, and only once:
+/// remembered summaries are found without it.
 #[derive(Drop)]
 pub(crate) struct Asker<'b> {
     book: &'b Book,

@@ -1,4 +1,4 @@
-//! The decisions of the lists of objects.
+//! The decisions of the access control lists (ACLs) of objects.
 ghost use Rattle.std.specs.Prelude.{◌≡◌, ◌^◌, ℕ};
 ghost use Rattle.access_guard.specs.Decisions as specs;
 ghost use Rattle.access_guard.specs.Lists as lists;
@@ -7,10 +7,10 @@ ghost use Rattle.access_guard.specs.Lines as lines;
 use crate::decision::{Cause, Decision, answer};
 use crate::memory::Opened;
 use acl_list::mask::{ADD_FILE, DELETE, DELETE_CHILD};
-use acl_list::{Caller, Mention, Verdict, judge, mention};
+use acl_list::{Caller, FirstMatch, Verdict, first_match, judge};
 use std::alloc::Allocator;
 
-/// The verdict of an object's list on a mask.
+/// The verdict of an object's ACL on a mask.
 pub(crate) fn verdict_of<A: Allocator + Copy>(
     opened: &Opened<'_, A>,
     caller: &Caller,
@@ -24,45 +24,45 @@ pub(crate) fn verdict_of<A: Allocator + Copy>(
     }
 }
 
-/// The entry of an object's list that decides a bit.
-pub(crate) fn mention_of<A: Allocator + Copy>(
+/// The access control entry (ACE) of an object's ACL that decides a bit.
+pub(crate) fn first_match_of<A: Allocator + Copy>(
     opened: &Opened<'_, A>,
     caller: &Caller,
     bit: u32,
-) -> Mention
-    ensures { (place : ℕ) → bit ≡ 2 ^ place → result ≡ lists.mention_of opened.now caller.now place }
+) -> FirstMatch
+    ensures { (place : ℕ) → bit ≡ 2 ^ place → result ≡ lists.first_match_of opened.now caller.now place }
 {
     match opened.node() {
-        Some(node) => mention(node.list(), node.owner(), node.group(), caller, bit),
-        None => Mention::Unmentioned,
+        Some(node) => first_match(node.list(), node.owner(), node.group(), caller, bit),
+        None => FirstMatch::Unmatched,
     }
 }
 
-/// Whether a name of the target may be removed from the parent, by DELETE in the target's list and DELETE_CHILD in the
-/// parent's. Only where neither is mentioned is ADD_FILE checked on the parent.
+/// Whether a name of the target may be removed from the parent, by DELETE in the target's ACL and DELETE_CHILD in the
+/// parent's. If no ACE matches either of them, ADD_FILE in the parent's ACL decides.
 pub(crate) fn removal<A: Allocator + Copy>(
     opened_parent: &Opened<'_, A>,
     caller: &Caller,
     parent: u64,
     target: u64,
-    on_target: Mention,
-    on_parent: Mention,
+    on_target: FirstMatch,
+    on_parent: FirstMatch,
 ) -> Decision
     ensures { result ≡ specs.removal parent target on_target on_parent
         (lists.verdict_of opened_parent.now caller.now ADD_FILE) }
 {
-    if matches!(on_target, Mention::AllowedBy(_)) {
+    if matches!(on_target, FirstMatch::AllowedBy(_)) {
         return Decision::Granted;
     }
     match on_parent {
-        Mention::AllowedBy(_) => Decision::Granted,
-        Mention::DeniedBy(index) => Decision::Refused {
+        FirstMatch::AllowedBy(_) => Decision::Granted,
+        FirstMatch::DeniedBy(index) => Decision::Refused {
             object: parent,
             mask: DELETE_CHILD,
             cause: Cause::ByEntry(index),
         },
-        Mention::Unmentioned => match on_target {
-            Mention::DeniedBy(index) => Decision::Refused {
+        FirstMatch::Unmatched => match on_target {
+            FirstMatch::DeniedBy(index) => Decision::Refused {
                 object: target,
                 mask: DELETE,
                 cause: Cause::ByEntry(index),
@@ -76,12 +76,12 @@ pub(crate) fn removal<A: Allocator + Copy>(
     }
 }
 
-/// The bits of the parent that a removal checks.
-pub(crate) fn parent_mask(on_target: Mention, on_parent: Mention) -> u32
+/// The bits of the parent that a removal reads.
+pub(crate) fn parent_mask(on_target: FirstMatch, on_parent: FirstMatch) -> u32
     ensures { result ≡ lines.parent_mask on_target on_parent }
 {
     match (on_target, on_parent) {
-        (Mention::Unmentioned, Mention::Unmentioned) => DELETE_CHILD | ADD_FILE,
+        (FirstMatch::Unmatched, FirstMatch::Unmatched) => DELETE_CHILD | ADD_FILE,
         _ => DELETE_CHILD,
     }
 }

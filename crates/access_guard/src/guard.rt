@@ -18,7 +18,7 @@ ghost use Rattle.access_guard.specs.Memory.{Agrees, Decides, LooksUpAt, walked};
 ghost use Rattle.access_guard.specs.State.{fresh};
 
 use crate::asker::Asker;
-use crate::deciding::{mention_of, parent_mask, removal, verdict_of};
+use crate::deciding::{first_match_of, parent_mask, removal, verdict_of};
 use crate::decision::{Decision, answer};
 use crate::line::Line;
 use crate::memory::{Key, Summaries};
@@ -33,7 +33,7 @@ use std::marker::Model;
 use std::num::NonZeroUsize;
 use who_book::Book;
 
-/// Decides on demands, remembers summaries of lists, and keeps the trail.
+/// Decides on demands, remembers summaries of access control lists (ACLs), and keeps the trail.
 #[derive(Drop)]
 pub struct Guard<A: Allocator = Global> {
     memory: Summaries<A>,
@@ -49,9 +49,8 @@ impl<A: Allocator> Model for Guard<A> {
 }
 
 impl<A: Allocator + Copy> Guard<A> {
-    /// A guard that has decided nothing yet. It remembers at most `capacity` summaries, and hashes
-    /// their keys by `hasher`. It agrees with every tree and every book. `Err`: there is no memory
-    /// for it.
+    /// A guard that has decided nothing. It remembers at most `capacity` summaries, and hashes their keys by `hasher`.
+    /// It agrees with every tree and every book. `Err`: an allocation fails.
     pub fn new(alloc: A, capacity: NonZeroUsize, hasher: RandomState) -> Result<Self, AllocError>
         ensures value { IfOk result (λ guard. guard ≡ fresh (non_zero_usize_get capacity)) }
         ensures agrees { IfOk result (λ guard. (book : Content) (epoch : ℕ) (w : World) →
@@ -63,33 +62,31 @@ impl<A: Allocator + Copy> Guard<A> {
         })
     }
 
-    /// Whether the lists of the tree, as they are now, grant a demand to the caller by the book
-    /// (RFC 8881, section 6.2.1). `epoch` is that of the book, and `op` the number of the
-    /// operation. It takes no memory that it needs.
+    /// Whether the current ACLs of the tree grant a demand to the caller by the book (RFC 8881, section 6.2.1). `epoch`
+    /// is that of the book, and `op` the number of the operation. It needs no allocation.
     ///
-    /// [`Demand::Bits`] is granted where the object's list grants each bit of the mask, by first
-    /// mention. Else the refusal names the first entry that denies one, else the lowest bit that no
-    /// entry allows. An object that isn't there grants nothing.
+    /// [`Demand::Bits`] is granted if the first matching access control entry (ACE) of each bit of the mask allows it.
+    /// Otherwise the refusal names the first ACE that denies one, else the lowest bit that no ACE allows. An object
+    /// that doesn't exist grants nothing.
     ///
-    /// [`Demand::Removal`] goes by this table (RFC 8881, section 6.2.1.3.2). The rows are DELETE in
-    /// the target's list, the columns DELETE_CHILD in the parent's.
+    /// [`Demand::Removal`] is decided by this table (RFC 8881, section 6.2.1.3.2), by first matching ACEs. The rows are
+    /// DELETE in the target's ACL, the columns DELETE_CHILD in the parent's.
     ///
-    /// | | ALLOW | DENY | not mentioned |
+    /// | | ALLOW | DENY | no match |
     /// |---|---|---|---|
     /// | ALLOW | granted | granted | granted |
     /// | DENY | granted | refused by the parent's DENY | refused by the target's DENY |
-    /// | not mentioned | granted | refused by the parent's DENY | as the parent's list decides ADD_FILE |
+    /// | no match | granted | refused by the parent's DENY | as the parent's ACL decides ADD_FILE |
     ///
-    /// The lines are held until [`Guard::settle`]. First come those of the AUDIT and ALARM entries
-    /// that watch, entry by entry. Of a removal these are the target's with DELETE, then the
-    /// parent's with DELETE_CHILD, and with ADD_FILE too where neither DELETE nor DELETE_CHILD is
-    /// mentioned. Then on refusal comes the DENY line. A grant has at most one line for each entry
-    /// of the lists that it checks: 64 of [`Demand::Bits`], and 128 of [`Demand::Removal`].
+    /// The lines are held until [`Guard::settle`]. Those of the AUDIT and ALARM ACEs that watch come first, ACE by ACE.
+    /// Of a removal these are the target's with DELETE, then the parent's with DELETE_CHILD. The parent's have ADD_FILE
+    /// too if no ACE matches DELETE and none DELETE_CHILD. On refusal the DENY line follows. A grant has at most one
+    /// line for each ACE of the ACLs that it reads: 64 of [`Demand::Bits`], and 128 of [`Demand::Removal`].
     ///
-    /// Summaries of lists are remembered by epoch, stamp and caller as sent, if there is memory for
-    /// them. The decision and the lines are the same without. Each object is looked up once, of a
-    /// removal the target first. Where remembered summaries tell that the demand is granted and
-    /// that no entry watches it, no list is walked. They never tell so of a removal by ADD_FILE.
+    /// Summaries of ACLs are remembered by epoch, stamp and caller as sent, unless an allocation fails. Decision and
+    /// lines are the same then. Each object is looked up once, of a removal the target first. If remembered summaries
+    /// show that the demand is granted and that no ACE watches it, no ACL is walked. They never show that of a removal
+    /// by ADD_FILE.
     pub fn decide<B: Allocator + Copy>(
         &mut self,
         demand: Demand,
@@ -111,13 +108,13 @@ impl<A: Allocator + Copy> Guard<A> {
         ensures agrees { Agrees self.new.memory.remembered book.now epoch tree.now }
     {
         let mut asker = Asker::new(book, epoch, caller);
-        if self.memory.tells(demand, tree, &mut asker) {
+        if self.memory.is_silent_grant(demand, tree, &mut asker) {
             return Decision::Granted;
         }
         self.decide_by_lists(demand, tree, &asker.member(), op)
     }
 
-    /// The decision on a demand by its lists, which are walked and counted, with its lines.
+    /// The decision on a demand by its ACLs, which are walked and counted, with its lines.
     fn decide_by_lists<B: Allocator + Copy>(
         &mut self,
         demand: Demand,
@@ -188,8 +185,8 @@ impl<A: Allocator + Copy> Guard<A> {
     {
         let opened_target = self.memory.open(target, tree);
         let opened_parent = self.memory.open(parent, tree);
-        let on_target = mention_of(&opened_target, caller, DELETE);
-        let on_parent = mention_of(&opened_parent, caller, DELETE_CHILD);
+        let on_target = first_match_of(&opened_target, caller, DELETE);
+        let on_parent = first_match_of(&opened_parent, caller, DELETE_CHILD);
         let decision = removal(&opened_parent, caller, parent, target, on_target, on_parent);
         let granted = decision.is_granted();
         let of_target = Asked {
@@ -210,8 +207,8 @@ impl<A: Allocator + Copy> Guard<A> {
         decision
     }
 
-    /// The bits that an object's list grants the caller by the book, of all 32: none where there is no such object. No
-    /// line is written. The object is looked up once, as in [`Guard::decide`].
+    /// The mask bits that an object's ACL grants the caller by the book, of all 32: none if the object doesn't exist.
+    /// No line is written. The object is looked up once, as in [`Guard::decide`].
     pub fn grants<B: Allocator + Copy>(
         &mut self,
         object: u64,
@@ -240,8 +237,8 @@ impl<A: Allocator + Copy> Guard<A> {
         self.memory.iter()
     }
 
-    /// The number of entries of lists that were looked at. It stays at 2^64 - 1. A list counts
-    /// whole where a look-up doesn't find its summary, and once more where a decision walks it.
+    /// The number of ACEs that were examined. It stays at 2^64 - 1. An ACL counts in full if a look-up doesn't find its
+    /// summary, and once more if a decision walks it.
     pub fn examined(&self) -> u64
         ensures { result ≡ self.now.memory.examined }
     {
@@ -256,21 +253,21 @@ impl<A: Allocator + Copy> Guard<A> {
         self.trail.lines()
     }
 
-    /// The number of lines that the trail had in all. It stays at 2^64 - 1.
+    /// The count of all lines of the trail. It stays at 2^64 - 1.
     pub fn total(&self) -> u64
         ensures { result ≡ self.now.log.total }
     {
         self.trail.total()
     }
 
-    /// Ends an operation: its lines go to the trail in their order, or are dropped. It takes no memory.
+    /// Ends an operation: its lines are appended to the trail in their order, or dropped. It allocates no memory.
     pub fn settle(&mut self, keep: bool)
         ensures { self.new ≡ record self.old { log = settled keep self.old.log } }
     {
         self.trail.settle(keep);
     }
 
-    /// Forgets all lines, and counts from 0 again, as after a start. It takes no memory.
+    /// Forgets all lines, and counts from 0 again, as after a start. It allocates no memory.
     pub fn forget(&mut self)
         ensures { self.new ≡ record self.old { log = no_lines } }
     {

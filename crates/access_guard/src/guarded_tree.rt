@@ -14,7 +14,6 @@ ghost use Rattle.node_tree.specs.Refusals.{write_refusal, resize_refusal};
 ghost use Rattle.node_tree.specs.Moves.{IsMove, IsPlan};
 ghost use Rattle.node_tree.specs.Sound.{IsSound, IsTick, IsNextName, most_bytes};
 ghost use Rattle.node_tree.specs.Judged.{judged_of};
-ghost use Rattle.node_tree.specs.Notes.{begun_notes, cleared};
 ghost use Rattle.access_guard.specs.Lists.{granted_at};
 ghost use Rattle.access_guard.specs.Decisions.{decision, is_granted};
 ghost use Rattle.access_guard.specs.Lines.{lines, most_lines};
@@ -38,9 +37,9 @@ use std::mem;
 use std::num::NonZeroUsize;
 use who_book::Book;
 
-/// A tree, the guard of its lists, and the book of its callers. The guard's remembered summaries
-/// are those of the lists now, through every change of the tree and every reload of the book. So
-/// nothing here has a condition on it.
+/// A tree, the guard of its access control lists (ACLs), and the book of its callers. The guard's remembered summaries
+/// agree with the current ACLs, through every change of the tree and every reload of the book. So no function here has
+/// a condition on them.
 #[derive(Drop)]
 pub struct GuardedTree<A: Allocator = Global> {
     tree: Tree<A>,
@@ -68,8 +67,8 @@ impl<A: Allocator> Model for GuardedTree<A> {
 
 // Decisions.
 impl<A: Allocator + Copy> GuardedTree<A> {
-    /// The tree and its first book, beside a guard that has decided nothing yet and remembers at
-    /// most `capacity` summaries. `Err`: there is no memory for the guard.
+    /// The tree and its first book, beside a guard that has decided nothing and remembers at most `capacity` summaries.
+    /// `Err`: an allocation for the guard fails.
     pub fn new(
         alloc: A,
         tree: Tree<A>,
@@ -88,7 +87,7 @@ impl<A: Allocator + Copy> GuardedTree<A> {
         })
     }
 
-    /// Whether the lists grant a demand to the caller by the book, as in [`Guard::decide`].
+    /// Whether the ACLs grant a demand to the caller by the book, as in [`Guard::decide`].
     pub fn decide(&mut self, demand: Demand, caller: &Caller, op: u32) -> Decision
         requires { length self.old.log.held + most_lines demand ≤ MOST_HELD }
         ensures decision { result ≡ decision (judged_of self.old.world) (member self.old.book caller.now) demand }
@@ -102,7 +101,7 @@ impl<A: Allocator + Copy> GuardedTree<A> {
             .decide(demand, &self.tree, &self.book, self.epoch, caller, op)
     }
 
-    /// The bits that an object's list grants the caller by the book, as in [`Guard::grants`].
+    /// The mask bits that an object's ACL grants the caller by the book, as in [`Guard::grants`].
     #[tactic(auto, using(crate::proofs::Calls::look_up_keeps))]
     pub fn grants(&mut self, object: u64, caller: &Caller) -> u32
         ensures mask { result ≡ granted_at (judged_of self.old.world) (member self.old.book caller.now) object }
@@ -112,14 +111,14 @@ impl<A: Allocator + Copy> GuardedTree<A> {
             .grants(object, &self.tree, &self.book, self.epoch, caller)
     }
 
-    /// Ends an operation: its lines go to the trail in their order, or are dropped. It takes no memory.
+    /// Ends an operation: its lines are appended to the trail in their order, or dropped. It allocates no memory.
     pub fn settle(&mut self, keep: bool)
         ensures { self.new ≡ record self.old { log = settled keep self.old.log } }
     {
         self.guard.settle(keep);
     }
 
-    /// Forgets all lines, and counts from 0 again, as after a start. It takes no memory.
+    /// Forgets all lines, and counts from 0 again, as after a start. It allocates no memory.
     pub fn forget(&mut self)
         ensures { self.new ≡ record self.old { log = no_lines } }
     {
@@ -143,12 +142,11 @@ impl<A: Allocator + Copy> GuardedTree<A> {
     }
 }
 
-// The book. None of these calls takes memory.
+// The book. None of these calls allocates memory.
 impl<A: Allocator + Copy> GuardedTree<A> {
-    /// Takes another book, and gives the old one back. The epoch rises by 1, so that no summary
-    /// that was remembered under the old book is used again. The tree, the lines and the trail
-    /// stay. `Err`: the epoch has none after it ([`next_epoch`]), the new book is handed back, and
-    /// nothing changes.
+    /// Loads another book, and returns the old one. The epoch rises by 1, so that no summary that was remembered under
+    /// the old book is used again. The tree, the lines and the trail stay. `Err`: there is no next epoch
+    /// ([`next_epoch`]), the new book is returned, and nothing changes.
     pub fn reload(&mut self, book: Book) -> Result<Book, Book>
         ensures given { MatchOption (epochs.next_epoch self.old.epoch) (result ≡ Err book)
             (λ epoch. result ≡ Ok self.old.book) }
@@ -181,27 +179,6 @@ impl<A: Allocator + Copy> GuardedTree<A> {
         ensures { result ≡ member self.now.book caller.now }
     {
         self.book.member(caller)
-    }
-}
-
-// The changes are noted for a store.
-impl<A: Allocator + Copy> GuardedTree<A> {
-    /// As [`Tree::begin_notes`].
-    pub fn begin_notes(&mut self, room: usize) -> Result<(), AllocError>
-        ensures ok { OnOk result (self.new ≡
-            record self.old { world = record self.old.world { notes = begun_notes room } }) }
-        ensures err { OnErr result (self.new ≡ self.old) }
-    {
-        self.tree.begin_notes(room)
-    }
-
-    /// As [`Tree::clear_notes`].
-    pub fn clear_notes(&mut self)
-        ensures { self.new ≡ record self.old {
-          world = record self.old.world { notes = cleared self.old.world.notes };
-        } }
-    {
-        self.tree.clear_notes();
     }
 }
 
@@ -312,7 +289,7 @@ impl<A: Allocator + Copy> GuardedTree<A> {
     }
 }
 
-// Changes of the tree. Each grows first, and a refusal leaves all as it was.
+// Changes of the tree. Each allocates first, and a refusal leaves everything unchanged.
 #[tactic(auto, using(crate::proofs::Remembering::agrees_kept))]
 impl<A: Allocator + Copy> GuardedTree<A> {
     /// As [`Tree::add`].

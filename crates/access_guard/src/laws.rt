@@ -13,16 +13,16 @@ ghost use Rattle.access_guard.specs.Keys.{is_key};
 ghost use Rattle.access_guard.specs.Lists.{Lists};
 ghost use Rattle.access_guard.specs.Memory.{Memory, Agrees, LooksUp, LooksUpAt, Decides, key_of};
 ghost use Rattle.access_guard.specs.History.{AreLookUps, looks_at, looks_for};
-ghost use Rattle.access_guard.specs.Telling.{IsAllowed, IsQuiet, AreHits};
+ghost use Rattle.access_guard.specs.SilentGrants.{IsAllowed, IsQuiet, AreHits};
 
-/// A change of the tree that keeps the access attributes of old stamps keeps the agreement with the
-/// remembered summaries. Every change of a tree does.
+/// A change of the tree that keeps the access attributes of old stamps keeps the agreement with the remembered
+/// summaries. Every change of a tree does that.
 pub fn changes_keep_agreement()
     ensures { (remembered : List (Key × Summary)) (book : Content) (epoch : ℕ) (old new : World) → KeepsJudged old new →
         Agrees remembered book epoch old → Agrees remembered book epoch new }
 {}
 
-/// Another book with the next epoch keeps the agreement, whatever its content, since no look-up under it finds an old
+/// Another book with the next epoch keeps the agreement, whatever its content: no look-up under it finds an old
 /// summary.
 pub fn reloads_keep_agreement()
     ensures agrees { (remembered : List (Key × Summary)) (old new : Content) (epoch : ℕ) (w : World) →
@@ -47,7 +47,8 @@ pub fn calls_are_their_look_ups()
         → AreLookUps capacity (first ++ second) old new }
 {}
 
-/// A look-up that finds no summary counts at least the whole list, and a look-up that finds one counts nothing.
+/// A look-up that finds no summary counts at least the whole access control list, and a look-up that finds one counts
+/// nothing.
 pub fn misses_are_counted()
     ensures miss { (j : Judged) (asker : Asker) (old new : Memory) → LooksUp j asker old new
         → lookup (is_key (key_of j asker)) old.remembered ≡ None →
@@ -57,8 +58,8 @@ pub fn misses_are_counted()
         new.examined ≡ old.examined }
 {}
 
-/// A granted decision whose look-ups are all hits, with none of its bits watched for success, looks
-/// at no entry. A removal that is granted by ADD_FILE alone is excepted.
+/// A granted decision whose look-ups are all hits, with none of its bits watched for success, examines no access
+/// control entry. A removal that is granted by ADD_FILE alone is excepted.
 pub fn quiet_hits_count_nothing()
     ensures bits { (lists : Lists) (asker : Asker) (object mask : ℕ) (old new : Memory) → mask < 2 ^ 32 →
         IsAllowed lists (member_of asker) (Bits object mask) → IsQuiet lists (member_of asker) (Bits object mask)

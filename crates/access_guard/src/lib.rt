@@ -1,4 +1,4 @@
-//! Decides on demands by the lists of objects, remembers summaries of lists, and writes the trail
+//! Decides on demands by the access control lists (ACLs) of objects, remembers summaries of ACLs, and writes the trail
 //! (RFC 8881, section 6.2.1).
 #![tactic(auto)]
 

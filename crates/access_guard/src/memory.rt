@@ -1,4 +1,4 @@
-//! The summaries of lists for callers, as far as they are remembered.
+//! The remembered summaries of access control lists (ACLs) for callers.
 ghost use Rattle.std.specs.Prelude.{◌≡◌, ◌<◌, ◌≤◌, ◌^◌, ℕ, [], length, Some, IfOk, IsTrue};
 ghost use Rattle.std.specs.Map.{lookup};
 ghost use Rattle.std.specs.Map.Iter.{ShowsInOrder, deref_pair};
@@ -14,7 +14,8 @@ ghost use Rattle.access_guard.specs.Lists as lists;
 ghost use Rattle.access_guard.specs.Decisions.{decision};
 ghost use Rattle.access_guard.specs.Lines.{lines};
 ghost use Rattle.access_guard.specs.declared.decision.Decision.TheVariants.{Granted};
-ghost use Rattle.access_guard.specs.Memory.{Agrees, LooksUp, LooksUpAt, LooksUpFor, examined_more, key_of, is_told};
+ghost use Rattle.access_guard.specs.Memory.{Agrees, LooksUp, LooksUpAt, LooksUpFor, examined_more, key_of};
+ghost use Rattle.access_guard.specs.Memory.{grants_silently};
 ghost use Rattle.access_guard.specs.Memory as specs;
 
 use crate::asker::Asker;
@@ -28,15 +29,15 @@ use std::hash::{Hash, Hasher, RandomState};
 use std::marker::Model;
 use std::num::NonZeroUsize;
 
-/// The key of a remembered summary: book, list and caller.
+/// The key of a remembered summary: book, ACL and caller.
 #[derive(Clone, Copy, Debug)]
 pub struct Key {
     /// The epoch of the book.
     pub epoch: u64,
-    /// The stamp of the list. An object has a new one whenever its list, its owner or its group may
-    /// have changed, and no two objects ever have the same.
+    /// The stamp of the ACL. An object gets a new one whenever its ACL, its owner or its group may have changed. No two
+    /// objects ever have the same one.
     pub stamp: u64,
-    /// The caller, as the call was sent.
+    /// The caller as sent.
     pub caller: Caller,
 }
 
@@ -61,12 +62,12 @@ impl Eq for Key {
     ghost laws = { Prim.search (comparing, rules) };
 }
 
-/// Of a key each number is hashed as a word of 64 bits, which a hasher takes faster than its bytes.
-/// The epoch isn't hashed: few keys differ in it alone.
+/// Each number of a key but the epoch is hashed as a word of 64 bits, which a hasher takes faster than its bytes. The
+/// epoch isn't hashed: few keys differ in it alone.
 impl Hash for Key {
     ghost use Rattle.std.specs.Cmp.Rules.{hashing};
     ghost use Rattle.std.proofs.Common.{rules};
-    ghost use Rattle.access_guard.specs.Keys.{hashed};
+    ghost use Rattle.access_guard.specs.internal.Keys.{hashed};
 
     ghost hash_input = { hashed };
 
@@ -82,8 +83,8 @@ impl Hash for Key {
     }
 }
 
-/// An object's list, if there is such an object, that a decision may walk. [`Summaries::open`]
-/// alone makes it, and counts its entries.
+/// An object's ACL, if the object exists, which a decision may walk. [`Summaries::open`] alone makes it, and counts its
+/// access control entries (ACEs).
 #[derive(Drop)]
 pub(crate) struct Opened<'n, A: Allocator> {
     node: Option<&'n Node<A>>,
@@ -111,7 +112,7 @@ impl<'n, A: Allocator + Copy> Opened<'n, A> {
     }
 }
 
-/// The summaries of the lists that were looked up last, and how many entries of lists were looked at.
+/// The summaries of the ACLs that were looked up last, and the count of ACEs that were examined.
 #[derive(Drop)]
 pub(crate) struct Summaries<A: Allocator> {
     pairs: LruCache<Key, Summary, RandomState, A>,
@@ -127,7 +128,7 @@ impl<A: Allocator> Model for Summaries<A> {
 }
 
 impl<A: Allocator + Copy> Summaries<A> {
-    /// Remembers no summary yet, and at most `capacity` summaries ever. `Err`: there is no memory for them.
+    /// Remembers no summary yet, and at most `capacity` summaries ever. `Err`: an allocation for them fails.
     pub(crate) fn new(
         alloc: A,
         capacity: NonZeroUsize,
@@ -150,21 +151,21 @@ impl<A: Allocator + Copy> Summaries<A> {
         self.pairs.iter()
     }
 
-    /// The number of entries that were looked at. It stays at 2^64 - 1.
+    /// The number of ACEs that were examined. It stays at 2^64 - 1.
     pub(crate) fn examined(&self) -> u64
         ensures { result ≡ self.now.examined }
     {
         self.examined
     }
 
-    /// Counts entries that are looked at.
+    /// Counts ACEs that are examined.
     fn examine(&mut self, entries: usize)
         ensures { self.new ≡ examined_more entries self.old }
     {
         self.examined = self.examined.saturating_add(entries as u64);
     }
 
-    /// The summary that is remembered, which then is the last one used.
+    /// The remembered summary, which is the last one used from now on.
     fn recall(&mut self, key: &Key) -> Option<Summary>
         ensures sum { result ≡ lookup (is_key key.now) self.old.remembered }
         ensures used { self.new ≡ specs.used key.now self.old }
@@ -172,7 +173,7 @@ impl<A: Allocator + Copy> Summaries<A> {
         self.pairs.get(key).copied()
     }
 
-    /// The summary of an object's list. It is computed where it isn't remembered.
+    /// The summary of an object's ACL. It is computed if it isn't remembered.
     fn sum_of<B: Allocator + Copy>(&mut self, node: &Node<B>, asker: &mut Asker<'_>) -> Summary
         requires { (sum : Summary) → lookup (is_key (key_of (judged node.now) asker.old)) self.old.remembered ≡
             Some sum → sum ≡ sum_of (judged node.now) (member_of asker.old) }
@@ -195,7 +196,7 @@ impl<A: Allocator + Copy> Summaries<A> {
         sum
     }
 
-    /// The summary of the list of the object of a number, if there is such an object.
+    /// The summary of the ACL of an object, if the object exists.
     pub(crate) fn sum_at<B: Allocator + Copy>(
         &mut self,
         object: u64,
@@ -212,15 +213,15 @@ impl<A: Allocator + Copy> Summaries<A> {
         Some(self.sum_of(node, asker))
     }
 
-    /// Whether summaries alone tell that a demand is granted, and that no line is written.
-    pub(crate) fn tells<B: Allocator + Copy>(
+    /// Whether summaries alone show that a demand is granted, and that no line is written.
+    pub(crate) fn is_silent_grant<B: Allocator + Copy>(
         &mut self,
         demand: Demand,
         tree: &Tree<B>,
         asker: &mut Asker<'_>,
     ) -> bool
         requires { Agrees self.old.remembered asker.old.book asker.old.epoch tree.now }
-        ensures told { result ≡ is_told (judged_of tree.now) (member_of asker.old) demand }
+        ensures exact { result ≡ grants_silently (judged_of tree.now) (member_of asker.old) demand }
         ensures granted { IsTrue result → decision (judged_of tree.now) (member_of asker.old) demand ≡ Granted }
         ensures silent { IsTrue result → (op : ℕ) → lines (judged_of tree.now) (member_of asker.old) op demand ≡ [] }
         ensures looks_up { LooksUpFor (judged_of tree.now) asker.old demand self.old self.new }
@@ -228,17 +229,20 @@ impl<A: Allocator + Copy> Summaries<A> {
         ensures same { asker.new ≡ asker.old }
     {
         match demand {
-            Demand::Bits { object, mask } => tells(self.sum_at(object, tree, asker), mask),
+            Demand::Bits { object, mask } => is_silent_grant(
+                self.sum_at(object, tree, asker),
+                mask,
+            ),
             Demand::Removal { parent, target } => {
                 let on_target = self.sum_at(target, tree, asker);
                 let on_parent = self.sum_at(parent, tree, asker);
-                tells_removal(on_target, on_parent)
+                is_silent_removal(on_target, on_parent)
             }
         }
     }
 
-    /// Lends an object's list to a decision that walks it. Its entries are counted here, so that
-    /// none is looked at uncounted.
+    /// Lends an object's ACL to a decision that walks it. Its ACEs are counted here, so that none is examined
+    /// uncounted.
     pub(crate) fn open<'n, B: Allocator + Copy>(
         &mut self,
         object: u64,
@@ -254,29 +258,29 @@ impl<A: Allocator + Copy> Summaries<A> {
     }
 }
 
-/// Whether a list with this summary grants each bit of the mask.
+/// Whether an ACL with this summary grants each bit of the mask.
 fn grants(sum: Summary, mask: u32) -> bool
     ensures { result ≡ lists.grants sum mask }
 {
     mask & sum.granted == mask
 }
 
-/// Whether no entry of a list with this summary watches a bit of the mask for success.
+/// Whether no ACE of an ACL with this summary watches a bit of the mask for success.
 fn is_quiet(sum: Summary, mask: u32) -> bool
     ensures { result ≡ lists.is_quiet sum mask }
 {
     mask & sum.watch_ok == 0
 }
 
-fn tells(sum: Option<Summary>, mask: u32) -> bool
-    ensures told { result ≡ specs.tells sum mask }
+fn is_silent_grant(sum: Option<Summary>, mask: u32) -> bool
+    ensures exact { result ≡ specs.is_silent_grant sum mask }
     ensures fits { mask < 2 ^ 32 }
 {
     sum.is_some_and(|sum| grants(sum, mask) && is_quiet(sum, mask))
 }
 
-fn tells_removal(on_target: Option<Summary>, on_parent: Option<Summary>) -> bool
-    ensures { result ≡ specs.tells_removal on_target on_parent }
+fn is_silent_removal(on_target: Option<Summary>, on_parent: Option<Summary>) -> bool
+    ensures { result ≡ specs.is_silent_removal on_target on_parent }
 {
     let (Some(on_target), Some(on_parent)) = (on_target, on_parent) else {
         return false;

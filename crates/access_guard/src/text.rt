@@ -57,7 +57,7 @@ impl LineText {
         self.len = end;
     }
 
-    /// Puts a number after its name.
+    /// Appends a name and a number.
     fn push_number(&mut self, name: &[u8], number: u64)
         requires { length self.old + length name.now + 20 ≤ MOST_TEXT }
         ensures text { self.new ≡ self.old ++ number_text name.now number }
@@ -68,7 +68,7 @@ impl LineText {
         self.push(buffer.format(number).as_bytes());
     }
 
-    /// Puts a mask after its name.
+    /// Appends a name and a mask.
     fn push_mask(&mut self, name: &[u8], mask: u32)
         requires { length self.old + length name.now + 8 ≤ MOST_TEXT }
         ensures text { self.new ≡ self.old ++ (name.now ++ mask_text mask) }
@@ -104,11 +104,12 @@ impl LineText {
     }
 }
 
-/// The text of a line, as in `DENY uid=1001 op=READ obj=2 mask=00000001 entry=3`. It takes no memory.
+/// The text of a line, as in `DENY uid=1001 op=READ obj=2 mask=00000001 entry=3`. It allocates no memory.
 ///
-/// The mask and a missing bit have eight hexadecimal digits, in lower case. The operation has its
-/// name, and a number that no operation of this server has is in decimal digits. An AUDIT or ALARM
-/// line has ` granted` or ` refused` in front of its entry.
+/// The mask and a missing bit have eight hexadecimal digits, in lower case. The operation has its name, and the number
+/// of an operation that this server doesn't have is in decimal digits.
+///
+/// An AUDIT or ALARM line has ` granted` or ` refused` before its access control entry.
 pub fn write_line(line: &Line) -> LineText
     ensures text { result ≡ line_text line.now }
     ensures short { length result ≤ MOST_TEXT }

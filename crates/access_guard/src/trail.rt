@@ -19,12 +19,12 @@ use node_tree::Node;
 use std::alloc::{AllocError, Allocator};
 use std::marker::Model;
 
-/// The lines that wait at most for the end of an operation. No operation has more. RENAME has the
-/// most: two demands of EXECUTE, two removals and one demand on the target directory, which check
-/// seven lists of at most 64 entries, and one DENY line.
+/// The most lines that are held until an operation ends: those of RENAME. It has two demands of EXECUTE, two removals
+/// and one demand on the target directory. They read seven access control lists (ACLs) of at most 64 access control
+/// entries (ACEs). One DENY line follows.
 pub const MOST_HELD: usize = 449;
 
-/// The lines that the trail keeps at most.
+/// The most lines that the trail keeps.
 pub const MOST_KEPT: usize = 4096;
 
 /// The bits demanded of one object, and whether the demand was granted.
@@ -36,7 +36,7 @@ pub(crate) struct Asked {
     pub(crate) granted: bool,
 }
 
-/// The lines that wait for the end of an operation, and the last lines of those before it.
+/// The lines that are held until an operation ends, and the last lines of the operations before it.
 #[derive(Drop)]
 pub(crate) struct Trail<A: Allocator> {
     held: Vec<Line, A>,
@@ -56,7 +56,7 @@ impl<A: Allocator> Model for Trail<A> {
 }
 
 impl<A: Allocator + Copy> Trail<A> {
-    /// No lines. `Err`: there is no memory for those that are to come.
+    /// No lines. `Err`: an allocation for later lines fails.
     pub(crate) fn new(alloc: A) -> Result<Self, AllocError>
         ensures { IfOk result (λ trail. trail ≡ record { held = []; trail = []; total = 0 }) }
     {
@@ -75,14 +75,14 @@ impl<A: Allocator + Copy> Trail<A> {
         self.kept.iter()
     }
 
-    /// The number of lines there were in all. It stays at 2^64 - 1.
+    /// The count of all lines. It stays at 2^64 - 1.
     pub(crate) fn total(&self) -> u64
         ensures { result ≡ self.now.total }
     {
         self.total
     }
 
-    /// Puts the lines that wait after the others, or drops them.
+    /// Appends the held lines to the trail, or drops them.
     pub(crate) fn settle(&mut self, keep: bool)
         ensures { self.new ≡ settled keep self.old }
     {
@@ -93,7 +93,7 @@ impl<A: Allocator + Copy> Trail<A> {
         self.held.clear();
     }
 
-    /// Forgets all lines, and counts from 0 again. It takes no memory.
+    /// Forgets all lines, and counts from 0 again. It allocates no memory.
     pub(crate) fn forget(&mut self)
         ensures { self.new ≡ no_lines }
     {
@@ -109,7 +109,7 @@ impl<A: Allocator + Copy> Trail<A> {
         self.held.push_reserved(line);
     }
 
-    /// Writes the lines of an object's entries that watch.
+    /// Writes the lines of an object's ACEs that watch.
     pub(crate) fn watch<B: Allocator + Copy>(
         &mut self,
         asked: Asked,
@@ -123,11 +123,11 @@ impl<A: Allocator + Copy> Trail<A> {
         ensures few { length self.new.held ≤ length self.old.held + MAX_ENTRIES }
     {
         if let Some(node) = opened.node() {
-            self.watch_list(asked, node, caller);
+            self.watch_acl(asked, node, caller);
         }
     }
 
-    fn watch_list<B: Allocator + Copy>(&mut self, asked: Asked, node: &Node<B>, caller: &Caller)
+    fn watch_acl<B: Allocator + Copy>(&mut self, asked: Asked, node: &Node<B>, caller: &Caller)
         requires { length self.old.held + length node.now.list ≤ MOST_HELD }
         ensures lines { self.new ≡ held (filter_map
             (watch_line caller.now asked.op asked.object asked.mask asked.granted (judged node.now))
@@ -166,7 +166,7 @@ impl<A: Allocator + Copy> Trail<A> {
     }
 }
 
-/// The line of the entry at an index of the object's list, if it watches a bit that was demanded.
+/// The line of the ACE at an index of the object's ACL, if it watches a bit that was demanded.
 fn watch_line<B: Allocator + Copy>(
     asked: Asked,
     node: &Node<B>,

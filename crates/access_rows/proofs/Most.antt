@@ -1,4 +1,4 @@
--- How many lists decide an operation's demands.
+-- The number of access control lists (ACLs) that decide an operation's demands.
 use Rattle.std.proofs.Common.{◌≡◌, ℕ, ◌+◌, ◌≤◌, ◌==◌, arith, cond, Bool, true, false, List, ap}
 use Rattle.std.specs.Prelude.{[], ◌∷◌, Option, Some, None}
 use Rattle.acl_list.specs.declared.mask.TheConstants.{EXECUTE}
@@ -13,7 +13,7 @@ use Rattle.access_rows.specs.declared.facts.First.{First}
 use Rattle.access_rows.specs.declared.facts.Second.{Second}
 use Rattle.access_rows.specs.Rows.{Demands, lists_in, most_first, most_second, most_of_entry, bits, removal, row, opening, open_first, open_second, is_one, is_creating, rename_first, rename_second, first_demands, second_demands, entry_demands}
 
--- the lists of one demand
+-- the number of ACLs for one demand
 abbrev lists_at : Option Demand → ℕ
 lists_at d = lists_in (d ∷ [])
 

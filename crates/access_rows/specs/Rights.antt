@@ -7,18 +7,18 @@ use Rattle.acl_list.specs.declared.entry.Kind.{Kind}
 use Rattle.acl_list.specs.declared.entry.Kind.TheVariants.{File, Directory, Link}
 use Rattle.access_rows.specs.declared.rights.Rights.{Rights}
 
--- the rights that are supported for the kind: READ 1, LOOKUP 2, MODIFY 4, EXTEND 8, DELETE 16, EXECUTE 32
+-- the rights that are supported for the type: READ 1, LOOKUP 2, MODIFY 4, EXTEND 8, DELETE 16, EXECUTE 32
 abbrev pub meaningful : Kind → ℕ
 meaningful File = 0x2d
 meaningful Directory = 0x1f
 meaningful Link = 0x01
 
--- a right, where it is supported and the bit of the mask that it takes is granted
+-- a right, if it is supported and the mask bit that it needs is granted
 abbrev pub right : ℕ → ℕ → ℕ → ℕ → ℕ
 right supported r grants bit = if (bit_and supported r == 0) || (bit_and grants bit == 0) then 0 else r
 
--- READ by READ_DATA, LOOKUP by EXECUTE, MODIFY by WRITE_DATA, EXTEND by APPEND_DATA, DELETE by
--- DELETE_CHILD, EXECUTE by EXECUTE
+-- READ needs READ_DATA, LOOKUP needs EXECUTE, MODIFY needs WRITE_DATA, EXTEND needs APPEND_DATA, DELETE needs
+-- DELETE_CHILD, EXECUTE needs EXECUTE
 abbrev pub granted_rights : ℕ → ℕ → ℕ
 granted_rights supported grants =
     bit_or (bit_or (bit_or (bit_or (bit_or
@@ -33,8 +33,8 @@ rights_of kind asked grants =
       granted = granted_rights (bit_and asked (meaningful kind)) grants;
     }
 
--- Each right is in the granted word exactly where it is supported and the list allows the bit of
--- the mask that it takes, by the bit's place. No other bit is there.
+-- A right is in the granted word if and only if it is supported and the mask bit that it needs is allowed. The word has
+-- no other bit.
 pub record RightsAre (allows : ℕ → Bool) (supported granted : ℕ) : Type 0 where
   pub read : has_bit granted 0 ≡ has_bit supported 0 && allows read_data
   pub lookup : has_bit granted 1 ≡ has_bit supported 1 && allows execute

@@ -1,5 +1,5 @@
--- The bits that each operation demands of the lists (RFC 8881, sections 6.2.1.3.1 and 18): a line
--- for each operation, by its number.
+-- The permissions that each operation demands of access control lists (RFC 8881, sections 6.2.1.3.1 and 18): a line for
+-- each operation, by its number.
 use Rattle.std.specs.Prelude.{ℕ, ◌+◌, ◌%◌, Bool, true, false, ◌==◌, ◌||◌, nat_le, if◌then◌else◌, List, [], ◌∷◌}
 use Rattle.std.specs.Prelude.{length, Option, Some, None, bit_or}
 use Rattle.std.specs.List.{list_any}
@@ -25,7 +25,7 @@ use Rattle.access_rows.specs.declared.facts.Second.{Second}
 
 -- ---- demands
 
--- the bits of an object's list; without an object or a bit there is no demand
+-- permissions on an object; without an object or a bit there is no demand
 abbrev pub bits : Option Object → ℕ → Option Demand
 bits None mask = None
 bits (Some o) mask = if mask == 0 then None else Some (Bits o.number mask)
@@ -36,21 +36,21 @@ removal (Some parent) (Some target) = Some (Removal parent.number target.number)
 removal (Some parent) None = None
 removal None target = None
 
--- the demands of a phase, in order; at a place there may be none
+-- the demands of a phase, in order; a place may be empty
 abbrev pub Demands : Type 0
 Demands = List (Option Demand)
 
--- one demand alone, of two
+-- a single demand, at the first of two places
 abbrev pub row : Option Demand → Demands
 row a = a ∷ None ∷ []
 
--- one demand alone, of three
+-- a single demand, at the first of three places
 abbrev pub one_of_three : Option Demand → Demands
 one_of_three a = a ∷ None ∷ None ∷ []
 
--- ---- how many lists are read for them
+-- ---- how many access control lists (ACLs) are read for them
 
--- a removal is decided by the lists of the target and of its parent
+-- the ACLs of the target and of its parent decide on a removal
 abbrev pub lists_of : Demand → ℕ
 lists_of (Bits object mask) = 1
 lists_of (Removal parent target) = 2
@@ -60,7 +60,7 @@ lists_in [] = 0
 lists_in (None ∷ others) = lists_in others
 lists_in (Some d ∷ others) = lists_of d + lists_in others
 
--- the most lists that decide a first phase, a second phase, and an entry of READDIR
+-- the largest numbers of ACLs that decide a first phase, a second phase, and an entry of READDIR
 abbrev pub most_first : ℕ
 most_first = 2
 
@@ -70,7 +70,7 @@ most_second = 5
 abbrev pub most_of_entry : ℕ
 most_of_entry = 2
 
--- ---- the bits that depend on the arguments
+-- ---- the permissions that depend on the arguments
 
 -- one of these numbers is in the set
 abbrev pub has_any : List ℕ → List ℕ → Bool
@@ -83,17 +83,17 @@ governed = numbers_read_by READ_ATTRIBUTES
 abbrev pub list_giving : List ℕ
 list_giving = numbers_read_by READ_ACL
 
--- all other attributes can be read by everyone
+-- everyone can read all other attributes
 abbrev pub reading_mask : List ℕ → ℕ
 reading_mask set =
     bit_or (if has_any set governed then READ_ATTRIBUTES else 0) (if has_any set list_giving then READ_ACL else 0)
 
--- the words of a set, without these attributes where the bit that governs them isn't granted
+-- the words of a set; if the permission isn't granted, without the attributes that need it
 abbrev pub kept_where : Bool → List ℕ → List ℕ → List ℕ
 kept_where true numbers words = words
 kept_where false numbers words = without words numbers
 
--- the supported attributes that are returned of an object where READ_ATTRIBUTES and READ_ACL are granted, each or not
+-- the supported attributes that are returned for an object, by whether READ_ATTRIBUTES and READ_ACL are granted
 abbrev pub granted_words : (attributes list : Bool) → List ℕ
 granted_words attributes list = kept_where list list_giving (kept_where attributes governed supported_words)
 
@@ -104,7 +104,7 @@ list_setting = numbers_set_by WRITE_ACL
 abbrev pub owner_setting : List ℕ
 owner_setting = numbers_set_by WRITE_OWNER
 
--- setting a size takes WRITE_DATA, and APPEND_DATA too where the file grows, or where it isn't known that it doesn't
+-- setting a size needs WRITE_DATA, and APPEND_DATA too if the file grows or its size isn't known
 abbrev pub sizing_mask : Option ℕ → Option ℕ → ℕ
 sizing_mask (Some size) (Some new) = if nat_le new size then WRITE_DATA else bit_or WRITE_DATA APPEND_DATA
 sizing_mask (Some size) None = bit_or WRITE_DATA APPEND_DATA
@@ -118,8 +118,8 @@ setting_mask set facts =
     (if has_any set list_setting then WRITE_ACL else 0))
     (if has_any set owner_setting then WRITE_OWNER else 0)
 
--- Writing within the file, or nothing, takes WRITE_DATA; writing at its end APPEND_DATA; across the
--- end or past it both.
+-- Writing within the file, or nothing, needs WRITE_DATA; writing at its end APPEND_DATA; across the end or past it
+-- both.
 abbrev pub writing_mask : Option ℕ → ℕ → ℕ → ℕ
 writing_mask None offset count = bit_or WRITE_DATA APPEND_DATA
 writing_mask (Some size) offset count =
@@ -128,13 +128,13 @@ writing_mask (Some size) offset count =
     else if nat_le (offset + count) size then WRITE_DATA
     else bit_or WRITE_DATA APPEND_DATA
 
--- a new name of an object of this kind
+-- adding a name of an object of this type
 abbrev pub adding_mask : Kind → ℕ
 adding_mask File = ADD_FILE
 adding_mask Directory = ADD_SUBDIRECTORY
 adding_mask LinkKind = ADD_FILE
 
--- a new object of this type; CREATE makes directories and links, and no other
+-- creating an object of this type; CREATE makes only directories and links
 abbrev pub creating_mask : Created → ℕ
 creating_mask parts.Directory = bit_or EXECUTE ADD_SUBDIRECTORY
 creating_mask (parts.Link text) = bit_or EXECUTE ADD_FILE
@@ -154,19 +154,19 @@ is_to_read access = (access % 256 == 1) || (access % 256 == 3)
 abbrev pub is_to_write : ℕ → Bool
 is_to_write access = (access % 256 == 2) || (access % 256 == 3)
 
--- an unchecked OPEN of size 0 truncates the file that is there
+-- an unchecked OPEN with size 0 truncates an existing file
 abbrev pub is_truncating : How → Option ℕ → Bool
 is_truncating (parts.Unchecked set) new_size = option_map_or (λ size. size == 0) new_size false
 is_truncating (parts.Guarded set) new_size = false
 is_truncating parts.NoCreate new_size = false
 
--- reading takes READ_DATA, writing APPEND_DATA, truncation WRITE_DATA
+-- reading needs READ_DATA, writing APPEND_DATA, truncation WRITE_DATA
 abbrev pub opening_mask : ℕ → How → Option ℕ → ℕ
 opening_mask access how new_size =
     bit_or (bit_or (if is_to_read access then READ_DATA else 0) (if is_to_write access then APPEND_DATA else 0))
     (if is_truncating how new_size then WRITE_DATA else 0)
 
--- a file that is there is opened; else it may be created
+-- an existing file is opened; else the file may be created
 abbrev pub opening : Option Object → ℕ → How → Second → Option Demand
 opening None access how facts = if is_creating how then bits facts.current ADD_FILE else None
 opening (Some file) access how facts = bits (Some file) (opening_mask access how facts.new_size)
@@ -183,8 +183,8 @@ open_second parts.ByHandle access how facts = bits facts.current (opening_mask a
 
 -- ---- RENAME (section 18.26)
 
--- The source's and the target's directory are checked once if they are the same. Then the child
--- goes from its directory and comes into the other, and a target of the new name goes.
+-- The source and the target directory are checked once if they are the same. Then the child is removed from its
+-- directory and added to the other, and an existing child with the new name is removed.
 abbrev pub is_one : Option Object → Option Object → Bool
 is_one (Some a) (Some b) = a.number == b.number
 is_one (Some a) None = false
@@ -223,7 +223,7 @@ first_demands (Known kinds.Write v) facts =
     row (bits facts.current (writing_mask facts.size (write_offset v) (length (written_bytes v))))
 first_demands _ facts = row None
 
--- The demands of each operation once the names are known to be there; there are none in a phase that isn't reached.
+-- The demands of each operation once its names have been looked up. An operation without a second phase has none.
 abbrev pub second_demands : Operation → Second → Demands
 second_demands (Known kinds.Open v) facts = one_of_three (open_second (claim_of v) (open_access v) (how_of v) facts)
 second_demands (Known kinds.Remove v) facts = one_of_three (removal facts.current facts.child)

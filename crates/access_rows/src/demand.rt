@@ -1,13 +1,13 @@
-//! The demands of operations on lists.
+//! The demands of operations on access control lists (ACLs).
 
-/// Access that the lists of objects have to grant before an operation may go on.
+/// Access that the ACLs of objects have to grant before an operation may continue.
 #[derive(Clone, Copy, Debug, PartialEq, Eq)]
 pub enum Demand {
-    /// Each of these bits of the object's list (RFC 8881, section 6.2.1.3). The mask 0 demands nothing.
+    /// Each of these permissions, by the object's ACL (RFC 8881, section 6.2.1.3). The mask 0 demands nothing.
     Bits {
         /// The number of the object.
         object: u64,
-        /// Bits of an entry's mask, any of them.
+        /// Any bits of the mask of an access control entry (ACE).
         mask: u32,
     },
     /// The removal of a name of the target from the parent: DELETE on the target or DELETE_CHILD on the parent

@@ -1,4 +1,4 @@
-//! The demands of each operation on access control lists (RFC 8881, sections 6.2.1.3 and 18).
+//! The demands of each operation on access control lists (ACLs) (RFC 8881, sections 6.2.1.3 and 18).
 #![tactic(auto)]
 
 mod demand;

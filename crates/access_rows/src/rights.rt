@@ -1,21 +1,21 @@
-//! The result of ACCESS: the rights that are supported for an object, and those that its list
-//! grants (RFC 8881, section 18.1).
+//! The result of ACCESS (RFC 8881, section 18.1): the access rights that are supported for an object, and those that
+//! its access control list (ACL) grants.
 ghost use Rattle.std.specs.Prelude.{◌≡◌, bit_and};
 ghost use Rattle.acl_list.specs.Mask.{has_bit};
 ghost use Rattle.access_rows.specs.Rights as specs;
 
 use acl_list::{Kind, mask};
 
-/// ACCESS4_READ: read the bytes or the text, or list a directory.
+/// ACCESS4_READ: read a file's bytes or a link's text, or list a directory.
 const READ: u32 = 0x01;
 
 /// ACCESS4_LOOKUP: look up a name in a directory.
 const LOOKUP: u32 = 0x02;
 
-/// ACCESS4_MODIFY: write over a file's bytes, or change a directory's entries.
+/// ACCESS4_MODIFY: overwrite a file's bytes, or change a directory's entries.
 const MODIFY: u32 = 0x04;
 
-/// ACCESS4_EXTEND: write at the end, or add a directory's entries.
+/// ACCESS4_EXTEND: write at the end of a file, or add entries to a directory.
 const EXTEND: u32 = 0x08;
 
 /// ACCESS4_DELETE: remove an entry of a directory.
@@ -27,17 +27,17 @@ const EXECUTE: u32 = 0x20;
 /// The two words of ACCESS's result.
 #[derive(Clone, Copy, Debug, PartialEq, Eq)]
 pub struct Rights {
-    /// The rights that were requested and are supported for the kind of object.
+    /// The rights that were requested and are supported for the type of the object.
     pub supported: u32,
-    /// The supported rights that the object's list grants.
+    /// The supported rights that the object's ACL grants.
     pub granted: u32,
 }
 
-/// The result of ACCESS for an object of this kind, where these rights are requested and its list
-/// grants the caller these bits of a mask. It has READ by READ_DATA, LOOKUP by EXECUTE, MODIFY by
-/// WRITE_DATA, EXTEND by APPEND_DATA, DELETE by DELETE_CHILD, EXECUTE by EXECUTE. DELETE and LOOKUP
-/// are supported for directories, EXECUTE for files, MODIFY and EXTEND for both, READ for every
-/// kind. ACCESS has no demands in the table: it is never refused by a list.
+/// The result of ACCESS for an object of this type. `asked` are the rights that are requested, and `grants` the
+/// permissions that the object's ACL grants the caller. READ needs READ_DATA, LOOKUP needs EXECUTE, MODIFY needs
+/// WRITE_DATA, EXTEND needs APPEND_DATA, DELETE needs DELETE_CHILD, and EXECUTE needs EXECUTE. DELETE and LOOKUP are
+/// supported for directories, EXECUTE for files, MODIFY and EXTEND for both, READ for every type. ACCESS has no demands
+/// in the table: no ACL refuses it.
 pub fn rights_of(kind: Kind, asked: u32, grants: u32) -> Rights
     ensures value { result ≡ specs.rights_of kind asked grants }
     ensures exact { specs.RightsAre (has_bit grants) result.supported result.granted }
@@ -49,7 +49,7 @@ pub fn rights_of(kind: Kind, asked: u32, grants: u32) -> Rights
     }
 }
 
-/// The supported rights whose bits are granted.
+/// The supported rights whose permissions are granted.
 fn granted_rights(supported: u32, grants: u32) -> u32
     ensures { result ≡ specs.granted_rights supported grants }
 {
@@ -62,7 +62,7 @@ fn granted_rights(supported: u32, grants: u32) -> u32
     read | lookup | modify | extend | delete | execute
 }
 
-/// The rights that are supported for the kind.
+/// The rights that are supported for the type.
 fn meaningful(kind: Kind) -> u32
     ensures { result ≡ specs.meaningful kind }
 {
@@ -73,7 +73,7 @@ fn meaningful(kind: Kind) -> u32
     }
 }
 
-/// The right, where it is supported and the bit that it takes is granted; else no right.
+/// The right, if it is supported and the permission that it needs is granted; else no right.
 fn right(supported: u32, right: u32, grants: u32, bit: u32) -> u32
     ensures { result ≡ specs.right supported right grants bit }
 {

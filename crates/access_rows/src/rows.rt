@@ -14,9 +14,9 @@ use acl_list::{Kind, mask};
 use nfs_ops::{CreateType, Op, OpenArgs, OpenClaim, OpenHow};
 use nfs_types::{Attribute, Bitmap, READ_BY_ACL, READ_BY_ATTRIBUTES, SET_BY_ACL, SET_BY_OWNER};
 
-/// The first demands of an operation on lists, in order (RFC 8881, sections 6.2.1.3.1 and 18). They
-/// are EXECUTE on the directories of its names, or all demands of an operation without names. It
-/// takes no memory, and reads at most two lists.
+/// The first demands of an operation on access control lists (ACLs), in order (RFC 8881, sections 6.2.1.3.1 and 18).
+/// They are EXECUTE on the directories of its names, or all demands of an operation without names. The function
+/// allocates nothing. Deciding on the demands reads at most two ACLs.
 ///
 /// | Operation | Demands |
 /// |---|---|
@@ -24,22 +24,21 @@ use nfs_types::{Attribute, Bitmap, READ_BY_ACL, READ_BY_ATTRIBUTES, SET_BY_ACL, 
 /// | READDIR | LIST_DIRECTORY (its entries are judged as they are listed) |
 /// | READ, READLINK | READ_DATA |
 /// | WRITE | within the file, or nothing: WRITE_DATA; at its end: APPEND_DATA; across or past it: both |
-/// | OPEN by name, a file that is there | EXECUTE on the directory; then on the file as by filehandle |
+/// | OPEN by name, an existing file | EXECUTE on the directory; then on the file as by filehandle |
 /// | OPEN by name, a new file | EXECUTE on the directory, then ADD_FILE |
 /// | OPEN by filehandle | READ_DATA to read, APPEND_DATA to write, WRITE_DATA to truncate |
 /// | CREATE | EXECUTE with ADD_FILE (a link) or ADD_SUBDIRECTORY (a directory) |
 /// | LINK | EXECUTE with ADD_FILE on the target directory |
 /// | REMOVE | EXECUTE; then the removal of the name |
-/// | RENAME | EXECUTE on the source's directory, then on the target's if it is another; then |
-/// | | the removal of the source, ADD_FILE or ADD_SUBDIRECTORY on the target's directory, |
+/// | RENAME | EXECUTE on the source directory, then on the target directory if it is another; then |
+/// | | the removal of the source, ADD_FILE or ADD_SUBDIRECTORY on the target directory, |
 /// | | the removal of a replaced target |
 /// | GETATTR, VERIFY, NVERIFY | READ_ATTRIBUTES for 3, 4, 33, 35, 36, 37, 52 and 53; READ_ACL for 12, 58 and 59 |
-/// | SETATTR | for a size WRITE_DATA, with APPEND_DATA where the file grows |
+/// | SETATTR | for a size WRITE_DATA, and APPEND_DATA too if the file grows |
 /// | | for mode, acl, dacl and sacl WRITE_ACL; for owner and group WRITE_OWNER |
 /// | all others, ACCESS among them | nothing |
 ///
-/// The demands after a "then" are those of `second_demands`. Bits of one object in one phase are
-/// one demand.
+/// The demands after a "then" are those of `second_demands`. Permissions on one object in one phase are one demand.
 #[tactic(auto, using(crate::proofs::Most::first_few))]
 pub fn first_demands(op: &Op<'_>, facts: &First) -> [Option<Demand>; 2]
     ensures value { result ≡ specs.first_demands (op_view op.now) facts.now }
@@ -74,9 +73,8 @@ pub fn first_demands(op: &Op<'_>, facts: &First) -> [Option<Demand>; 2]
     }
 }
 
-/// The demands of an operation on lists once its names are known to be there, in order. They are
-/// those after a "then" in the table of `first_demands`. It takes no memory, and reads at most five
-/// lists.
+/// The demands of an operation on ACLs once its names have been looked up, in order. They are those after a "then" in
+/// the table of `first_demands`. The function allocates nothing. Deciding on the demands reads at most five ACLs.
 #[tactic(auto, using(crate::proofs::Most::second_few))]
 pub fn second_demands(op: &Op<'_>, facts: &Second) -> [Option<Demand>; 3]
     ensures value { result ≡ specs.second_demands (op_view op.now) facts.now }
@@ -90,9 +88,9 @@ pub fn second_demands(op: &Op<'_>, facts: &Second) -> [Option<Demand>; 3]
     }
 }
 
-/// The demands of READDIR on an entry's list as it is listed, for these attributes (RFC 8881,
-/// section 18.23). They are READ_ATTRIBUTES, and then READ_ACL, each a demand of its own. It takes
-/// no memory, and reads the list at most twice.
+/// The demands of READDIR on the ACL of an entry as it is listed, for these attributes (RFC 8881, section 18.23). They
+/// are READ_ATTRIBUTES and then READ_ACL, each a demand of its own. The function allocates nothing. Deciding on the
+/// demands reads the ACL at most twice.
 #[tactic(auto, using(crate::proofs::Most::entry_few))]
 pub fn entry_demands(asked: &Bitmap, entry: Option<Object>) -> [Option<Demand>; 2]
     ensures value { result ≡ specs.entry_demands (bitmap_value asked.now) entry }
@@ -105,7 +103,7 @@ pub fn entry_demands(asked: &Bitmap, entry: Option<Object>) -> [Option<Demand>; 
 
 // ---- demands
 
-/// The bits of an object's list. `None`: there is no object, or no bit.
+/// Permissions on an object. `None`: there is no object, or no permission.
 fn bits(object: Option<Object>, mask: u32) -> Option<Demand>
     ensures { result ≡ specs.bits object mask }
 {
@@ -118,7 +116,7 @@ fn bits(object: Option<Object>, mask: u32) -> Option<Demand>
     }
 }
 
-/// The removal of a name of the target from the parent, where both are there.
+/// The removal of a name of the target from the parent. `None`: one of them doesn't exist.
 fn removal(parent: Option<Object>, target: Option<Object>) -> Option<Demand>
     ensures { result ≡ specs.removal parent target }
 {
@@ -131,9 +129,9 @@ fn removal(parent: Option<Object>, target: Option<Object>) -> Option<Demand>
     }
 }
 
-// ---- the bits that depend on the arguments
+// ---- the permissions that depend on the arguments
 
-/// READ_ATTRIBUTES, where one of these attributes takes it.
+/// READ_ATTRIBUTES, if one of these attributes needs it.
 fn attributes_mask(set: &Bitmap) -> u32
     ensures { result ≡ if specs.has_any (bitmap_value set.now) specs.governed then mask.READ_ATTRIBUTES else 0 }
 {
@@ -144,7 +142,7 @@ fn attributes_mask(set: &Bitmap) -> u32
     }
 }
 
-/// READ_ACL, where one of these attributes takes it.
+/// READ_ACL, if one of these attributes needs it.
 fn list_mask(set: &Bitmap) -> u32
     ensures { result ≡ if specs.has_any (bitmap_value set.now) specs.list_giving then mask.READ_ACL else 0 }
 {
@@ -155,15 +153,15 @@ fn list_mask(set: &Bitmap) -> u32
     }
 }
 
-/// The bits for reading these attributes.
+/// The permissions for reading these attributes.
 fn reading_mask(set: &Bitmap) -> u32
     ensures { result ≡ specs.reading_mask (bitmap_value set.now) }
 {
     attributes_mask(set) | list_mask(set)
 }
 
-/// The supported attributes that are returned of an object where READ_ATTRIBUTES and READ_ACL are
-/// granted, each or not. Without a bit's grant none is returned that it governs (RFC 8881, section
+/// The supported attributes that are returned for an object, by whether READ_ATTRIBUTES (`attributes`) and READ_ACL
+/// (`list`) are granted. Attributes that need a permission which isn't granted are left out (RFC 8881, section
 /// 6.2.1.3.1).
 pub fn granted_attributes(attributes: bool, list: bool) -> Bitmap
     ensures { bitmap_value result ≡ specs.granted_words attributes list }
@@ -185,7 +183,7 @@ fn has_any(set: &Bitmap, numbers: &[u32]) -> bool
     numbers.iter().any(|number| set.has(*number))
 }
 
-/// The bits for setting these attributes.
+/// The permissions for setting these attributes.
 fn setting_mask(set: &Bitmap, facts: &First) -> u32
     ensures { result ≡ specs.setting_mask (bitmap_value set.now) facts.now }
 {
@@ -207,7 +205,7 @@ fn setting_mask(set: &Bitmap, facts: &First) -> u32
     size | list | owner
 }
 
-/// The bits for setting a size: growing takes APPEND_DATA too.
+/// The permissions for setting a size: growing needs APPEND_DATA too.
 fn sizing_mask(size: Option<u64>, new_size: Option<u64>) -> u32
     ensures { result ≡ specs.sizing_mask size new_size }
 {
@@ -217,7 +215,7 @@ fn sizing_mask(size: Option<u64>, new_size: Option<u64>) -> u32
     }
 }
 
-/// The bits for writing this many bytes.
+/// The permissions for writing this many bytes.
 fn writing_mask(size: Option<u64>, offset: u64, count: u64) -> u32
     ensures { result ≡ specs.writing_mask size offset count }
 {
@@ -235,7 +233,7 @@ fn writing_mask(size: Option<u64>, offset: u64, count: u64) -> u32
     }
 }
 
-/// The bits for a new name of an object of this kind.
+/// The permission for adding a name of an object of this type.
 fn adding_mask(kind: Kind) -> u32
     ensures { result ≡ specs.adding_mask kind }
 {
@@ -245,7 +243,7 @@ fn adding_mask(kind: Kind) -> u32
     }
 }
 
-/// The bits for creating an object of this type. CREATE makes directories and links, and no other.
+/// The permissions for creating an object of this type. CREATE makes only directories and links.
 fn creating_mask(kind: &CreateType<'_>) -> u32
     ensures { result ≡ specs.creating_mask (created (create_type_value kind.now)) }
 {
@@ -258,7 +256,7 @@ fn creating_mask(kind: &CreateType<'_>) -> u32
 
 // ---- OPEN (RFC 8881, section 18.16)
 
-/// The demand of OPEN on the directory, where it looks up a name.
+/// The demand of OPEN on the directory, if it looks up a name.
 fn open_first(claim: &OpenClaim<'_>, current: Option<Object>) -> Option<Demand>
     ensures { result ≡ specs.open_first (parts.claim (open_claim_value claim.now)) current }
 {
@@ -282,7 +280,7 @@ fn open_second(args: &OpenArgs<'_>, facts: &Second) -> Option<Demand>
     }
 }
 
-/// The demand for opening the child of a directory, or creating it.
+/// The demand for opening the child of a directory, or for creating it.
 fn opening(child: Option<Object>, access: u32, how: &OpenHow<'_>, facts: &Second) -> Option<Demand>
     ensures { result ≡ specs.opening child access (parts.how (open_how_value how.now)) facts.now }
 {
@@ -295,7 +293,7 @@ fn opening(child: Option<Object>, access: u32, how: &OpenHow<'_>, facts: &Second
     }
 }
 
-/// The bits for opening a file.
+/// The permissions for opening a file.
 fn opening_mask(access: u32, how: &OpenHow<'_>, new_size: Option<u64>) -> u32
     ensures { result ≡ specs.opening_mask access (parts.how (open_how_value how.now)) new_size }
 {
@@ -328,7 +326,7 @@ fn is_creating(how: &OpenHow<'_>) -> bool
     }
 }
 
-/// Whether a file that is there is truncated.
+/// Whether an existing file is truncated.
 fn is_truncating(how: &OpenHow<'_>, new_size: Option<u64>) -> bool
     ensures { result ≡ specs.is_truncating (parts.how (open_how_value how.now)) new_size }
 {
@@ -352,7 +350,7 @@ fn rename_first(facts: &First) -> [Option<Demand>; 2]
     [bits(facts.saved, mask::EXECUTE), target]
 }
 
-/// The demands of RENAME for the names that go and come.
+/// The demands of RENAME for the names that it removes and adds.
 fn rename_second(facts: &Second) -> [Option<Demand>; 3]
     ensures { result ≡ specs.rename_second facts.now }
 {
@@ -367,7 +365,7 @@ fn rename_second(facts: &Second) -> [Option<Demand>; 3]
     ]
 }
 
-/// Whether both are there and are the same.
+/// Whether both exist and are the same object.
 fn is_one(a: Option<Object>, b: Option<Object>) -> bool
     ensures { result ≡ specs.is_one a b }
 {

@@ -16,7 +16,7 @@ fn kind_of(text: &str) -> Option<Kind> {
     }
 }
 
-/// A caller of this uid, in the groups of a row joined by commas, the first of which is its gid.
+/// A caller with this uid, in the groups of a row that commas separate. The first group is the gid.
 fn caller_of(alloc: Global, uid: &str, groups: &str) -> Result<Option<Caller>, AllocError> {
     let Some(uid) = number(uid, 10, 10) else {
         return Ok(None);
@@ -36,7 +36,7 @@ fn caller_of(alloc: Global, uid: &str, groups: &str) -> Result<Option<Caller>, A
     }
 }
 
-/// A question of `judge` or `why`: an object, a caller, and a mask.
+/// The object, the caller and the mask that a line `judge` or `why` asks about.
 #[derive(Drop)]
 struct Question {
     list: AclList,
@@ -46,7 +46,7 @@ struct Question {
     mask: u32,
 }
 
-/// The question of the words of a line after its first one.
+/// The question of a line, from the words after the first one.
 fn asked_in(alloc: Global, form: &Form, words: &[&str]) -> Result<Option<Question>, AllocError> {
     let [kind, owner, group, uid, groups, mask, list] = words else {
         return Ok(None);
@@ -152,7 +152,7 @@ fn answer_inherit(
     Ok(Some(form.write(alloc, &made)?))
 }
 
-/// The answer to a line, if the line can be read.
+/// The answer to a line. `None`: the line can't be read.
 pub(crate) fn answer(alloc: Global, form: &Form, line: &str) -> Result<Option<String>, AllocError> {
     let words: Vec<&str> = line.split(' ').collect(alloc)?;
     match words.as_slice() {

@@ -1,4 +1,5 @@
-//! Lists of entries as text, joined by commas, or `-` for the empty list: `TYPE:FLAGS:MASK:WHO`, or in words.
+//! Access control lists (ACLs) as text: their access control entries (ACEs) separated by commas, or `-` for the empty
+//! ACL. An ACE is `TYPE:FLAGS:MASK:WHO`, or is written in letters.
 
 ghost use Rattle.std.specs.Prelude.{◌≤◌};
 
@@ -8,7 +9,7 @@ use std::alloc::{AllocError, Global};
 use std::str;
 use who_book::Book;
 
-/// A number in digits of this base, at most this many digits.
+/// A number in digits of this base, with at most `most` digits.
 pub(crate) fn number(text: &str, radix: u32, most: usize) -> Option<u32>
     requires least { 2 ≤ radix }
     requires most { radix ≤ 36 }
@@ -29,7 +30,7 @@ fn read_kind(text: &str) -> Option<EntryKind> {
     }
 }
 
-fn read_who(text: &str, flags: u32) -> Option<Who> {
+fn read_principal(text: &str, flags: u32) -> Option<Who> {
     match text {
         "OWNER@" => Some(Who::Owner),
         "GROUP@" => Some(Who::Group),
@@ -57,7 +58,7 @@ fn read_entry(text: &str) -> Option<Entry> {
         kind: read_kind(kind)?,
         flags,
         mask: number(mask, 16, 8)?,
-        who: read_who(who, flags)?,
+        who: read_principal(who, flags)?,
     })
 }
 
@@ -70,7 +71,7 @@ fn letter(kind: EntryKind) -> char {
     }
 }
 
-fn write_who(alloc: Global, who: Who) -> Result<String, AllocError> {
+fn write_principal(alloc: Global, who: Who) -> Result<String, AllocError> {
     match who {
         Who::Owner => String::from_str(alloc, "OWNER@"),
         Who::Group => String::from_str(alloc, "GROUP@"),
@@ -79,22 +80,22 @@ fn write_who(alloc: Global, who: Who) -> Result<String, AllocError> {
     }
 }
 
-/// The text of an entry.
+/// The text of an ACE.
 fn text_of(alloc: Global, entry: &Entry) -> Result<String, AllocError> {
     let kind = letter(entry.kind);
-    let who = write_who(alloc, entry.who)?;
+    let who = write_principal(alloc, entry.who)?;
     let flags = entry.flags;
     let mask = entry.mask;
     format!(in alloc; "{kind}:{flags:02x}:{mask:08x}:{who}")
 }
 
-/// The words of an entry, whose flags are those of eight bits.
+/// The text of an ACE in letters, with the lowest eight bits of its flags.
 fn words_of(book: &Book, entry: &Entry) -> Text {
     let flags = u32::from((entry.flags & 0xFF) as u8);
     write_entry(book, &Entry { flags, ..*entry })
 }
 
-/// Puts the words of an entry, which are UTF-8.
+/// Appends the text of an ACE, which is UTF-8.
 fn put_words(out: &mut String, words: &Text) -> Result<(), AllocError> {
     match str::from_utf8(words.as_bytes()) {
         Ok(words) => out.push_str(words),
@@ -102,17 +103,17 @@ fn put_words(out: &mut String, words: &Text) -> Result<(), AllocError> {
     }
 }
 
-/// How entries are written, and read.
+/// How ACEs are written and read.
 #[derive(Drop)]
 pub(crate) enum Form {
     /// `TYPE:FLAGS:MASK:WHO`.
     Plain,
-    /// In words, with the names of a book; read in either form.
+    /// In letters, with the names of a book; either form is read.
     Words(Book),
 }
 
 impl Form {
-    /// The entry that a text spells, if it spells one on an object of this kind.
+    /// The ACE that a text encodes on an object of this type, if it encodes one.
     fn entry(&self, object: Kind, text: &str) -> Option<Entry> {
         match self {
             Form::Plain => read_entry(text),
@@ -120,7 +121,7 @@ impl Form {
         }
     }
 
-    /// The list that a text spells, if it spells one on an object of this kind.
+    /// The ACL that a text encodes on an object of this type, if it encodes one.
     pub(crate) fn read(
         &self,
         alloc: Global,
@@ -140,7 +141,7 @@ impl Form {
         Ok(Some(list))
     }
 
-    /// Puts the text of an entry.
+    /// Appends the text of an ACE.
     fn put(&self, alloc: Global, out: &mut String, entry: &Entry) -> Result<(), AllocError> {
         match self {
             Form::Plain => out.push_str(text_of(alloc, entry)?.as_str()),
@@ -148,7 +149,7 @@ impl Form {
         }
     }
 
-    /// The text of a list.
+    /// The text of an ACL.
     pub(crate) fn write(&self, alloc: Global, list: &AclList) -> Result<String, AllocError> {
         let mut text = String::new(alloc);
         for entry in list.as_slice() {

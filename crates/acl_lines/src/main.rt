@@ -1,6 +1,6 @@
-//! Puts the functions on access control lists beside any other implementation. It reads questions
-//! from standard input, one a line, and answers each with a line on standard output.
-//! `docs/acl_lines.md` has the lines.
+//! Answers questions on access control lists (ACLs), for comparison with any other implementation. It reads one
+//! question a line from standard input, and writes one answer a line to standard output. `docs/acl_lines.md` describes
+//! the lines.
 #![tactic(auto)]
 
 mod answer;
@@ -32,9 +32,9 @@ fn answer_all(rt: &(impl Input + Print), alloc: Global, form: &Form) -> Result<(
     Ok(())
 }
 
-/// Says on standard error what `clap` says of the words. A fault has the program's name in front,
-/// and help stays as it is.
-fn say_words<R: Eprint, E: Display>(rt: &R, alloc: Global, error: &E) -> Result<()> {
+/// Prints on standard error what `clap` reports about the words. A fault is printed after the program's name, and help
+/// is printed unchanged.
+fn report_words<R: Eprint, E: Display>(rt: &R, alloc: Global, error: &E) -> Result<()> {
     let text = format!(in alloc; "{error}")?;
     match text.as_str().strip_prefix("error: ") {
         Some(fault) => eprint!(rt; "acl_lines: {fault}")?,
@@ -43,12 +43,12 @@ fn say_words<R: Eprint, E: Display>(rt: &R, alloc: Global, error: &E) -> Result<
     Ok(())
 }
 
-/// Answers by the words of the command line.
+/// Answers as the words of the command line ask.
 fn run_words(rt: &HostRuntime, alloc: Global, words: &[String]) -> Result<ExitCode> {
     let options = match Options::read(alloc, words) {
         Ok(options) => options,
         Err(error) => {
-            let _ = say_words(rt, alloc, &error);
+            let _ = report_words(rt, alloc, &error);
             return Ok(ExitCode::from(2));
         }
     };
@@ -61,7 +61,7 @@ fn run_words(rt: &HostRuntime, alloc: Global, words: &[String]) -> Result<ExitCo
     Ok(ExitCode::SUCCESS)
 }
 
-/// Answers by the words that the program was started with.
+/// Answers as the words that the program was started with ask.
 fn run_all(rt: &HostRuntime) -> Result<ExitCode> {
     let alloc = rt.alloc();
     let words: Vec<String> = env::args(rt)?.collect(alloc)?;

@@ -1,4 +1,4 @@
-//! The words of `acl_lines`.
+//! The command line of `acl_lines`.
 use clap::{Arg, ArgAction, Command, Error, value_parser};
 use std::alloc::{AllocError, Global};
 
@@ -18,7 +18,7 @@ A:00:00000001:1001. KIND is d, f or l. For example:
 
     echo 'judge f 0 0 1001 100 1 D:00:00000001:1001,A:00:00000001:EVERYONE@' | acl_lines";
 
-/// Whether entries are written in words.
+/// Whether access control entries (ACEs) are written in letters.
 #[derive(Clone, Copy, Debug)]
 pub(crate) struct Options {
     pub(crate) words: bool,

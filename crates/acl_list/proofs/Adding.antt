@@ -1,4 +1,4 @@
--- The progress of a summary, entry by entry.
+-- The progress of a summary, access control entry (ACE) by ACE.
 use Rattle.std.proofs.Common.{◌≡◌, ℕ, ◌+◌, ◌<◌, ◌∙◌, Bool, true, false, not, ◌&&◌, ◌||◌, List, [], ◌∷◌, drop, ap, sym, arith, cond, bit_and, bit_or, w32, ◌^◌, inl, inr, ◌⊎◌}
 use Rattle.std.specs.Int.{bit_not}
 use Rattle.std.specs.List.{list_any}
@@ -13,7 +13,7 @@ use Rattle.acl_list.specs.declared.entry.EntryKind.{EntryKind}
 use Rattle.acl_list.specs.declared.entry.EntryKind.TheVariants.{Allow, Deny, Audit, Alarm}
 use Rattle.acl_list.proofs.Bits.{has_bit-or, has_bit-without, has_bit-zero}
 use Rattle.acl_list.proofs.Allowing.{is_allowed-cond}
-use Rattle.acl_list.proofs.Judging.{mention_from}
+use Rattle.acl_list.proofs.Judging.{first_match_from}
 
 -- ---- tests of one bit
 
@@ -63,19 +63,19 @@ not_counted_now g d c k p = grind arith
 or_nothing : (d c : Bool) → c ≡ false → d ≡ d || c
 or_nothing d c p = grind arith
 
--- an AUDIT or ALARM entry decides nothing
+-- an AUDIT or ALARM ACE decides nothing
 watch_only : (kind : EntryKind) → (kind ≡ Audit) ⊎ (kind ≡ Alarm) → allows_or_denies kind ≡ false
 watch_only kind h = elim h [ inl audit ↦ ap allows_or_denies audit | inr alarm ↦ ap allows_or_denies alarm ]
 
 -- ---- the bits that are allowed
 
--- for each bit: once an entry before the index decides it, its grant; else the entries from the index on decide it
+-- each bit: if an ACE before the index decides it, it is granted or not; else the ACEs from the index on decide it
 pub record Granting (names : Who → Bool) (entries : List Entry) (granted done index : ℕ) : Type 0 where
   pub covered : (bit : ℕ) → bit < 32 → has_bit done bit ≡ false → has_bit granted bit ≡ false
   pub allowed : (bit : ℕ) → bit < 32
-      → allows names entries bit ≡ cond (has_bit done bit) (has_bit granted bit) (is_allowed (mention_from names index (drop index entries) bit))
+      → allows names entries bit ≡ cond (has_bit done bit) (has_bit granted bit) (is_allowed (first_match_from names index (drop index entries) bit))
 
--- the step at one entry, bit by bit: from the bits granted and done to more of both
+-- the step at one ACE, bit by bit: how the granted bits and the decided bits grow
 pub record Grants (names : Who → Bool) (e : Entry) (granted done granted' done' : ℕ) : Type 0 where
   pub decided : (bit : ℕ) → bit < 32 → has_bit done' bit ≡ has_bit done bit || counts_for names bit e
   pub allowed : (bit : ℕ) → bit < 32 → has_bit granted' bit ≡ has_bit granted bit || (not (has_bit done bit) && (counts_for names bit e && is_allow e.kind))
@@ -92,15 +92,15 @@ module _ {names : Who → Bool} {entries : List Entry} {granted done index : ℕ
   granting_after {e} {granted'} {done'} is_next step = record {
     covered = λ bit h. covered_step _ _ _ _ _ _ (so_far.covered bit h) (step.decided bit h) (step.allowed bit h);
     allowed = λ bit h. so_far.allowed bit h
-        ∙ ap (λ es. cond (has_bit done bit) (has_bit granted bit) (is_allowed (mention_from names index es bit))) is_next
-        ∙ ap (cond (has_bit done bit) (has_bit granted bit)) (is_allowed-cond (counts_for names bit e) index e (mention_from names (index + 1) (drop (index + 1) entries) bit))
+        ∙ ap (λ es. cond (has_bit done bit) (has_bit granted bit) (is_allowed (first_match_from names index es bit))) is_next
+        ∙ ap (cond (has_bit done bit) (has_bit granted bit)) (is_allowed-cond (counts_for names bit e) index e (first_match_from names (index + 1) (drop (index + 1) entries) bit))
         ∙ allowed_step _ _ _ _ _ _ _ (so_far.covered bit h) (step.decided bit h) (step.allowed bit h);
   }
 
   pub is_granting : drop index entries ≡ [] → BitsAre granted (allows names entries)
   is_granting past bit h =
       at_end _ _ (so_far.covered bit h)
-      ∙ sym (so_far.allowed bit h ∙ ap (λ es. cond (has_bit done bit) (has_bit granted bit) (is_allowed (mention_from names index es bit))) past)
+      ∙ sym (so_far.allowed bit h ∙ ap (λ es. cond (has_bit done bit) (has_bit granted bit) (is_allowed (first_match_from names index es bit))) past)
 
 module _ (names : Who → Bool) (e : Entry) (granted done : ℕ) where
   pub grants_allow : concerns names e ≡ true → e.kind ≡ Allow → e.mask < 2 ^ 32 → done < 2 ^ 32
@@ -121,7 +121,7 @@ module _ (names : Who → Bool) (e : Entry) (granted done : ℕ) where
         allowed = λ bit h. not_allowed_now _ _ _ _ (ap is_allow kind);
       }
 
-  -- an entry that decides nothing
+  -- an ACE that decides nothing
   grants_silent : ((bit : ℕ) → counts_for names bit e ≡ false) → Grants names e granted done granted done
   grants_silent silent = record {
     decided = λ bit h. or_nothing _ _ (silent bit);
@@ -148,7 +148,7 @@ pub record Adds (names : Who → Bool) (e : Entry) (s t : Summary) (done done' :
   pub watch_ok : (bit : ℕ) → bit < 32 → has_bit t.watch_ok bit ≡ has_bit s.watch_ok bit || watches names successful bit e
   pub watch_fail : (bit : ℕ) → bit < 32 → has_bit t.watch_fail bit ≡ has_bit s.watch_fail bit || watches names failed bit e
 
--- before the first entry the summary is empty
+-- before the first ACE the summary is empty
 pub summed_none : (names : Who → Bool) (entries : List Entry) (s : Summary) → s.granted ≡ 0 → s.watch_ok ≡ 0 → s.watch_fail ≡ 0 → Summed names entries s 0 0
 summed_none names entries s p q r = record {
   granting = rw p (granting_none names entries);
@@ -190,7 +190,7 @@ module _ (names : Who → Bool) (e : Entry) (s : Summary) (done : ℕ) where
     watch_fail = λ bit h. unwatched _ _ _ _ _ (ap allows_or_denies kind);
   }
 
-  -- an AUDIT or ALARM entry, by the masks under its two flags
+  -- an AUDIT or ALARM ACE, by the masks under its two flags
   pub adds_watch : concerns names e ≡ true → (e.kind ≡ Audit) ⊎ (e.kind ≡ Alarm) → (ok fail : ℕ)
       → ((bit : ℕ) → has_bit ok bit ≡ has_bit e.flags successful && has_bit e.mask bit)
       → ((bit : ℕ) → has_bit fail bit ≡ has_bit e.flags failed && has_bit e.mask bit)

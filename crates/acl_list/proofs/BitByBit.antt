@@ -1,12 +1,12 @@
--- The verdict, from the denied bits and the bits that no entry mentions.
+-- The verdict, from the denied bits and the bits that match no access control entry (ACE).
 use Rattle.std.proofs.Common.{◌≡◌, ℕ, ◌^◌, ◌<◌, ◌≤◌, ◌∙◌, Bool, true, false, ◌&&◌, cond, List, [], ◌∷◌, Option, Some, None, min, refl, ap, sym, inl, inr, ◌⊎◌}
 use Rattle.std.specs.Prelude.{filter, find, is_none}
 use Rattle.std.specs.List.{filter_map, cons_option, reduce}
 use Rattle.std.proofs.lemmas.Bool.{and_parts, cases_lt, cond-true, cond-false}
 use Rattle.std.proofs.lemmas.Option.{same_Some, none-some}
 use Rattle.acl_list.specs.Mask.{has_bit, places}
-use Rattle.acl_list.specs.Deciding.{mention}
-use Rattle.acl_list.specs.Verdicts.{denied_at, denials, unsaid, verdict_from, verdict}
+use Rattle.acl_list.specs.Deciding.{first_match}
+use Rattle.acl_list.specs.Verdicts.{denied_at, denials, unmatched, verdict_from, verdict}
 use Rattle.acl_list.specs.declared.entry.Entry.{Entry}
 use Rattle.acl_list.specs.declared.entry.Who.{Who}
 use Rattle.acl_list.specs.declared.answer.Verdict.{Verdict}
@@ -54,35 +54,35 @@ found_passes test (y ∷ ys) x h = go (test y) refl (found_passes test ys x) h
 
 module _ (names : Who → Bool) (entries : List Entry) (mask : ℕ) where
   abbrev pub denial_asked : Option ℕ
-  denial_asked = reduce min (filter_map (λ place. cond (has_bit mask place) (denied_at (mention names entries place)) None) places)
+  denial_asked = reduce min (filter_map (λ place. cond (has_bit mask place) (denied_at (first_match names entries place)) None) places)
 
-  abbrev pub unsaid_asked : Option ℕ
-  unsaid_asked = find (λ place. has_bit mask place && is_none (mention names entries place)) places
+  abbrev pub unmatched_asked : Option ℕ
+  unmatched_asked = find (λ place. has_bit mask place && is_none (first_match names entries place)) places
 
   denial_is : denial_asked ≡ reduce min (denials names entries mask)
-  denial_is = ap (reduce min) (asked_where (has_bit mask) (λ place. denied_at (mention names entries place)) places)
+  denial_is = ap (reduce min) (asked_where (has_bit mask) (λ place. denied_at (first_match names entries place)) places)
 
-  unsaid_is : unsaid_asked ≡ first (unsaid names entries mask)
-  unsaid_is = find_both (has_bit mask) (λ place. is_none (mention names entries place)) places
+  unmatched_is : unmatched_asked ≡ first (unmatched names entries mask)
+  unmatched_is = find_both (has_bit mask) (λ place. is_none (first_match names entries place)) places
 
   pub denied_alone : (index : ℕ) → Some index ≡ denial_asked → Denied index ≡ verdict names entries mask
   unfolding verdict
-  denied_alone index h = ap (λ o. verdict_from o (unsaid names entries mask)) (h ∙ denial_is)
+  denied_alone index h = ap (λ o. verdict_from o (unmatched names entries mask)) (h ∙ denial_is)
 
-  pub missing_alone : (bit : ℕ) → None ≡ denial_asked → Some bit ≡ unsaid_asked → Missing (2 ^ bit) ≡ verdict names entries mask
+  pub missing_alone : (bit : ℕ) → None ≡ denial_asked → Some bit ≡ unmatched_asked → Missing (2 ^ bit) ≡ verdict names entries mask
   unfolding verdict
   missing_alone bit h k =
-      from_first (reduce min (denials names entries mask)) (unsaid names entries mask) (Missing (2 ^ bit))
-      (λ other e. ap (λ b. Missing (2 ^ b)) (same_Some other bit (sym e ∙ sym unsaid_is ∙ sym k))) (λ e. absurd (none-some bit (sym e ∙ sym unsaid_is ∙ sym k))) (sym denial_is ∙ sym h)
+      from_first (reduce min (denials names entries mask)) (unmatched names entries mask) (Missing (2 ^ bit))
+      (λ other e. ap (λ b. Missing (2 ^ b)) (same_Some other bit (sym e ∙ sym unmatched_is ∙ sym k))) (λ e. absurd (none-some bit (sym e ∙ sym unmatched_is ∙ sym k))) (sym denial_is ∙ sym h)
 
-  pub granted_alone : None ≡ denial_asked → None ≡ unsaid_asked → Granted ≡ verdict names entries mask
+  pub granted_alone : None ≡ denial_asked → None ≡ unmatched_asked → Granted ≡ verdict names entries mask
   unfolding verdict
   granted_alone h k =
-      from_first (reduce min (denials names entries mask)) (unsaid names entries mask) Granted (λ other e. absurd (none-some other (k ∙ unsaid_is ∙ e))) (λ e. refl) (sym denial_is ∙ sym h)
+      from_first (reduce min (denials names entries mask)) (unmatched names entries mask) Granted (λ other e. absurd (none-some other (k ∙ unmatched_is ∙ e))) (λ e. refl) (sym denial_is ∙ sym h)
 
   -- a bit of a mask of 32 has a place below 32
-  pub unsaid_below : mask < 2 ^ 32 → (bit : ℕ) → Some bit ≡ unsaid_asked → bit < 32
-  unsaid_below fits bit h = go (and_parts _ _ (found_passes (λ place. has_bit mask place && is_none (mention names entries place)) places bit (sym h))).0 (cases_lt bit 32)
+  pub unmatched_below : mask < 2 ^ 32 → (bit : ℕ) → Some bit ≡ unmatched_asked → bit < 32
+  unmatched_below fits bit h = go (and_parts _ _ (found_passes (λ place. has_bit mask place && is_none (first_match names entries place)) places bit (sym h))).0 (cases_lt bit 32)
     where
       go : has_bit mask bit ≡ true → (bit < 32) ⊎ (32 ≤ bit) → bit < 32
       go has (inl below) = below

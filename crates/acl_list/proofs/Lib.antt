@@ -1,7 +1,7 @@
 pub mod Bits
 pub mod Masks
 pub mod Judging
-pub mod Mentioning
+pub mod Matching
 pub mod Adding
 pub mod Allowing
 pub mod Verdicting

@@ -15,7 +15,7 @@ use Rattle.acl_list.specs.declared.entry.Entry.{Entry}
 use Rattle.acl_list.specs.declared.entry.Who.{Who}
 use Rattle.acl_list.proofs.Bits.{has_bit_above, same_masks}
 
--- the mask of those of the n places from a on that pass, moved down by a
+-- the mask of those of the n places from a on that pass, shifted down by a
 mask_from : ℕ → ℕ → (ℕ → Bool) → ℕ
 mask_from zero a test = 0
 mask_from (suc n) a test = cond (test a) 1 0 + 2 * mask_from n (a + 1) test

@@ -1,12 +1,12 @@
--- A verdict that meets the facts is the verdict that the function gives.
+-- A verdict that satisfies the facts is the verdict that the function gives.
 use Rattle.std.proofs.Common.{◌≡◌, ◌↔◌, ℕ, zero, suc, ◌+◌, ◌^◌, ◌<◌, ◌≤◌, ◌∙◌, Bool, true, false, cond, List, [], ◌∷◌, Option, Some, None, min, refl, ap, sym, subst, arith, inl, inr, ◌⊎◌}
 use Rattle.std.specs.Prelude.{filter, fold, is_none}
 use Rattle.std.specs.List.{filter_map, cons_option, range_with_len, reduce, AllByRecursion}
 use Rattle.std.proofs.lemmas.Bool.{cases_lt, cases_eq, cases_Bool, cond-true, cond-false}
 use Rattle.std.proofs.lemmas.Option.{same_Some, none-some}
 use Rattle.acl_list.specs.Mask.{has_bit}
-use Rattle.acl_list.specs.Deciding.{mention, is_deny, allows_or_denies}
-use Rattle.acl_list.specs.Verdicts.{Allows, DeniesAt, IsDenial, IsVerdict, denied_at, denials, unsaid, verdict_from, verdict}
+use Rattle.acl_list.specs.Deciding.{first_match, is_deny, allows_or_denies}
+use Rattle.acl_list.specs.Verdicts.{Allows, DeniesAt, IsDenial, IsVerdict, denied_at, denials, unmatched, verdict_from, verdict}
 use Rattle.acl_list.specs.declared.entry.Entry.{Entry}
 use Rattle.acl_list.specs.declared.entry.EntryKind.{EntryKind}
 use Rattle.acl_list.specs.declared.entry.EntryKind.TheVariants.{Allow, Deny, Audit, Alarm}
@@ -14,7 +14,7 @@ use Rattle.acl_list.specs.declared.entry.Who.{Who}
 use Rattle.acl_list.specs.declared.answer.Verdict.{Verdict}
 use Rattle.acl_list.specs.declared.answer.Verdict.TheVariants.{Granted, Denied, Missing}
 use Rattle.acl_list.proofs.Bits.{has_bit_above}
-use Rattle.acl_list.proofs.Mentioning.{found_allows_or_denies}
+use Rattle.acl_list.proofs.Matching.{found_allows_or_denies}
 
 -- ---- lists of numbers
 
@@ -107,7 +107,7 @@ module _ (test q : ℕ → Bool) where
       )
       go (inr apart) later = ((later apart).0, skip (test a) (λ passes. low a (omega arith) passes) ∙ (later apart).1)
 
--- ---- the entry that is found
+-- ---- the access control entry (ACE) that is found
 
 allowed_not_denied : (found : Option (ℕ × Entry)) → Allows found → denied_at found ≡ None
 allowed_not_denied None h = absurd h
@@ -150,33 +150,33 @@ module _ (names : Who → Bool) (entries : List Entry) (mask : ℕ) (fits : mask
       go (inl below) = omega arith
       go (inr above) = let e : has_bit mask bit ≡ false = has_bit_above mask bit fits above in absurd (cc)
 
-  no_denials : ((bit : ℕ) → has_bit mask bit ≡ true → denied_at (mention names entries bit) ≡ None) → denials names entries mask ≡ []
-  no_denials h = none_found (has_bit mask) (λ bit. denied_at (mention names entries bit)) h (range_with_len 0 32)
+  no_denials : ((bit : ℕ) → has_bit mask bit ≡ true → denied_at (first_match names entries bit) ≡ None) → denials names entries mask ≡ []
+  no_denials h = none_found (has_bit mask) (λ bit. denied_at (first_match names entries bit)) h (range_with_len 0 32)
 
   pub verdict_is : (v : Verdict) → IsVerdict names entries mask v → v ≡ verdict names entries mask
   unfolding verdict
   verdict_is Granted h =
-      sym (ap (λ ds. verdict_from (reduce min ds) (unsaid names entries mask)) (no_denials (λ bit k. allowed_not_denied _ (h bit k)))
-      ∙ ap (verdict_from None) (none_left (has_bit mask) (λ bit. is_none (mention names entries bit)) (λ bit k. allowed_is_some _ (h bit k)) (range_with_len 0 32)))
+      sym (ap (λ ds. verdict_from (reduce min ds) (unmatched names entries mask)) (no_denials (λ bit k. allowed_not_denied _ (h bit k)))
+      ∙ ap (verdict_from None) (none_left (has_bit mask) (λ bit. is_none (first_match names entries bit)) (λ bit k. allowed_is_some _ (h bit k)) (range_with_len 0 32)))
   verdict_is (Denied index) h =
-      sym (ap (λ o. verdict_from o (unsaid names entries mask))
+      sym (ap (λ o. verdict_from o (unmatched names entries mask))
       (reduce-min index (denials names entries mask)
-      (all_above (has_bit mask) (λ bit. denied_at (mention names entries bit)) index (λ bit m k e. h.1 m (bit, k, denied_denies _ m e)) (range_with_len 0 32))
-      (is_among (has_bit mask) (λ bit. denied_at (mention names entries bit)) h.0.0 index h.0.1 (denies_denied _ index h.0.2) 0 32 (omega arith) (within h.0.0 h.0.1))))
+      (all_above (has_bit mask) (λ bit. denied_at (first_match names entries bit)) index (λ bit m k e. h.1 m (bit, k, denied_denies _ m e)) (range_with_len 0 32))
+      (is_among (has_bit mask) (λ bit. denied_at (first_match names entries bit)) h.0.0 index h.0.1 (denies_denied _ index h.0.2) 0 32 (omega arith) (within h.0.0 h.0.1))))
   verdict_is (Missing value) h =
       let bit = h.1.0 in
-      let first : (rest : List ℕ) × (unsaid names entries mask ≡ bit ∷ rest)
-      = first_left (has_bit mask) (λ b. is_none (mention names entries b)) bit h.1.2.0 (ap is_none h.1.2.1) (λ b below k. said b below k) 0 32 (omega arith) (within bit h.1.2.0) in
-      sym (ap (λ ds. verdict_from (reduce min ds) (unsaid names entries mask)) (no_denials (λ b k. not_denied _ (λ n d. h.0 n (b, k, d))))
+      let first : (rest : List ℕ) × (unmatched names entries mask ≡ bit ∷ rest)
+      = first_left (has_bit mask) (λ b. is_none (first_match names entries b)) bit h.1.2.0 (ap is_none h.1.2.1) (λ b below k. match_is b below k) 0 32 (omega arith) (within bit h.1.2.0) in
+      sym (ap (λ ds. verdict_from (reduce min ds) (unmatched names entries mask)) (no_denials (λ b k. not_denied _ (λ n d. h.0 n (b, k, d))))
       ∙ ap (verdict_from None) first.1 ∙ ap Missing (sym h.1.1))
     where
-      said : (b : ℕ) → b < h.1.0 → has_bit mask b ≡ true → is_none (mention names entries b) ≡ false
-      said b below k = elim (cases_Bool (is_none (mention names entries b))) [
+      match_is : (b : ℕ) → b < h.1.0 → has_bit mask b ≡ true → is_none (first_match names entries b) ≡ false
+      match_is b below k = elim (cases_Bool (is_none (first_match names entries b))) [
         | inl none ↦ absurd (let least : h.1.0 ≤ b = h.1.3 b (k, none_found_at _ none) in omega arith)
         | inr some ↦ some
       ]
 
--- ---- the verdict that the function gives meets the facts
+-- ---- the verdict that the function gives satisfies the facts
 
 -- the least of some numbers is one of them, and no greater than each
 record Least (n : ℕ) (xs : List ℕ) : Type 0 where
@@ -217,9 +217,9 @@ least_of n m (x ∷ xs) all (inl e) = omega (arith, all.0, e)
 least_of n m (x ∷ xs) all (inr i) = least_of n m xs all.1 i
 
 module _ (test : ℕ → Bool) (f : ℕ → Option ℕ) where
-  comes_from : (n : ℕ) (xs : List ℕ) → IsIn n (filter_map f (filter test xs)) → (bit : ℕ) × (test bit ≡ true) × (f bit ≡ Some n)
-  comes_from n [] i = absurd i
-  comes_from n (x ∷ xs) i = go (comes_from n xs) (test x) refl (f x) refl i
+  is_filtered_from : (n : ℕ) (xs : List ℕ) → IsIn n (filter_map f (filter test xs)) → (bit : ℕ) × (test bit ≡ true) × (f bit ≡ Some n)
+  is_filtered_from n [] i = absurd i
+  is_filtered_from n (x ∷ xs) i = go (is_filtered_from n xs) (test x) refl (f x) refl i
     where
       now : test x ≡ true → (m : ℕ) → f x ≡ Some m → (IsIn n (filter_map f (filter test xs)) → (bit : ℕ) × (test bit ≡ true) × (f bit ≡ Some n))
           → (m ≡ n) ⊎ IsIn n (filter_map f (filter test xs)) → (bit : ℕ) × (test bit ≡ true) × (f bit ≡ Some n)
@@ -304,31 +304,31 @@ allowed_otherwise (Some p) h k decides = go p.1.kind k (decides p refl)
     go Alarm e d = cc
 
 module _ (names : Who → Bool) (entries : List Entry) (mask : ℕ) (fits : mask < 2 ^ 32) where
-  is_denial : (n bit : ℕ) → has_bit mask bit ≡ true → denied_at (mention names entries bit) ≡ Some n → IsIn n (denials names entries mask)
+  is_denial : (n bit : ℕ) → has_bit mask bit ≡ true → denied_at (first_match names entries bit) ≡ Some n → IsIn n (denials names entries mask)
   is_denial n bit h k =
-      is_among (has_bit mask) (λ b. denied_at (mention names entries b)) bit n h k 0 32 (omega arith) (within names entries mask fits bit h)
+      is_among (has_bit mask) (λ b. denied_at (first_match names entries b)) bit n h k 0 32 (omega arith) (within names entries mask fits bit h)
 
   fits_denied : (n : ℕ) → Least n (denials names entries mask) → IsVerdict names entries mask (Denied n)
   fits_denied n least =
-      let at = comes_from (has_bit mask) (λ b. denied_at (mention names entries b)) n (range_with_len 0 32) least.among in (
+      let at = is_filtered_from (has_bit mask) (λ b. denied_at (first_match names entries b)) n (range_with_len 0 32) least.among in (
         (at.0, at.1, denied_denies _ n at.2),
         λ other d. least_of n other (denials names entries mask) least.below_all (is_denial other d.0 d.1 (denies_denied _ other d.2)),
       )
 
   module _ (none : denials names entries mask ≡ []) where
-    undenied : (bit : ℕ) → has_bit mask bit ≡ true → denied_at (mention names entries bit) ≡ None
-    undenied bit h = go (denied_at (mention names entries bit)) refl
+    undenied : (bit : ℕ) → has_bit mask bit ≡ true → denied_at (first_match names entries bit) ≡ None
+    undenied bit h = go (denied_at (first_match names entries bit)) refl
       where
-        go : (o : Option ℕ) → denied_at (mention names entries bit) ≡ o → o ≡ None
+        go : (o : Option ℕ) → denied_at (first_match names entries bit) ≡ o → o ≡ None
         go None k = refl
         go (Some n) k = absurd (subst (IsIn n) none (is_denial n bit h k))
 
     no_denial : (other : ℕ) → IsDenial names entries mask other → ⊥
     no_denial other d = none-some other (sym (undenied d.0 d.1) ∙ denies_denied _ other d.2)
 
-    fits_missing : (bit : ℕ) (rest : List ℕ) → unsaid names entries mask ≡ bit ∷ rest → IsVerdict names entries mask (Missing (2 ^ bit))
+    fits_missing : (bit : ℕ) (rest : List ℕ) → unmatched names entries mask ≡ bit ∷ rest → IsVerdict names entries mask (Missing (2 ^ bit))
     fits_missing bit rest is =
-        let first = first_is_first (has_bit mask) (λ b. is_none (mention names entries b)) 0 32 bit rest is in (
+        let first = first_is_first (has_bit mask) (λ b. is_none (first_match names entries b)) 0 32 bit rest is in (
           no_denial,
           (
             bit,
@@ -338,26 +338,26 @@ module _ (names : Who → Bool) (entries : List Entry) (mask : ℕ) (fits : mask
           ),
         )
 
-    fits_granted : unsaid names entries mask ≡ [] → IsVerdict names entries mask Granted
+    fits_granted : unmatched names entries mask ≡ [] → IsVerdict names entries mask Granted
     fits_granted is bit h =
-        allowed_otherwise (mention names entries bit) (said (cases_Bool (is_none (mention names entries bit)))) (undenied bit h) (λ p found. found_allows_or_denies names bit 0 entries p found)
+        allowed_otherwise (first_match names entries bit) (match_is (cases_Bool (is_none (first_match names entries bit)))) (undenied bit h) (λ p found. found_allows_or_denies names bit 0 entries p found)
       where
-        said : (is_none (mention names entries bit) ≡ true) ⊎ (is_none (mention names entries bit) ≡ false) → is_none (mention names entries bit) ≡ false
-        said (inr some) = some
-        said (inl k) = absurd (none_passes (has_bit mask) (λ b. is_none (mention names entries b)) bit h k 0 32 (omega arith) (within names entries mask fits bit h) is)
+        match_is : (is_none (first_match names entries bit) ≡ true) ⊎ (is_none (first_match names entries bit) ≡ false) → is_none (first_match names entries bit) ≡ false
+        match_is (inr some) = some
+        match_is (inl k) = absurd (none_passes (has_bit mask) (λ b. is_none (first_match names entries b)) bit h k 0 32 (omega arith) (within names entries mask fits bit h) is)
 
   pub verdict_fits : IsVerdict names entries mask (verdict names entries mask)
   unfolding verdict
-  verdict_fits = go (reduce_is_least (denials names entries mask)) (cases_list (unsaid names entries mask))
+  verdict_fits = go (reduce_is_least (denials names entries mask)) (cases_list (unmatched names entries mask))
     where
-      is : (o : Option ℕ) (us : List ℕ) → reduce min (denials names entries mask) ≡ o → unsaid names entries mask ≡ us
-          → IsVerdict names entries mask (verdict_from o us) → IsVerdict names entries mask (verdict_from (reduce min (denials names entries mask)) (unsaid names entries mask))
-      is o us h k v = subst (λ ds. IsVerdict names entries mask (verdict_from ds (unsaid names entries mask))) (sym h) (subst (λ bs. IsVerdict names entries mask (verdict_from o bs)) (sym k) v)
+      is : (o : Option ℕ) (us : List ℕ) → reduce min (denials names entries mask) ≡ o → unmatched names entries mask ≡ us
+          → IsVerdict names entries mask (verdict_from o us) → IsVerdict names entries mask (verdict_from (reduce min (denials names entries mask)) (unmatched names entries mask))
+      is o us h k v = subst (λ ds. IsVerdict names entries mask (verdict_from ds (unmatched names entries mask))) (sym h) (subst (λ bs. IsVerdict names entries mask (verdict_from o bs)) (sym k) v)
 
       go : (reduce min (denials names entries mask) ≡ None) × (denials names entries mask ≡ []) ⊎ ((n : ℕ) × (reduce min (denials names entries mask) ≡ Some n) × Least n (denials names entries mask))
-          → (unsaid names entries mask ≡ []) ⊎ ((x : ℕ) × (rest : List ℕ) × (unsaid names entries mask ≡ x ∷ rest))
-          → IsVerdict names entries mask (verdict_from (reduce min (denials names entries mask)) (unsaid names entries mask))
-      go (inr d) us = is (Some d.0) (unsaid names entries mask) d.1 refl (fits_denied d.0 d.2)
+          → (unmatched names entries mask ≡ []) ⊎ ((x : ℕ) × (rest : List ℕ) × (unmatched names entries mask ≡ x ∷ rest))
+          → IsVerdict names entries mask (verdict_from (reduce min (denials names entries mask)) (unmatched names entries mask))
+      go (inr d) us = is (Some d.0) (unmatched names entries mask) d.1 refl (fits_denied d.0 d.2)
       go (inl none) (inl all) = is None [] none.0 all (fits_granted none.1 all)
       go (inl none) (inr us) = is None (us.0 ∷ us.1) none.0 us.2 (fits_missing none.1 us.0 us.1 us.2)
 

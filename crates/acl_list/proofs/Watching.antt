@@ -1,4 +1,4 @@
--- Where no bit of a mask is watched, no entry watches it.
+-- If no bit of a mask is watched, no access control entry (ACE) watches the mask, and conversely.
 use Rattle.std.proofs.Common.{◌≡◌, ◌↔◌, ℕ, ◌^◌, ◌<◌, ◌≤◌, ◌∙◌, Bool, true, false, ◌&&◌, ◌||◌, cond, List, [], ◌∷◌, bit_and, refl, ap, sym, arith, inl, inr, ◌⊎◌}
 use Rattle.std.specs.Prelude.{All}
 use Rattle.std.proofs.lemmas.Bool.{cases_lt}
@@ -27,7 +27,7 @@ flipped : (x y : Bool) → x && y ≡ false → y && x ≡ false
 flipped x y h = grind arith
 
 module _ (names : Who → Bool) (flag mask : ℕ) (fits : mask < 2 ^ 32) where
-  -- the bits of the mask are unwatched by the entry exactly where it watches none
+  -- no bit of the mask is watched by the ACE if and only if it watches none of the mask
   none_watched : (e : Entry) → ((bit : ℕ) → has_bit mask bit ≡ true → watches names flag bit e ≡ false) → watched_bits names flag mask e ≡ 0
   none_watched e h = go (is_watching names flag e) h
     where

@@ -1,4 +1,4 @@
--- The entry of a list that decides a bit (RFC 8881, section 6.2.1).
+-- The access control entry (ACE) that decides a bit of an access control list (RFC 8881, section 6.2.1).
 use Rattle.std.specs.Prelude.{ℕ, Bool, true, false, not, ◌==◌, ◌&&◌, if◌then◌else◌, List, Option, Some, None, find}
 use Rattle.std.specs.Prelude.{bit_and}
 use Rattle.std.specs.List.{enumerate_from}
@@ -10,11 +10,11 @@ use Rattle.acl_list.specs.declared.entry.EntryKind.{EntryKind}
 use Rattle.acl_list.specs.declared.entry.EntryKind.TheVariants.{Allow, Deny, Audit, Alarm}
 use Rattle.acl_list.specs.declared.entry.Who.{Who}
 use Rattle.acl_list.specs.declared.entry.Who.TheVariants.{Owner, Group, Everyone, User, GroupOf}
-use Rattle.acl_list.specs.declared.answer.Mention.{Mention}
-use Rattle.acl_list.specs.declared.answer.Mention.TheVariants.{Unmentioned, AllowedBy, DeniedBy}
+use Rattle.acl_list.specs.declared.answer.FirstMatch.{FirstMatch}
+use Rattle.acl_list.specs.declared.answer.FirstMatch.TheVariants.{Unmatched, AllowedBy, DeniedBy}
 
--- Whether a who is true of the caller, for an object of this owner and group (section 6.2.1.5). EVERYONE@ is true of
--- everyone, the owner and the group's members too. The flags of the entry don't count.
+-- Whether a principal names the caller, for an object of this owner and group (section 6.2.1.5). EVERYONE@ names
+-- everyone, including the owner and the group's members. The flags of the ACE don't count.
 abbrev pub is_true_for : ℕ → ℕ → Identity → Who → Bool
 is_true_for owner group caller Owner = caller.uid == owner
 is_true_for owner group caller Group = is_member caller group
@@ -22,14 +22,14 @@ is_true_for owner group caller Everyone = true
 is_true_for owner group caller (User uid) = caller.uid == uid
 is_true_for owner group caller (GroupOf gid) = is_member caller gid
 
--- whether a who is this special identifier, or EVERYONE@
+-- whether a principal is this special identifier, or EVERYONE@
 abbrev pub is_class : Who → Who → Bool
 is_class Owner Owner = true
 is_class Group Group = true
 is_class class Everyone = true
 is_class class other = false
 
--- AUDIT and ALARM entries watch, and don't grant or deny access (section 6.2.1.1)
+-- AUDIT and ALARM ACEs watch access; they neither grant nor deny it (section 6.2.1.1)
 abbrev pub allows_or_denies : EntryKind → Bool
 allows_or_denies Allow = true
 allows_or_denies Deny = true
@@ -48,38 +48,38 @@ is_deny Deny = true
 is_deny Audit = false
 is_deny Alarm = false
 
--- Below, `names` is true of the whos that match the requester.
+-- Below, `names` is true of the principals that name the requester.
 
--- an entry for the object itself whose who is true: it isn't INHERIT_ONLY (section 6.2.1.4.1)
+-- an ACE about the object itself that names the requester: it isn't INHERIT_ONLY (section 6.2.1.4.1)
 abbrev pub concerns : (Who → Bool) → Entry → Bool
 concerns names e = not (has_bit e.flags inherit_only) && names e.who
 
--- an ALLOW or DENY entry that concerns the requester
+-- an ALLOW or DENY ACE that concerns the requester
 abbrev pub applies : (Who → Bool) → Entry → Bool
 applies names e = allows_or_denies e.kind && concerns names e
 
--- the entry applies, and has the bit
+-- the ACE matches the bit: it applies, and has the bit
 abbrev pub counts_for : (Who → Bool) → ℕ → Entry → Bool
 counts_for names bit e = applies names e && has_bit e.mask bit
 
--- the first entry that counts for the bit, with its index
-abbrev pub mention : (Who → Bool) → List Entry → ℕ → Option (ℕ × Entry)
-mention names entries bit = find (λ p. counts_for names bit p.1) (enumerate_from 0 entries)
+-- the first matching ACE of the bit, with its index
+abbrev pub first_match : (Who → Bool) → List Entry → ℕ → Option (ℕ × Entry)
+first_match names entries bit = find (λ p. counts_for names bit p.1) (enumerate_from 0 entries)
 
--- the first entry that applies and has a bit of the mask, with its index: of a mask of one bit its first mention
-abbrev pub mention_of_mask : (Who → Bool) → List Entry → ℕ → Option (ℕ × Entry)
-mention_of_mask names entries mask =
+-- the first ACE that applies and has a bit of the mask, with its index; for a mask of one bit, the first matching ACE
+abbrev pub first_match_of_mask : (Who → Bool) → List Entry → ℕ → Option (ℕ × Entry)
+first_match_of_mask names entries mask =
     find (λ p. applies names p.1 && not (bit_and p.1.mask mask == 0)) (enumerate_from 0 entries)
 
--- the mention by the entry that was found
-abbrev pub mentioned : Option (ℕ × Entry) → Mention
-mentioned None = Unmentioned
-mentioned (Some p) = if is_allow p.1.kind then AllowedBy p.0 else DeniedBy p.0
+-- which ACE allows or denies, by the ACE that was found
+abbrev pub match_of : Option (ℕ × Entry) → FirstMatch
+match_of None = Unmatched
+match_of (Some p) = if is_allow p.1.kind then AllowedBy p.0 else DeniedBy p.0
 
 abbrev pub is_allowed : Option (ℕ × Entry) → Bool
 is_allowed None = false
 is_allowed (Some p) = is_allow p.1.kind
 
--- whether the bit is first mentioned by an ALLOW
+-- whether the first matching ACE of the bit is an ALLOW
 abbrev pub allows : (Who → Bool) → List Entry → ℕ → Bool
-allows names entries bit = is_allowed (mention names entries bit)
+allows names entries bit = is_allowed (first_match names entries bit)

@@ -1,4 +1,4 @@
--- The types of entries by their numbers: acetype4 (RFC 8881, section 6.2.1.1).
+-- The types of access control entries (ACEs) by their numbers: acetype4 (RFC 8881, section 6.2.1.1).
 use Rattle.std.specs.Prelude.{ℕ, ◌==◌, if◌then◌else◌, Option, Some, None}
 use Rattle.acl_list.specs.declared.entry.EntryKind.{EntryKind}
 use Rattle.acl_list.specs.declared.entry.EntryKind.TheVariants.{Allow, Deny, Audit, Alarm}
@@ -9,7 +9,7 @@ kind_number Deny = 1
 kind_number Audit = 2
 kind_number Alarm = 3
 
--- the type of this number, if there is one
+-- the type with this number, if there is one
 abbrev pub kind_of : ℕ → Option EntryKind
 kind_of number =
     if number == 0 then Some Allow else if number == 1 then Some Deny else if number == 2 then Some Audit else if number

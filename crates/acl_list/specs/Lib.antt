@@ -2,7 +2,7 @@ pub use Rattle.rpc_record.specs.Identity
 pub mod Mask
 pub mod Places
 pub mod Kinds
-pub mod Whos
+pub mod Principals
 pub mod Deciding
 pub mod Verdicts
 pub mod Summaries

@@ -1,4 +1,4 @@
--- The bits of an entry's mask and its flags under the standard's names, by their places.
+-- The bits of the mask and of the flags of an access control entry (ACE) under the standard's names, by their places.
 use Rattle.std.specs.Prelude.{◌≡◌, ℕ, ◌^◌, List, [], ◌∷◌, sum_by}
 use Rattle.acl_list.specs.declared.mask.TheConstants as mask
 use Rattle.acl_list.specs.declared.flag.TheConstants as flag
@@ -72,7 +72,7 @@ defined =
     ∷ read_attributes ∷ write_attributes
     ∷ write_retention ∷ write_retention_hold ∷ delete ∷ read_acl ∷ write_acl ∷ write_owner ∷ synchronize ∷ []
 
--- the constants of the code are the bits of these places
+-- the constants of the code are the bits at these places
 pub record MaskBits : Type 0 where
   pub read_data_is : mask.READ_DATA ≡ 2 ^ read_data
   pub list_directory_is : mask.LIST_DIRECTORY ≡ 2 ^ list_directory
@@ -130,7 +130,7 @@ defined_flags =
     file_inherit ∷ directory_inherit ∷ no_propagate ∷ inherit_only ∷ successful ∷ failed ∷ identifier_group ∷ inherited
     ∷ []
 
--- the constants of the code are the bits of these places
+-- the constants of the code are the bits at these places
 pub record FlagBits : Type 0 where
   pub file_inherit_is : flag.FILE_INHERIT ≡ 2 ^ file_inherit
   pub directory_inherit_is : flag.DIRECTORY_INHERIT ≡ 2 ^ directory_inherit

@@ -1,5 +1,5 @@
--- The summary of a list for a requester: the bits that it allows, and the bits that it watches
--- (RFC 8881, section 6.2.1).
+-- The summary of an access control list for a requester: the bits that it allows, and the bits that it watches (RFC
+-- 8881, section 6.2.1).
 use Rattle.std.specs.Prelude.{ℕ, Bool, not, ◌&&◌, if◌then◌else◌, List, bit_and}
 use Rattle.std.specs.List.{list_any}
 use Rattle.acl_list.specs.Mask.{has_bit, BitsAre, mask_of}
@@ -9,36 +9,36 @@ use Rattle.acl_list.specs.declared.entry.Entry.{Entry}
 use Rattle.acl_list.specs.declared.entry.Who.{Who}
 use Rattle.acl_list.specs.declared.answer.Summary.{Summary}
 
--- an AUDIT or ALARM entry that concerns the requester and has this flag: SUCCESSFUL for granted
+-- an AUDIT or ALARM access control entry (ACE) that concerns the requester and has this flag: SUCCESSFUL for granted
 -- access, FAILED for refused access (section 6.2.1.4.1)
 abbrev pub is_watching : (Who → Bool) → ℕ → Entry → Bool
 is_watching names flag e = not (allows_or_denies e.kind) && concerns names e && has_bit e.flags flag
 
 -- the flag for granted access, or for refused access
-abbrev pub told : Bool → ℕ
-told granted = if granted then successful else failed
+abbrev pub watch_flag : Bool → ℕ
+watch_flag granted = if granted then successful else failed
 
--- the entry watches the bit
+-- the ACE watches the bit
 abbrev pub watches : (Who → Bool) → ℕ → ℕ → Entry → Bool
 watches names flag bit e = is_watching names flag e && has_bit e.mask bit
 
--- the bits of the mask that the entry watches
+-- the bits of the mask that the ACE watches
 abbrev pub watched_bits : (Who → Bool) → ℕ → ℕ → Entry → ℕ
 watched_bits names flag mask e = if is_watching names flag e then bit_and e.mask mask else 0
 
--- whether an entry watches the bit
+-- whether an ACE watches the bit
 abbrev pub is_watched : (Who → Bool) → ℕ → List Entry → ℕ → Bool
 is_watched names flag entries bit = list_any (watches names flag bit) entries
 
--- the bits that the entries allow
+-- the bits that the ACEs allow
 abbrev pub granted_mask : (Who → Bool) → List Entry → ℕ
 granted_mask names entries = mask_of (allows names entries)
 
--- the bits that the entries watch under this flag
+-- the bits that the ACEs watch under this flag
 abbrev pub watched_mask : (Who → Bool) → ℕ → List Entry → ℕ
 watched_mask names flag entries = mask_of (is_watched names flag entries)
 
--- the bits that the entries allow, and those that they watch for success and for failure
+-- the bits that the ACEs allow, and those that they watch for success and for failure
 abbrev pub summary : (Who → Bool) → List Entry → Summary
 summary names entries = record {
   granted = granted_mask names entries;

@@ -1,18 +1,18 @@
-//! The entry of a list that decides a bit, and the verdict of the list on a mask.
+//! The access control entry (ACE) that decides a bit, and the verdict of an access control list (ACL) on a mask.
 ghost use Rattle.std.specs.Prelude.{◌≡◌, ℕ, ◌^◌, if◌then◌else◌};
 ghost use Rattle.acl_list.specs.Mask.{BitsAre, mask_of};
-ghost use Rattle.acl_list.specs.Deciding.{allows, is_allow, is_class, is_true_for, mentioned, mention_of_mask};
+ghost use Rattle.acl_list.specs.Deciding.{allows, is_allow, is_class, is_true_for, match_of, first_match_of_mask};
 ghost use Rattle.acl_list.specs.Deciding as specs;
 ghost use Rattle.acl_list.specs.Verdicts.{IsVerdict, verdict};
-ghost use Rattle.acl_list.specs.declared.answer.Mention.TheVariants.{AllowedBy, DeniedBy};
+ghost use Rattle.acl_list.specs.declared.answer.FirstMatch.TheVariants.{AllowedBy, DeniedBy};
 
-use crate::answer::{Mention, Verdict};
+use crate::answer::{FirstMatch, Verdict};
 use crate::entry::{Entry, EntryKind, Who};
 use crate::list::AclList;
 use rpc_record::Caller;
 use std::alloc::Allocator;
 
-/// Whether a who is true of the caller, for an object of this owner and group (RFC 8881, section 6.2.1.5).
+/// Whether a principal names the caller, for an object of this owner and group (RFC 8881, section 6.2.1.5).
 fn is_true_of(who: Who, owner: u32, group: u32, caller: &Caller) -> bool
     ensures { result ≡ is_true_for owner group caller.now who }
 {
@@ -25,15 +25,15 @@ fn is_true_of(who: Who, owner: u32, group: u32, caller: &Caller) -> bool
     }
 }
 
-/// Whether an entry is for the object itself, which has this owner and group, and for this caller.
-/// It isn't INHERIT_ONLY then, and its who is true of the caller.
+/// Whether an ACE concerns the object itself, which has this owner and group, and this caller: it isn't INHERIT_ONLY,
+/// and its principal names the caller.
 pub fn concerns(entry: &Entry, owner: u32, group: u32, caller: &Caller) -> bool
     ensures { result ≡ specs.concerns (is_true_for owner group caller.now) entry.now }
 {
     !entry.is_inherit_only() && is_true_of(entry.who, owner, group, caller)
 }
 
-/// Whether an entry is an ALLOW or a DENY for this object and caller.
+/// Whether an ACE is an ALLOW or a DENY for this object and caller.
 fn applies(entry: &Entry, owner: u32, group: u32, caller: &Caller) -> bool
     ensures { result ≡ specs.applies (is_true_for owner group caller.now) entry.now }
 {
@@ -41,58 +41,58 @@ fn applies(entry: &Entry, owner: u32, group: u32, caller: &Caller) -> bool
         && concerns(entry, owner, group, caller)
 }
 
-/// The entry of an object's list that decides a bit for the caller: the first that applies and has it.
+/// The ACE of an object's ACL that decides a bit for the caller: the first that applies and has the bit.
 ///
-/// `bit` is a mask of one bit. Of a mask with several, the first entry that applies and has any of them is given; no
-/// entry mentions the mask 0. The object has this owner and group. It takes no memory.
-pub fn mention<A: Allocator>(
+/// `bit` is a mask of one bit. For a mask of several bits, the result is the first ACE that applies and has any of
+/// them. No ACE matches the mask 0. The object has this owner and group. The function allocates nothing.
+pub fn first_match<A: Allocator>(
     list: &AclList<A>,
     owner: u32,
     group: u32,
     caller: &Caller,
     bit: u32,
-) -> Mention
-    ensures of_mask { result ≡ mentioned (mention_of_mask (is_true_for owner group caller.now) list.now bit) }
+) -> FirstMatch
+    ensures of_mask { result ≡ match_of (first_match_of_mask (is_true_for owner group caller.now) list.now bit) }
     ensures of_bit { (place : ℕ) → bit ≡ 2 ^ place →
-        result ≡ mentioned (specs.mention (is_true_for owner group caller.now) list.now place) }
+        result ≡ match_of (specs.first_match (is_true_for owner group caller.now) list.now place) }
 {
-    mention_in(list.as_slice(), owner, group, caller, bit)
+    first_match_in(list.as_slice(), owner, group, caller, bit)
 }
 
-/// The entry of a slice that decides a bit.
-pub(crate) fn mention_in(
+/// The ACE of a slice that decides a bit.
+pub(crate) fn first_match_in(
     entries: &[Entry],
     owner: u32,
     group: u32,
     caller: &Caller,
     mask: u32,
-) -> Mention
-    ensures { result ≡ mentioned (mention_of_mask (is_true_for owner group caller.now) entries.now mask) }
+) -> FirstMatch
+    ensures { result ≡ match_of (first_match_of_mask (is_true_for owner group caller.now) entries.now mask) }
 {
     for (index, entry) in entries.iter().enumerate() {
         if applies(entry, owner, group, caller) && entry.mask & mask != 0 {
             return decided_by(entry.kind, index);
         }
     }
-    Mention::Unmentioned
+    FirstMatch::Unmatched
 }
 
-/// The mention by the entry of this type and index.
-fn decided_by(kind: EntryKind, index: usize) -> Mention
+/// The result if an ACE of this type, ALLOW or DENY, at this index decides the bit.
+fn decided_by(kind: EntryKind, index: usize) -> FirstMatch
     ensures { result ≡ (if is_allow kind then AllowedBy index else DeniedBy index) }
 {
     if kind == EntryKind::Allow {
-        Mention::AllowedBy(index)
+        FirstMatch::AllowedBy(index)
     } else {
-        Mention::DeniedBy(index)
+        FirstMatch::DeniedBy(index)
     }
 }
 
-/// The verdict of an object's list on the mask, for the caller (RFC 8881, section 6.2.1).
+/// The verdict of an object's ACL on the mask, for the caller (RFC 8881, section 6.2.1).
 ///
-/// Entries are processed in order. Those count that are ALLOW or DENY, aren't INHERIT_ONLY, and whose who is true of
-/// the caller; the first that has a bit decides it. All 32 bits of the mask are judged. The object has this owner and
-/// group. It takes no memory.
+/// ACEs are processed in order. An ACE applies if it is an ALLOW or DENY, isn't INHERIT_ONLY, and its principal names
+/// the caller. The first that applies and has a bit decides the bit. All 32 bits of the mask are judged. The object has
+/// this owner and group. The function allocates nothing.
 pub fn judge<A: Allocator>(
     list: &AclList<A>,
     owner: u32,
@@ -125,9 +125,9 @@ fn judge_entries(entries: &[Entry], owner: u32, group: u32, caller: &Caller, mas
     }
 }
 
-/// The bits that the list allows a class, for its mode (RFC 8881, section 6.3.2). Only the entries
-/// of this special identifier and of EVERYONE@ count. For the who of a user or a group of its own,
-/// only those of EVERYONE@ count. It takes no memory.
+/// The permissions that the ACL allows a class, from which its mode bits are computed (RFC 8881, section 6.3.2). Only
+/// ACEs for this special identifier and for EVERYONE@ count. If the class is a named user or group, only the ACEs for
+/// EVERYONE@ count. The function allocates nothing.
 pub fn class_grant<A: Allocator>(list: &AclList<A>, class: Who) -> u32
     ensures exact { result ≡ mask_of (allows (is_class class) list.now) }
     ensures bitwise { BitsAre result (allows (is_class class) list.now) }
@@ -155,7 +155,7 @@ fn class_grant_of(entries: &[Entry], class: Who) -> u32
     granted
 }
 
-/// Whether an entry is for the object itself, and for this class or EVERYONE@.
+/// Whether an ACE concerns the object itself, and its principal is this class or EVERYONE@.
 fn is_for_class(entry: &Entry, class: Who) -> bool
     ensures { result ≡ specs.concerns (is_class class) entry.now }
 {

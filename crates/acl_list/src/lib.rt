@@ -1,6 +1,6 @@
-//! Access control lists: their entries and their verdicts (RFC 8881, sections 6.2.1 and 6.3.2).
+//! Access control lists (ACLs): their entries (ACEs) and their verdicts (RFC 8881, sections 6.2.1 and 6.3.2).
 //!
-//! Only the making of lists takes memory: a decision always has an answer.
+//! Only functions that build an ACL allocate: a verdict never fails.
 #![tactic(auto)]
 
 mod answer;
@@ -13,11 +13,11 @@ pub mod mask;
 mod plain;
 mod summing;
 
-pub use answer::{Mention, Summary, Verdict};
-pub use deciding::{class_grant, concerns, judge, mention};
+pub use answer::{FirstMatch, Summary, Verdict};
+pub use deciding::{class_grant, concerns, first_match, judge};
 pub use entry::{Entry, EntryKind, Kind, Who};
 pub use laws::{
-    bit_is_its_mention, constants_are_places, covered_is_granted, unwatched_writes_nothing,
+    bit_is_its_first_match, constants_are_places, covered_is_granted, unwatched_writes_nothing,
     verdict_is_by_bits,
 };
 pub use list::AclList;

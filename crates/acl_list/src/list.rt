@@ -1,13 +1,13 @@
-//! A list of entries.
+//! An access control list (ACL).
 ghost use Rattle.std.specs.Prelude.{◌≡◌, ◌==◌, [], ◌∷◌, ◌++◌, length, OnOk, OnErr, IfOk};
 
 use crate::entry::Entry;
 use std::alloc::{AllocError, Allocator, Global};
 use std::marker::Model;
 
-/// An access control list: entries, in order. The first entry has the index 0.
+/// An access control list: access control entries (ACEs), in order. The first ACE has the index 0.
 ///
-/// It holds any entries. The number of entries of an object's list, and their form, are limited elsewhere.
+/// It holds any ACEs. Other crates limit the number and the form of the ACEs of an object's ACL.
 #[derive(Debug, Drop)]
 pub struct AclList<A: Allocator = Global> {
     entries: Vec<Entry, A>,
@@ -23,7 +23,7 @@ impl<A: Allocator> Model for AclList<A> {
 }
 
 impl<A: Allocator> AclList<A> {
-    /// A list with no entries. It takes no memory.
+    /// An ACL with no ACEs. The function allocates nothing.
     pub fn new(alloc: A) -> Self
         ensures { result ≡ [] }
     {
@@ -32,14 +32,14 @@ impl<A: Allocator> AclList<A> {
         }
     }
 
-    /// The list of these entries. It takes no memory.
+    /// The ACL of these ACEs. The function allocates nothing.
     pub fn from_vec(entries: Vec<Entry, A>) -> Self
         ensures { result ≡ entries.items }
     {
         Self { entries }
     }
 
-    /// Gives the entries back. It takes no memory.
+    /// Returns the ACEs. The function allocates nothing.
     pub fn into_vec(self) -> Vec<Entry, A>
         ensures { result.items ≡ self }
     {
@@ -47,7 +47,7 @@ impl<A: Allocator> AclList<A> {
         entries
     }
 
-    /// A copy of these entries. `Err`: there is no memory for them.
+    /// A copy of these ACEs. `Err`: the allocation fails.
     pub fn from_slice(alloc: A, entries: &[Entry]) -> Result<Self, AllocError>
         ensures { IfOk result (λ list. list ≡ entries.now) }
     {
@@ -56,35 +56,35 @@ impl<A: Allocator> AclList<A> {
         })
     }
 
-    /// A copy of the list over another allocator. `Err`: it has no memory for it.
+    /// A copy of the ACL over another allocator. `Err`: the allocation fails.
     pub fn clone_in<B: Allocator>(&self, alloc: B) -> Result<AclList<B>, AllocError>
         ensures { IfOk result (λ list. list ≡ self.now) }
     {
         AclList::from_slice(alloc, self.as_slice())
     }
 
-    /// How many entries there are.
+    /// The number of ACEs.
     pub fn len(&self) -> usize
         ensures { result ≡ length self.now }
     {
         self.entries.len()
     }
 
-    /// Whether there are no entries.
+    /// Whether there are no ACEs.
     pub fn is_empty(&self) -> bool
         ensures { result ≡ (length self.now == 0) }
     {
         self.entries.is_empty()
     }
 
-    /// The entries, in order.
+    /// The ACEs, in order.
     pub fn as_slice(&self) -> &[Entry]
         ensures { result.now ≡ self.now }
     {
         self.entries.as_slice()
     }
 
-    /// Adds an entry at the end. `Err`: there is no memory for it, and the list is as it was.
+    /// Appends an ACE. `Err`: the allocation fails, and the ACL is unchanged.
     pub fn push(&mut self, entry: Entry) -> Result<(), AllocError>
         ensures ok { OnOk result (self.new ≡ self.old ++ entry ∷ []) }
         ensures err { OnErr result (self.new ≡ self.old) }

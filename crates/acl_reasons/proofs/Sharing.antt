@@ -23,7 +23,7 @@ without_one mask place bit = or_false (has_bit mask bit)
     or_false : (b : Bool) → b ≡ b || false
     or_false b = grind arith
 
--- the bits of the mask are those below the place that pass
+-- the bits of the mask are those that pass and are below the place
 abbrev pub Below : ℕ → (ℕ → Bool) → ℕ → Type 0
 Below mask test place = (bit : ℕ) → has_bit mask bit ≡ nat_lt bit place && test bit
 

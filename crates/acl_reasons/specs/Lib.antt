@@ -1,4 +1,4 @@
-pub mod Standings
+pub mod Applicabilities
 pub mod Reasons
 pub mod Shares
 pub mod Removals

@@ -1,5 +1,4 @@
--- An object's list, owner and group, by which access to it is decided, without the place of its
--- list.
+-- An object's access control list (ACL), owner and group, which decide on access to it, with the ACL by value.
 use Rattle.acl_reasons.specs.Removals.{Side}
 use Rattle.acl_reasons.specs.declared.removal.Governed.{Governed}
 

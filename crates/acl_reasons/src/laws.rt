@@ -1,4 +1,4 @@
-//! Laws that tie the bits that entries decide to the verdict.
+//! Laws that tie the bits that access control entries (ACEs) decide to the verdict.
 ghost use Rattle.std.specs.Prelude.{◌≡◌, ◌↔◌, ℕ, ◌^◌, ◌<◌, ◌&&◌, ◌||◌, Bool, true, List, IsSomeAnd, slice_get};
 ghost use Rattle.acl_list.specs.Mask.{has_bit};
 ghost use Rattle.acl_list.specs.Verdicts.{verdict};
@@ -10,9 +10,9 @@ ghost use Rattle.acl_reasons.specs.Reasons.{reason};
 ghost use Rattle.acl_reasons.specs.Shares.{counts_at, is_decided, is_decided_before};
 ghost use Rattle.acl_reasons.specs.declared.reason.Reason.TheVariants as reasons;
 
-/// Each asked bit is decided by one entry at most. Of the asked bits, an entry that applies has those that it decides
-/// and those that are decided before it, and no others. A mask is granted exactly where each of its bits is decided by
-/// an ALLOW. The entry that a reason names is a DENY that decides the bit of the reason.
+/// Each demanded bit is decided by at most one ACE. If an ACE applies, the demanded bits that it has are those that it
+/// decides and those that an earlier ACE decides. A mask is granted if and only if an ALLOW decides each of its bits.
+/// The ACE that a reason names is a DENY that decides the bit of the reason.
 pub fn shares_are_the_verdict()
     ensures one { (names : Who → Bool) (entries : List Entry) (mask i j place : ℕ) →
         is_decided names entries mask i place ≡ true → is_decided names entries mask j place ≡ true → i ≡ j }

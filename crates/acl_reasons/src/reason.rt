@@ -1,37 +1,37 @@
-//! The reason for the verdict of a list on a mask.
+//! The reason for the verdict of an access control list (ACL) on a mask.
 ghost use Rattle.std.specs.Prelude.{◌≡◌, ◌<◌, IsTrue};
 ghost use Rattle.acl_list.specs.Mask.{has_bit};
 ghost use Rattle.acl_list.specs.Deciding.{is_true_for};
 ghost use Rattle.acl_list.specs.Verdicts.{verdict};
 ghost use Rattle.acl_reasons.specs.Reasons as specs;
 
-use acl_list::{AclList, Mention, Verdict, judge, mention};
+use acl_list::{AclList, FirstMatch, Verdict, first_match, judge};
 use rpc_record::Caller;
 use std::alloc::Allocator;
 
-/// Why a list grants a mask or refuses it (RFC 8881, section 6.2.1).
+/// Why an ACL grants a mask or refuses it (RFC 8881, section 6.2.1).
 #[derive(Clone, Copy, Debug, PartialEq, Eq)]
 pub enum Reason {
-    /// Each bit of the mask is first mentioned by an ALLOW entry.
+    /// The first matching access control entry (ACE) of each bit of the mask is an ALLOW.
     Granted,
-    /// A DENY entry decides a bit of the mask.
+    /// A DENY ACE decides a bit of the mask.
     Denied {
-        /// The first such entry, by its index from 0.
+        /// The first of these ACEs, by its index from 0.
         entry: usize,
-        /// The lowest bit of the mask that this entry decides, as a mask.
+        /// The lowest bit of the mask that this ACE decides, as a mask.
         bit: u32,
     },
-    /// No entry denies a bit of the mask, and some are allowed by none.
+    /// No ACE denies a bit of the mask, and some bits are allowed by no ACE.
     Missing {
-        /// The lowest of these, as a mask.
+        /// The lowest of these bits, as a mask.
         bit: u32,
     },
 }
 
-/// Why an object's list grants the mask to the caller or refuses it. The object has this owner and group. It takes no
-/// memory.
+/// Why an object's ACL grants the mask to the caller or refuses it. The object has this owner and group. The function
+/// allocates nothing.
 ///
-/// It is the verdict of [`acl_list::judge`] with the bit that its entry denies.
+/// The reason is the verdict of [`acl_list::judge`], with the bit that its ACE denies.
 pub fn why<A: Allocator>(
     list: &AclList<A>,
     owner: u32,
@@ -52,7 +52,7 @@ pub fn why<A: Allocator>(
     }
 }
 
-/// The lowest bit of the mask that the entry at the index denies.
+/// The lowest bit of the mask that the ACE at the index denies.
 fn denied_bit<A: Allocator>(
     list: &AclList<A>,
     owner: u32,
@@ -71,7 +71,7 @@ fn denied_bit<A: Allocator>(
     0
 }
 
-/// Whether the mask has the bit of the place, and the entry at the index denies it.
+/// Whether the mask has the bit at this place, and the ACE at the index denies it.
 fn is_denied<A: Allocator>(
     list: &AclList<A>,
     owner: u32,
@@ -84,10 +84,10 @@ fn is_denied<A: Allocator>(
     ensures { result ≡ specs.is_denied (is_true_for owner group caller.now) list.now mask index place }
 {
     has_place(mask, place)
-        && mention(list, owner, group, caller, 1 << place) == Mention::DeniedBy(index)
+        && first_match(list, owner, group, caller, 1 << place) == FirstMatch::DeniedBy(index)
 }
 
-/// Whether the mask has the bit of the place.
+/// Whether the mask has the bit at this place.
 pub(crate) fn has_place(mask: u32, place: u32) -> bool
     ensures value { result ≡ has_bit mask place }
     ensures small { IsTrue result → place < 32 }

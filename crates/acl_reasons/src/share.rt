@@ -1,28 +1,28 @@
-//! The bits of an asked mask that an entry of a list decides.
+//! The bits of a demanded mask that an access control entry (ACE) decides.
 ghost use Rattle.std.specs.Prelude.{◌≡◌, ◌&&◌, ◌||◌, ◌==◌, ◌<◌, ℕ, slice_get};
 ghost use Rattle.acl_list.specs.Mask.{BitsAre, has_bit};
-ghost use Rattle.acl_list.specs.Deciding.{counts_for, is_true_for, mention as mention_of, mentioned};
+ghost use Rattle.acl_list.specs.Deciding.{counts_for, is_true_for, first_match as first_match_of, match_of};
 ghost use Rattle.acl_reasons.specs.Shares as specs;
 
+use crate::applicability::{Applicability, applicability_of};
 use crate::reason::has_place;
-use crate::standing::{Standing, standing_of};
-use acl_list::{AclList, Entry, Mention, mention};
+use acl_list::{AclList, Entry, FirstMatch, first_match};
 use rpc_record::Caller;
 use std::alloc::Allocator;
 
-/// The bits of an asked mask that an entry of a list has to do with, for a caller.
+/// How the bits of a demanded mask concern one ACE of an access control list (ACL), for a caller.
 #[derive(Clone, Copy, Debug, PartialEq, Eq)]
 pub struct Share {
-    /// The bits that the entry decides: it is the first that applies and has them.
+    /// The bits that the ACE decides: it is the first that applies and has them.
     pub decided: u32,
-    /// The bits that the entry has and would decide, but that an earlier entry decides.
+    /// The bits that the ACE has and would decide, but that an earlier ACE decides.
     pub before: u32,
 }
 
-/// The bits of the mask that the entry at the index decides for the caller, and those that are decided before it (RFC
-/// 8881, section 6.2.1). The object has this owner and group. It takes no memory.
+/// The bits of the mask that the ACE at the index decides for the caller, and those decided before it (RFC 8881,
+/// section 6.2.1). The object has this owner and group. The function allocates nothing.
 ///
-/// An entry that doesn't apply has neither, and there are none past the end of the list.
+/// For an ACE that doesn't apply, and for an index past the end of the ACL, both are empty.
 pub fn share_of<A: Allocator>(
     list: &AclList<A>,
     owner: u32,
@@ -49,7 +49,7 @@ pub fn share_of<A: Allocator>(
     share
 }
 
-/// The mask with the bit of the place too, where it is wanted.
+/// The mask, with the bit at this place too if it is wanted.
 fn with_bit(mask: u32, place: u32, wanted: bool) -> u32
     requires { place < 32 }
     ensures { (bit : ℕ) → has_bit result bit ≡ has_bit mask bit || (wanted && bit == place) }
@@ -57,7 +57,7 @@ fn with_bit(mask: u32, place: u32, wanted: bool) -> u32
     if wanted { mask | (1 << place) } else { mask }
 }
 
-/// Whether the mask has the bit of the place, and the entry at the index decides it.
+/// Whether the mask has the bit at this place, and the ACE at the index decides it.
 fn is_decided<A: Allocator>(
     list: &AclList<A>,
     owner: u32,
@@ -70,11 +70,11 @@ fn is_decided<A: Allocator>(
     requires { place < 32 }
     ensures { result ≡ specs.is_decided (is_true_for owner group caller.now) list.now mask index place }
 {
-    has_place(mask, place) && is_by(mention_at(list, owner, group, caller, place), index)
+    has_place(mask, place) && is_by(first_match_at(list, owner, group, caller, place), index)
 }
 
-/// Whether the mask has the bit of the place, the entry at the index applies and has it too, and an earlier entry
-/// decides it.
+/// Whether the mask has the bit at this place, the ACE at the index applies and has it too, and an earlier ACE decides
+/// it.
 fn is_decided_before<A: Allocator>(
     list: &AclList<A>,
     owner: u32,
@@ -89,10 +89,10 @@ fn is_decided_before<A: Allocator>(
 {
     has_place(mask, place)
         && counts_at(list, owner, group, caller, index, place)
-        && is_earlier(mention_at(list, owner, group, caller, place), index)
+        && is_earlier(first_match_at(list, owner, group, caller, place), index)
 }
 
-/// Whether there is an entry at the index, which applies and has the bit of the place.
+/// Whether there is an ACE at the index, which applies and has the bit at this place.
 fn counts_at<A: Allocator>(
     list: &AclList<A>,
     owner: u32,
@@ -109,43 +109,44 @@ fn counts_at<A: Allocator>(
     }
 }
 
-/// Whether the entry applies and has the bit of the place.
+/// Whether the ACE applies and has the bit at this place.
 fn counts(entry: &Entry, owner: u32, group: u32, caller: &Caller, place: u32) -> bool
     ensures { result ≡ counts_for (is_true_for owner group caller.now) place entry.now }
 {
-    standing_of(entry, owner, group, caller) == Standing::Applies && has_place(entry.mask, place)
+    applicability_of(entry, owner, group, caller) == Applicability::Applies
+        && has_place(entry.mask, place)
 }
 
-/// The entry that decides the bit of the place.
-fn mention_at<A: Allocator>(
+/// The ACE that decides the bit at this place.
+fn first_match_at<A: Allocator>(
     list: &AclList<A>,
     owner: u32,
     group: u32,
     caller: &Caller,
     place: u32,
-) -> Mention
+) -> FirstMatch
     requires { place < 32 }
-    ensures { result ≡ mentioned (mention_of (is_true_for owner group caller.now) list.now place) }
+    ensures { result ≡ match_of (first_match_of (is_true_for owner group caller.now) list.now place) }
 {
-    mention(list, owner, group, caller, 1 << place)
+    first_match(list, owner, group, caller, 1 << place)
 }
 
-/// Whether a bit of this mention is decided by the entry at the index.
-fn is_by(found: Mention, index: usize) -> bool
+/// Whether the ACE that decides the bit is the one at the index.
+fn is_by(found: FirstMatch, index: usize) -> bool
     ensures { result ≡ specs.is_by index found }
 {
     match found {
-        Mention::AllowedBy(other) | Mention::DeniedBy(other) => other == index,
-        Mention::Unmentioned => false,
+        FirstMatch::AllowedBy(other) | FirstMatch::DeniedBy(other) => other == index,
+        FirstMatch::Unmatched => false,
     }
 }
 
-/// Whether a bit of this mention is decided by an entry before the index.
-fn is_earlier(found: Mention, index: usize) -> bool
+/// Whether the ACE that decides the bit is before the index.
+fn is_earlier(found: FirstMatch, index: usize) -> bool
     ensures { result ≡ specs.is_earlier index found }
 {
     match found {
-        Mention::AllowedBy(other) | Mention::DeniedBy(other) => other < index,
-        Mention::Unmentioned => false,
+        FirstMatch::AllowedBy(other) | FirstMatch::DeniedBy(other) => other < index,
+        FirstMatch::Unmatched => false,
     }
 }

@@ -1,4 +1,4 @@
--- The length of lists.
+-- The length of access control lists (ACLs).
 use Rattle.std.proofs.Common.{◌≡◌, ℕ, ◌-◌, ◌≤◌, ◌∙◌, Bool, true, false, not, ◌||◌, cond, length, List, [], ◌∷◌, ◌++◌, Option, Some, None, refl, ap, sym, subst, arith, append-nil, length-append}
 use Rattle.std.specs.Prelude.{filter, is_some, IfSome, IfOk, IsErrAnd, MatchResult, Result, Ok, Err}
 use Rattle.std.specs.List.{filter_map, cons_option}
@@ -7,7 +7,7 @@ use Rattle.std.proofs.lemmas.List.Filters.{length-filter_both}
 use Rattle.std.proofs.lemmas.List.Sums.{length-filter, count_by-le-length}
 use Rattle.std.proofs.lemmas.Option.{none-some}
 use Rattle.acl_list.specs.Mask.{has_bit}
-use Rattle.acl_list.specs.Whos.{is_special}
+use Rattle.acl_list.specs.Principals.{is_special}
 use Rattle.acl_list.specs.Deciding.{allows_or_denies, is_allow}
 use Rattle.acl_list.proofs.Bits.{has_bit-zero}
 use Rattle.acl_list.specs.declared.entry.Entry.{Entry}
@@ -20,7 +20,7 @@ use Rattle.acl_shape.specs.Admitted.{admitted, entry_of}
 use Rattle.acl_shape.specs.Bounds.{keeps, IsBounded}
 use Rattle.acl_shape.specs.Inherited.{child, inherit, is_directory}
 use Rattle.acl_shape.specs.Mode.{class_mask, plain, kept, set_mode, group_digit}
-use Rattle.acl_shape.specs.Permissions.{created_list, changed_list, default_mode}
+use Rattle.acl_shape.specs.Permissions.{created_acl, changed_acl, default_mode}
 use Rattle.acl_shape.specs.declared.request.Raw.{Raw}
 
 -- ---- lists
@@ -45,7 +45,7 @@ shorter f (x ∷ xs) = go (f x) (shorter f xs)
     go None h = omega arith
     go (Some y) h = omega arith
 
--- at most 59 entries are within the bounds
+-- at most 59 access control entries (ACEs) are within the bounds
 pub IsBounded-short : (entries : List Entry) → length entries ≤ 59 → IsBounded entries
 IsBounded-short entries h = record { all = omega arith; kept = omega (arith, count_by-le-length keeps entries) }
 
@@ -57,12 +57,12 @@ counted_kept entries h = omega (arith, length-filter keeps entries, h.kept)
 filter_within : {X : Type 0} (p : X → Bool) (xs : List X) → length (filter p xs) ≤ length xs
 filter_within p xs = omega (arith, length-filter_both p (λ x. not (p x)) (λ x. refl) xs)
 
--- an entry that isn't kept adds nothing to the count
+-- an ACE that isn't kept adds nothing to the count
 uncounted : (kind : EntryKind) (mask : ℕ) (who : Who) (es : List Entry) → allows_or_denies kind ≡ true → is_special who ≡ true
     → filter keeps (plain kind mask who ∷ es) ≡ filter keeps es
 uncounted kind mask who es h k = rw (h, k, has_bit-zero 3, has_bit-zero 0, has_bit-zero 1)
 
--- the entries that a new mode keeps are of the kinds that it keeps
+-- a new mode keeps only ACEs that the bounds count
 kept_counts : (lacking : ℕ) (e k : Entry) → kept lacking e ≡ Some k → keeps e ≡ true
 kept_counts lacking e k h = go (not (allows_or_denies e.kind) || has_bit e.flags 3) (is_special e.who) (has_bit e.flags 0) (has_bit e.flags 1) _ _ _ h
   where
@@ -81,7 +81,7 @@ module _ (owner_mask owner_rest group_mask group_rest everyone_mask : ℕ) (midd
   abbrev ending : List Entry
   ending = plain Allow group_mask Group ∷ plain Deny group_rest Group ∷ plain Allow everyone_mask Everyone ∷ []
 
-  -- five entries more, none of which counts as kept
+  -- five ACEs more, none of which counts as kept
   IsBounded-around : length middle ≤ 59 → IsBounded (plain Allow owner_mask Owner ∷ plain Deny owner_rest Owner ∷ (middle ++ ending))
   IsBounded-around h = record {
     all = omega (arith, length-append middle ending);
@@ -118,7 +118,7 @@ IsBounded-inherit entries kind h =
     let short : length (inherit entries kind) ≤ 59 = omega (arith, length-filter_map (child kind) keeps (child_counts kind) entries, counted_kept entries h) in
     IsBounded-short (inherit entries kind) short
 
--- ---- lists that are admitted, made and changed
+-- ---- ACLs that are admitted, made and changed
 
 pub IsBounded-admitted : (kind : Kind) (raws : List Raw) → length raws ≤ 59 → IsBounded (admitted kind raws)
 IsBounded-admitted kind raws h = let short : length (admitted kind raws) ≤ 59 = omega (arith, shorter (entry_of kind) raws) in IsBounded-short (admitted kind raws) short
@@ -128,21 +128,21 @@ IsBounded-cond true x y h k = h
 IsBounded-cond false x y h k = k
 
 pub IsBounded-created : (parent : List Entry) (kind : Kind) (mode : Option ℕ) (list : Option (List Entry)) → IsBounded parent → IfSome list IsBounded
-    → IsBounded (created_list parent kind mode list)
+    → IsBounded (created_acl parent kind mode list)
 IsBounded-created parent kind mode (Some list) h k = k
 IsBounded-created parent kind (Some mode) None h k = IsBounded-set_mode (inherit parent kind) kind mode (IsBounded-inherit parent kind h)
 IsBounded-created parent kind None None h k =
     IsBounded-cond _ _ _ (IsBounded-set_mode [] kind (default_mode kind) (IsBounded-short [] (omega arith))) (IsBounded-inherit parent kind h)
 
 pub IsBounded-changed : (old : List Entry) (kind : Kind) (mode : Option ℕ) (list : Option (List Entry)) → IsBounded old → IfSome list IsBounded
-    → IsBounded (changed_list old kind mode list)
+    → IsBounded (changed_acl old kind mode list)
 IsBounded-changed old kind mode (Some list) h k = k
 IsBounded-changed old kind (Some mode) None h k = IsBounded-set_mode old kind mode h
 IsBounded-changed old kind None None h k = h
 
--- ---- the entries that are counted
+-- ---- the ACEs that are counted
 
--- a new mode keeps an entry exactly where the bounds count it
+-- a new mode keeps an ACE if and only if the bounds count it
 pub is_some-kept : (lacking : ℕ) (e : Entry) → is_some (kept lacking e) ≡ keeps e
 is_some-kept lacking e = go (allows_or_denies e.kind) (has_bit e.flags 3) (is_special e.who) (has_bit e.flags 0) (has_bit e.flags 1) (is_allow e.kind) e _ _
   where
@@ -157,7 +157,7 @@ is_some-kept lacking e = go (allows_or_denies e.kind) (has_bit e.flags 3) (is_sp
     go true false true false true allow x y z = grind arith
     go true false true false false allow x y z = grind arith
 
--- a list that is made is within the bounds where its definition is
+-- an ACL that is made is within the bounds if its definition is
 pub bounded_result : {E : Type 0} (r : Result (List Entry) E) (entries : List Entry) → IfOk r (λ new. new ≡ entries) → IsBounded entries → IfOk r IsBounded
 bounded_result (Ok new) entries h k = subst IsBounded (sym h) k
 bounded_result (Err e) entries h k = tt
@@ -166,7 +166,7 @@ ok_or_err : {F : Type 0} (Q : F → Type 0) (s : Result (List Entry) F) → IsEr
 ok_or_err Q (Ok new) h = absurd h
 ok_or_err Q (Err f) h = tt
 
--- a list that is made by another call is within the bounds where its definition is
+-- an ACL that another call makes is within the bounds if its definition is
 pub bounded_fault : {E F : Type 0} (Q : E → F → Type 0) (r : Result (List Entry) E) (s : Result (List Entry) F) (entries : List Entry)
     → MatchResult r (λ x. s ≡ Ok x) (λ x. IsErrAnd s (Q x)) → IfOk r (λ new. new ≡ entries) → IsBounded entries → IfOk s IsBounded
 bounded_fault Q (Ok new) s entries h k l = subst (λ (x : Result (List Entry) _). IfOk x IsBounded) (sym h) (subst IsBounded (sym k) l)

@@ -1,4 +1,4 @@
--- The bits that a list made from a mode allows.
+-- The bits that an access control list (ACL) made from a mode allows.
 use Rattle.std.proofs.Common.{◌≡◌, ℕ, ◌+◌, ◌-◌, ◌*◌, ◌/◌, ◌%◌, ◌<◌, ◌≤◌, ◌∙◌, Bool, nat_eq, true, false, not, ◌&&◌, ◌||◌, cond, List, [], ◌∷◌, ◌++◌, Option, Some, None, refl, ap, sym, subst, arith, inl, inr, ◌⊎◌, lit<, bit_and, bit_or}
 use Rattle.std.proofs.lemmas.Bool.{agree_below, agree_below_at, eqb-true, cond-true, cond-false, cases_lt}
 use Rattle.std.proofs.lemmas.List.Elements.{All-head, All-tail}
@@ -9,7 +9,7 @@ use mathlib.Core.Bool.{beq}
 use Rattle.acl_list.specs.Mask.{has_bit}
 use Rattle.acl_list.specs.Deciding.{allows, allows_or_denies, counts_for, is_class, is_true_for}
 use Rattle.rpc_record.specs.Identity.{Identity, is_member}
-use Rattle.acl_list.specs.Whos.{is_special}
+use Rattle.acl_list.specs.Principals.{is_special}
 use Rattle.std.specs.List.{filter_map, cons_option, All, AllByRecursion}
 use Rattle.acl_list.proofs.Allowing.{allows-cons}
 use Rattle.acl_list.proofs.Bits.{has_bit-or, has_bit-zero}
@@ -94,7 +94,7 @@ no_everyone_bit : (bit : ℕ) → bit < 7 → has_bit 0x120080 bit ≡ false
 unfolding has_bit
 no_everyone_bit bit h = agree_below_at (has_bit 0x120080) (λ _. false) 7 bit refl h
 
--- ---- the beginning of a list
+-- ---- the beginning of an ACL
 
 cond-or : (b r : Bool) → cond b true r ≡ b || r
 cond-or true r = refl
@@ -104,8 +104,8 @@ cond-and : (b r : Bool) → cond b false r ≡ not b && r
 cond-and true r = refl
 cond-and false r = refl
 
-no_who : (x n m : Bool) → n ≡ false → (x && n) && m ≡ false
-no_who x n m h = grind arith
+no_principal : (x n m : Bool) → n ≡ false → (x && n) && m ≡ false
+no_principal x n m h = grind arith
 
 decided : (x y r : Bool) → y ≡ not x → x || (not y && r) ≡ x
 decided x y r h = grind arith
@@ -120,7 +120,7 @@ or_false b = grind arith
 pub or_true : (b : Bool) → b || true ≡ true
 or_true b = grind arith
 
--- an entry that is kept is as it was, or in one of its two changed forms
+-- an access control entry (ACE) that is kept is unchanged, or in one of its two changed forms
 pub one_kept : (P : Entry → Type 0) (whole special inherited allow : Bool) (e flagged narrowed k : Entry)
     → cond whole (Some e) (cond special (cond inherited (Some flagged) None) (cond allow (Some narrowed) (Some e))) ≡ Some k
     → (whole ≡ true → P e) → (special ≡ true → P flagged) → (whole ≡ false → special ≡ false → allow ≡ true → P narrowed)
@@ -147,7 +147,7 @@ module _ (names : Who → Bool) (bit : ℕ) where
   plain_other : (kind : EntryKind) (mask : ℕ) (who : Who) (es : List Entry) → names who ≡ false → allows names (plain kind mask who ∷ es) bit ≡ allows names es bit
   plain_other kind mask who es h =
       allows-cons names (plain kind mask who) es bit
-      ∙ cond-false (counts_for names bit (plain kind mask who)) _ _ (counts-plain kind mask who ∙ no_who (allows_or_denies kind) (names who) (has_bit mask bit) h)
+      ∙ cond-false (counts_for names bit (plain kind mask who)) _ _ (counts-plain kind mask who ∙ no_principal (allows_or_denies kind) (names who) (has_bit mask bit) h)
 
   plain_allow : (mask : ℕ) (who : Who) (es : List Entry) → names who ≡ true → allows names (plain Allow mask who ∷ es) bit ≡ has_bit mask bit || allows names es bit
   plain_allow mask who es h =
@@ -168,9 +168,9 @@ module _ (names : Who → Bool) (bit : ℕ) where
       plain_allow mask who (plain Deny others who ∷ es) h ∙ ap (λ b. has_bit mask bit || b) (plain_deny others who es h)
       ∙ decided (has_bit mask bit) (has_bit others bit) (allows names es bit) k
 
-  -- ---- the entries that are kept
+  -- ---- the ACEs that are kept
 
-  -- an entry that is no named ALLOW or DENY of these whos
+  -- an ACE that is no named ALLOW or DENY of these principals
   abbrev pub IsQuiet : Entry → Type 0
   IsQuiet e = is_named e && names e.who ≡ false
 
@@ -251,7 +251,7 @@ module _ (names : Who → Bool) (bit : ℕ) where
         ∙ plain_other Deny (class_mask kind (7 - group_digit mode)) Group everyone k
         ∙ plain_allow (bit_or (class_mask kind (others_digit mode)) 0x120080) Everyone [] l ∙ or_false _ ∙ everyone_more
 
--- a who that isn't a special identifier is in no class
+-- a principal that isn't a special identifier is in no class
 no_class : (class who : Who) → is_special who ≡ false → is_class class who ≡ false
 no_class class Owner h = cc
 no_class class Group h = cc
@@ -270,7 +270,7 @@ no_class (GroupOf m) (GroupOf n) h = refl
 quiet_tests : (a s n : Bool) → (s ≡ false → n ≡ false) → (a && not s) && n ≡ false
 quiet_tests a s n h = grind arith
 
--- the entries of one special identifier and of EVERYONE@ are not named
+-- the ACEs of one special identifier and of EVERYONE@ are not named
 quiet_class : (class : Who) (bit : ℕ) (es : List Entry) → AllByRecursion (IsQuiet (is_class class) bit) es
 quiet_class class bit [] = tt
 quiet_class class bit (e ∷ es) = (quiet_tests _ (is_special e.who) (is_class class e.who) (no_class class e.who), quiet_class class bit es)
@@ -320,7 +320,7 @@ mode_of-set_mode entries kind mode =
     ∙ digit_of-class_mask kind (others_digit mode) (omega arith) in
     three_digits mode _ _ _ owner group others ∙ sym (and_mask mode 9)
 
--- an entry that is not named is quiet for every who
+-- an ACE that is not named is quiet for every principal
 quiet_unnamed : (names : Who → Bool) (bit : ℕ) (es : List Entry) → All (λ e. is_named e ≡ false) es → AllByRecursion (IsQuiet names bit) es
 quiet_unnamed names bit [] h = tt
 quiet_unnamed names bit (e ∷ es) h =

@@ -1,4 +1,4 @@
--- The first thing that is wrong with a list that a client asks for.
+-- The first fault of an access control list (ACL) that a client asks for.
 use Rattle.std.proofs.Common.{◌≡◌, ℕ, ◌+◌, ◌<◌, ◌≤◌, ◌∙◌, nat_lt, List, [], ◌++◌, Some, None, length, take, drop, get_or, ap, sym, ◌⊎◌, inl, inr}
 use Rattle.std.proofs.lemmas.Bool.{le-ltb, lt-ltb, cond-false, cond-true, cases_lt}
 use Rattle.std.proofs.lemmas.List.{drop_more}
@@ -11,7 +11,7 @@ use Rattle.acl_shape.specs.declared.request.Raw.{Raw}
 use Rattle.acl_shape.specs.declared.request.AdmitFault.{AdmitFault}
 use Rattle.acl_shape.specs.declared.request.AdmitFault.TheVariants.{NoSpc}
 
--- the first fault of a list that isn't too long is the first fault of an entry
+-- the first fault of an ACL that isn't too long is the first fault of an access control entry (ACE)
 pub first_fault-short : (raws : List Raw) → length raws ≤ 59 → first_fault raws ≡ slice_get (filter_map fault_of raws) 0
 first_fault-short raws h = cond-false (nat_lt 59 (length raws)) (Some NoSpc) (slice_get (filter_map fault_of raws) 0) (le-ltb 59 (length raws) h)
 
@@ -24,7 +24,7 @@ first_found raws i d e short within none found =
     ∙ ap (λ faults. faults ++ filter_map fault_of (drop i raws)) none ∙ ap (filter_map fault_of) (drop_more raws i d within)
     ∙ ap (λ o. cons_option o (filter_map fault_of (drop (i + 1) raws))) found)
 
--- a list without a fault isn't too long
+-- an ACL without a fault isn't too long
 pub faultless_is_short : (raws : List Raw) → first_fault raws ≡ None → length raws ≤ 59
 faultless_is_short raws h = go (cases_lt 59 (length raws))
   where

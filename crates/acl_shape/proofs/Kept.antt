@@ -1,4 +1,4 @@
--- The list of an object stays as it is when a mode is set again.
+-- Setting a mode again leaves the access control list (ACL) of an object unchanged.
 use Rattle.std.proofs.Common.{◌≡◌, ℕ, ◌-◌, ◌∙◌, true, not, ◌||◌, List, [], ◌∷◌, ◌++◌, Option, Some, None, bit_and, bit_or, refl, ap, w32, append-nil}
 use Rattle.std.specs.Int.{bit_not}
 use Rattle.std.specs.List.{filter_map, cons_option}
@@ -6,7 +6,7 @@ use Rattle.std.proofs.lemmas.List.Elements.{filter_map-append}
 use Rattle.std.proofs.lemmas.Nat.{and_assoc}
 use Rattle.std.specs.Int.Bits.{and_self}
 use Rattle.acl_list.specs.Mask.{has_bit}
-use Rattle.acl_list.specs.Whos.{is_special}
+use Rattle.acl_list.specs.Principals.{is_special}
 use Rattle.acl_list.specs.Deciding.{allows_or_denies, is_allow}
 use Rattle.acl_list.proofs.Bits.{has_bit-or, has_bit-zero}
 use Rattle.acl_list.specs.declared.entry.Entry.{Entry}
@@ -56,7 +56,7 @@ module _ (lacking owner_mask owner_rest group_mask group_rest everyone_mask : �
   abbrev closing : List Entry
   closing = plain Allow group_mask Group ∷ plain Deny group_rest Group ∷ plain Allow everyone_mask Everyone ∷ []
 
-  -- of a list made from a mode exactly the kept part is kept
+  -- of an ACL made from a mode, exactly the kept part is kept
   kept_part : filter_map (kept lacking) (plain Allow owner_mask Owner ∷ plain Deny owner_rest Owner ∷ (filter_map (kept lacking) entries ++ closing))
       ≡ filter_map (kept lacking) entries
   kept_part =

@@ -1,4 +1,4 @@
--- The length of lists by their parts, and the reading of a part.
+-- The length of access control lists (ACLs) by their parts, and the reading of a part.
 use Rattle.std.proofs.Common.{◌≡◌, ◌∙◌, ℕ, ◌+◌, ◌-◌, ◌<◌, ◌≤◌, Bool, true, false, not, ◌&&◌, ◌||◌, cond, length, List, [], ◌∷◌, ◌++◌, Option, Some, None, unwrap_or, refl, ap, sym, arith, append-nil, length-append}
 use Rattle.std.specs.Prelude.{filter, count_by, nat_le}
 use Rattle.std.specs.List.{cons_option, filter_map, list_all}
@@ -16,7 +16,7 @@ use Rattle.acl_shape.specs.Parts.{combined, is_of, part_of, parts_fit, with_part
 use Rattle.acl_shape.specs.declared.part.Part.TheVariants.{Dacl, Sacl}
 use Rattle.acl_shape.specs.declared.request.Raw.{Raw}
 
--- ---- the entries that pass two tests
+-- ---- the access control entries (ACEs) that pass two tests
 
 passed_again : {X : Type 0} (p : X → Bool) (xs : List X) → filter p (filter p xs) ≡ filter p xs
 passed_again p [] = refl
@@ -82,7 +82,7 @@ IsBounded-parts entries None None h k = h
 IsBounded-parts entries (Some dacl) sacl h k = IsBounded-fits (combined entries (Some dacl) sacl) k
 IsBounded-parts entries None (Some sacl) h k = IsBounded-fits (combined entries None (Some sacl)) k
 
--- ---- the entries that are counted
+-- ---- the ACEs that are counted
 
 count_of_passed : {X : Type 0} (p q : X → Bool) (xs : List X) → count_by q (filter p xs) ≡ count_by (λ x. p x && q x) xs
 count_of_passed p q [] = refl
@@ -99,7 +99,7 @@ same_count p q h (x ∷ xs) =
     sum_by-cons (λ x. cond (p x) 1 0) x xs ∙ ap (λ (b : Bool). cond b 1 0 + count_by p xs) (h x)
     ∙ ap (λ (n : ℕ). cond (q x) 1 0 + n) (same_count p q h xs) ∙ sym (sum_by-cons (λ x. cond (q x) 1 0) x xs)
 
--- a new mode keeps each entry of the sacl
+-- a new mode keeps each ACE of the sacl
 all_watching_kept : (e : Entry) → is_of Sacl e && keeps e ≡ is_of Sacl e
 all_watching_kept e = go (not (allows_or_denies e.kind)) _ _ _ _
   where
@@ -107,7 +107,7 @@ all_watching_kept e = go (not (allows_or_denies e.kind)) _ _ _ _
     go true a b c d = refl
     go false a b c d = refl
 
--- the bounds of two parts, by how many entries each has and how many of them a new mode keeps
+-- the bounds of two parts, by the number of ACEs in each and the number of them that a new mode keeps
 pub fits_by_counts : (xs ys : List Entry) → fits (part_of Dacl xs ++ part_of Sacl ys)
     ≡ nat_le (count_by (is_of Dacl) xs + count_by (is_of Sacl) ys) 64 && nat_le (count_by (λ e. is_of Dacl e && keeps e) xs + count_by (is_of Sacl) ys) 59
 fits_by_counts xs ys =
@@ -149,10 +149,9 @@ pub too_many_in_all : (xs ys : List Entry) (w a : ℕ) → w ≡ count_by (is_of
 too_many_in_all xs ys w a h k p q =
     many_in_all w a (count_by (λ e. is_of Dacl e && keeps e) xs) p q ∙ counted_fits xs ys w a _ (record { watching = h; all = k; kept = refl })
 
--- ---- the entries that are set
+-- ---- the ACEs that are set
 
--- each entry of the set list passes the test, where each entry that was sent is set as one that
--- does, or left out
+-- each ACE of the set ACL passes the test, if each ACE that was sent is left out or set as one that passes
 pub each_becomes : (test : Entry → Bool) (kind : Kind) (raws : List Raw) → list_all (λ raw. list_all test (cons_option (entry_of kind raw) [])) raws ≡ list_all test (admitted kind raws)
 each_becomes test kind [] = refl
 each_becomes test kind (raw ∷ raws) = go (entry_of kind raw) (each_becomes test kind raws)

@@ -1,4 +1,5 @@
--- The entries that a new object inherits from its directory's list (RFC 8881, sections 6.2.1.4.1 and 6.4.3.1).
+-- The access control entries (ACEs) that a new object inherits from its directory's access control list (ACL) (RFC
+-- 8881, sections 6.2.1.4.1 and 6.4.3.1).
 use Rattle.std.specs.Prelude.{Bool, true, false, if◌then◌else◌, List, Option, Some, None, bit_and}
 use Rattle.std.specs.Int.{bit_not, w32}
 use Rattle.std.specs.List.{filter_map}
@@ -15,18 +16,18 @@ is_directory File = false
 is_directory Directory = true
 is_directory Link = false
 
--- the entry for the object alone: FILE_INHERIT, DIRECTORY_INHERIT, NO_PROPAGATE and INHERIT_ONLY
--- cleared, the other four kept
+-- the ACE for the object alone: FILE_INHERIT, DIRECTORY_INHERIT, NO_PROPAGATE and INHERIT_ONLY cleared, the other four
+-- flags kept
 abbrev pub settled : Entry → Entry
 settled e = record e { flags = bit_and e.flags 0xf0 }
 
--- the entry for the object itself, to be passed on as before
+-- the ACE for the object itself, which the object passes on as its directory does
 abbrev pub passed_on : Entry → Entry
 passed_on e = record e { flags = bit_and e.flags (bit_not w32 flag.INHERIT_ONLY) }
 
--- The entry that a new directory inherits. With DIRECTORY_INHERIT it applies to the new directory,
--- and is passed on unless NO_PROPAGATE is set. With FILE_INHERIT alone it doesn't apply; it is only
--- passed on, so NO_PROPAGATE leaves nothing of it.
+-- The ACE that a new directory inherits. With DIRECTORY_INHERIT the ACE applies to the new directory, and is passed on
+-- unless NO_PROPAGATE is set. With FILE_INHERIT alone the ACE doesn't apply to it and is only passed on. With
+-- NO_PROPAGATE too, nothing is inherited.
 abbrev pub directory_child : Entry → Option Entry
 directory_child e =
     if has_bit e.flags directory_inherit
@@ -34,14 +35,14 @@ directory_child e =
     else if has_bit e.flags file_inherit then (if has_bit e.flags no_propagate then None else Some (set_aside e))
     else None
 
--- the entry that a new file or link inherits: an entry for files, for the object alone
+-- the ACE that a new file or link inherits: one with FILE_INHERIT, for the object alone
 abbrev pub file_child : Entry → Option Entry
 file_child e = if has_bit e.flags file_inherit then Some (settled e) else None
 
--- the entry that a new object of this kind inherits
+-- the ACE that a new object of this type inherits
 abbrev pub child : Kind → Entry → Option Entry
 child kind e = if is_directory kind then directory_child e else file_child e
 
--- the inherited list: entry by entry, in order
+-- the inherited ACL: ACE by ACE, in order
 abbrev pub inherit : List Entry → Kind → List Entry
 inherit entries kind = filter_map (child kind) entries

@@ -1,4 +1,4 @@
-//! A list that a client asks for, or a part of one.
+//! An access control list (ACL) that a client asks for, or its dacl or sacl.
 ghost use Rattle.std.specs.Prelude.{◌≡◌, ◌≤◌, [], length, Some, None, Err, IfOk, MatchResult};
 ghost use Rattle.std.specs.List.{cons_option, list_all};
 ghost use Rattle.acl_shape.specs.Admitted.{admitted, entry_of, fault_of, first_fault, part_fault};
@@ -14,7 +14,7 @@ use crate::request::{AdmitFault, Raw};
 use acl_list::{AclList, Entry, EntryKind, Kind, flag, mask};
 use std::alloc::{AllocError, Allocator};
 
-/// The fault of an entry, if any.
+/// The fault of an access control entry (ACE), if any.
 fn fault(raw: &Raw) -> Option<AdmitFault>
     ensures { result ≡ fault_of raw.now }
 {
@@ -29,7 +29,7 @@ fn fault(raw: &Raw) -> Option<AdmitFault>
     }
 }
 
-/// The first fault of a list, if any.
+/// The first fault of an ACL, if any.
 fn refusal(raws: &[Raw]) -> Option<AdmitFault>
     ensures { result ≡ first_fault raws.now }
 {
@@ -44,7 +44,7 @@ fn refusal(raws: &[Raw]) -> Option<AdmitFault>
     None
 }
 
-/// The entry that is set on an object of this kind.
+/// The ACE that is set on an object of this type.
 fn entry(raw: &Raw, kind: Kind) -> Option<Entry>
     ensures { result ≡ entry_of kind raw.now }
 {
@@ -63,16 +63,14 @@ fn entry(raw: &Raw, kind: Kind) -> Option<Entry>
     }
 }
 
-/// The list that is set on an object of this kind, over `alloc`: a client's, checked (RFC 8881,
-/// sections 6.2.1 and 6.4.1.2).
+/// The ACL that is set on an object of this type, over `alloc`: a client's ACL, checked (RFC 8881, sections 6.2.1 and
+/// 6.4.1.2).
 ///
-/// A list is refused for the first of these that it has. First comes that it has more than
-/// [`MAX_KEPT`] entries (`NoSpc`). Then entry by entry, in their order, come a type above 3
-/// (`AttrNotSupp`), a flag above 0xff or an undefined bit of the mask (`Inval`), and a who that
-/// isn't known (`BadOwner`). Inheritance flags are taken on every kind of object. On a file or a
-/// link, INHERIT_ONLY entries are left out and FILE_INHERIT, DIRECTORY_INHERIT and NO_PROPAGATE are
-/// cleared. IDENTIFIER_GROUP is kept, also on OWNER@, GROUP@ and EVERYONE@, where it says nothing.
-/// `Memory` is given only for a list that has no fault.
+/// An ACL is refused for its first fault in this order. First: it has more than [`MAX_KEPT`] ACEs (`NoSpc`). Then, for
+/// each ACE in order: a type above 3 (`AttrNotSupp`), flags above 0xff or an undefined mask bit (`Inval`), an unknown
+/// principal (`BadOwner`). Inheritance flags are accepted on objects of every type. On a file or a link, INHERIT_ONLY
+/// ACEs are left out, and FILE_INHERIT, DIRECTORY_INHERIT and NO_PROPAGATE are cleared. IDENTIFIER_GROUP is kept, also
+/// on OWNER@, GROUP@ and EVERYONE@, where it means nothing. `Memory` is returned only for an ACL that has no fault.
 pub fn admit<A: Allocator>(alloc: A, raws: &[Raw], kind: Kind) -> Result<AclList<A>, AdmitFault>
     ensures refused { (fault : AdmitFault) → first_fault raws.now ≡ Some fault → result ≡ Err fault }
     ensures taken { first_fault raws.now ≡ None →
@@ -85,7 +83,7 @@ pub fn admit<A: Allocator>(alloc: A, raws: &[Raw], kind: Kind) -> Result<AclList
     faultless(alloc, raws, kind)
 }
 
-/// The list of entries that have no fault.
+/// The ACL of ACEs that have no fault.
 fn faultless<A: Allocator>(alloc: A, raws: &[Raw], kind: Kind) -> Result<AclList<A>, AdmitFault>
     requires { length raws.now ≤ 59 }
     ensures taken { MatchResult result (λ new. new ≡ admitted kind raws.now) (λ fault. fault ≡ Memory) }
@@ -106,7 +104,7 @@ fn admitted_of<A: Allocator>(alloc: A, raws: &[Raw], kind: Kind) -> Result<AclLi
     Ok(new)
 }
 
-/// Whether the entry that is set on an object of this kind is of the part, or none is set.
+/// Whether the ACE that is set on an object of this type is of the part. True if no ACE is set.
 fn becomes_of(raw: &Raw, kind: Kind, part: Part) -> bool
     ensures { result ≡ list_all (is_of part) (cons_option (entry_of kind raw.now) []) }
 {
@@ -116,19 +114,18 @@ fn becomes_of(raw: &Raw, kind: Kind, part: Part) -> bool
     }
 }
 
-/// Whether each entry of the list that is set on an object of this kind is of the part.
+/// Whether each ACE of the ACL that is set on an object of this type is of the part.
 fn become_of(raws: &[Raw], kind: Kind, part: Part) -> bool
     ensures { result ≡ list_all (is_of part) (admitted kind raws.now) }
 {
     raws.iter().all(|raw| becomes_of(raw, kind, part))
 }
 
-/// The part that is set on an object of this kind, over `alloc`: a client's, checked (RFC 8881,
-/// sections 6.2.2 and 6.2.3).
+/// The dacl or sacl that is set on an object of this type, over `alloc`: a client's part, checked (RFC 8881, sections
+/// 6.2.2 and 6.2.3).
 ///
-/// It is refused and taken as [`admit`] does it, and then for an entry of the other part among
-/// those that are taken (`Inval`). The type of an entry that is left out doesn't count. `Memory` is
-/// given only for a part that has no fault.
+/// It is checked as by [`admit`]. After that, an ACE of the other part among those that are set is refused (`Inval`).
+/// The type of an ACE that is left out doesn't count. `Memory` is returned only for a part that has no fault.
 pub fn admit_part<A: Allocator>(
     alloc: A,
     raws: &[Raw],

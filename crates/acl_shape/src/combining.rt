@@ -1,4 +1,4 @@
-//! A list by its two parts: dacl and sacl.
+//! An access control list (ACL) by its two parts: dacl and sacl.
 ghost use Rattle.std.specs.Prelude.{◌≡◌, ◌&&◌, ◌++◌, count_by, true, false, unwrap_or, IsNone, Err, IfOk, IsOk};
 ghost use Rattle.std.specs.Prelude.{MatchResult, OnOk};
 ghost use Rattle.acl_shape.specs.Bounds.{IsBounded, fits, keeps};
@@ -12,18 +12,18 @@ use acl_list::{AclList, Entry};
 use std::alloc::{AllocError, Allocator};
 use thiserror::Error;
 
-/// Why parts aren't put into a list.
+/// Why parts aren't put into an ACL.
 #[derive(Clone, Copy, Debug, PartialEq, Eq, Error)]
 pub enum CombineFault {
-    /// NFS4ERR_NOSPC: the list would not be within the bounds of [`crate::is_bounded`].
+    /// NFS4ERR_NOSPC: the ACL would not be within the bounds of [`crate::is_bounded`].
     #[error("a list beyond its bounds")]
     NoSpc,
-    /// There is no memory for the list.
+    /// The allocation of the ACL fails.
     #[error("out of memory")]
     Memory,
 }
 
-/// The entries that a part is taken from: those that are given, else the list's own.
+/// The access control entries (ACEs) that a part is taken from: those that are given, else those of the ACL.
 fn source<'a, B: Allocator, C: Allocator>(
     part: Option<&'a AclList<C>>,
     list: &'a AclList<B>,
@@ -36,7 +36,7 @@ fn source<'a, B: Allocator, C: Allocator>(
     }
 }
 
-/// How many of the dacl's entries a new mode keeps.
+/// The number of ACEs of the dacl that a new mode keeps.
 fn kept_dacl_count(entries: &[Entry]) -> usize
     ensures { result ≡ count_by (λ e. is_of Part.Dacl e && keeps e) entries.now }
 {
@@ -46,7 +46,7 @@ fn kept_dacl_count(entries: &[Entry]) -> usize
         .count()
 }
 
-/// Whether the dacl of these entries and the sacl of those make a list within the bounds.
+/// Whether the dacl of the first ACEs and the sacl of the second make an ACL within the bounds.
 fn fits_together(dacl: &[Entry], sacl: &[Entry]) -> bool
     ensures { result ≡ fits (part_of Part.Dacl dacl.now ++ part_of Part.Sacl sacl.now) }
 {
@@ -60,7 +60,7 @@ fn fits_together(dacl: &[Entry], sacl: &[Entry]) -> bool
     kept_dacl_count(dacl) <= MAX_KEPT - watching
 }
 
-/// Adds those of the entries that are of the part.
+/// Appends those of the ACEs that are of the part.
 fn add_part<A: Allocator>(
     list: &mut AclList<A>,
     entries: &[Entry],
@@ -76,7 +76,7 @@ fn add_part<A: Allocator>(
     Ok(())
 }
 
-/// The dacl of these entries and the sacl of those.
+/// The dacl of the first ACEs and the sacl of the second.
 fn joined<A: Allocator>(alloc: A, dacl: &[Entry], sacl: &[Entry]) -> Result<AclList<A>, AllocError>
     ensures { IfOk result (λ new. new ≡ part_of Part.Dacl dacl.now ++ part_of Part.Sacl sacl.now) }
 {
@@ -86,13 +86,13 @@ fn joined<A: Allocator>(alloc: A, dacl: &[Entry], sacl: &[Entry]) -> Result<AclL
     Ok(new)
 }
 
-/// The list that two parts make, over `alloc` (RFC 8881, sections 6.2.2 and 6.2.3). It has the
-/// ALLOW and DENY entries of `dacl`, and after them the AUDIT and ALARM entries of `sacl`, each in
-/// their order. Where a part isn't given, the entries of `list` are taken for it. So with nothing
-/// given they are sorted, first those that allow or deny. Other entries of a part are left out.
+/// The ACL that two parts make, over `alloc` (RFC 8881, sections 6.2.2 and 6.2.3). It has the ALLOW and DENY ACEs of
+/// `dacl`, and after them the AUDIT and ALARM ACEs of `sacl`, each in their order. If a part isn't given, it is taken
+/// from the ACEs of `list`. If neither is given, the result has the ACEs of `list`, sorted: ALLOW and DENY first. ACEs
+/// of the wrong type in a part are left out.
 ///
-/// `NoSpc`: the list would not be within the bounds of [`crate::is_bounded`]. `Memory`: there is no
-/// memory for a list within.
+/// `NoSpc`: the ACL would not be within the bounds of [`crate::is_bounded`]. `Memory`: the ACL would be within them,
+/// and its allocation fails.
 pub fn combine<A: Allocator, B: Allocator, C: Allocator>(
     alloc: A,
     list: &AclList<B>,
@@ -113,11 +113,10 @@ pub fn combine<A: Allocator, B: Allocator, C: Allocator>(
     joined(alloc, dacl, sacl).map_err(|_| CombineFault::Memory)
 }
 
-/// The list with the parts that are given put into it by [`combine`], over `alloc`; the list itself
-/// where none is given.
+/// The ACL with the given parts put into it by [`combine`], over `alloc`; the ACL itself if no part is given.
 ///
-/// `NoSpc`: the list would not be within the bounds of [`crate::is_bounded`]. `Memory`: a part is
-/// given, and there is no memory for the list, which would be within them.
+/// `NoSpc`: the ACL would not be within the bounds of [`crate::is_bounded`]. `Memory`: a part is given, the ACL would
+/// be within the bounds, and its allocation fails.
 pub fn with_parts<A: Allocator>(
     alloc: A,
     list: AclList<A>,

@@ -1,4 +1,4 @@
-//! The entries that a new object inherits.
+//! The access control entries (ACEs) that a new object inherits.
 ghost use Rattle.std.specs.Prelude.{◌≡◌, IfOk};
 ghost use Rattle.acl_shape.specs.Bounds.{IsBounded};
 ghost use Rattle.acl_shape.specs.Inherited as specs;
@@ -6,10 +6,10 @@ ghost use Rattle.acl_shape.specs.Inherited as specs;
 use acl_list::{AclList, Entry, Kind, flag};
 use std::alloc::{AllocError, Allocator};
 
-/// The flags besides those of inheritance: SUCCESSFUL, FAILED, IDENTIFIER_GROUP and INHERITED.
+/// The flags that aren't about inheritance: SUCCESSFUL, FAILED, IDENTIFIER_GROUP and INHERITED.
 const OTHER_FLAGS: u32 = flag::SUCCESSFUL | flag::FAILED | flag::IDENTIFIER_GROUP | flag::INHERITED;
 
-/// The entry for the object alone.
+/// The ACE for the object alone, without inheritance flags.
 pub(crate) fn settled(entry: &Entry) -> Entry
     ensures { result ≡ specs.settled entry.now }
 {
@@ -19,7 +19,7 @@ pub(crate) fn settled(entry: &Entry) -> Entry
     }
 }
 
-/// The entry that a new object of this kind inherits from an entry of its directory.
+/// The ACE that a new object of this type inherits from an ACE of its directory.
 fn child(entry: &Entry, kind: Kind) -> Option<Entry>
     ensures { result ≡ specs.child kind entry.now }
 {
@@ -40,24 +40,25 @@ fn child(entry: &Entry, kind: Kind) -> Option<Entry>
     }
 }
 
-/// The list that a new object of this kind inherits from the list of its directory, over `alloc` (RFC 8881, sections
-/// 6.2.1.4.1 and 6.4.3.1).
+/// The access control list (ACL) that a new object of this type inherits from its directory's, over `alloc` (RFC 8881,
+/// sections 6.2.1.4.1 and 6.4.3.1).
 ///
-/// Each entry in turn gives the new object an entry or none. By its flags FILE_INHERIT (1), DIRECTORY_INHERIT (2) and
-/// NO_PROPAGATE (4), whether INHERIT_ONLY (8) is set or not:
+/// Each ACE in turn gives the new object one ACE or none. The result depends on the ACE's flags FILE_INHERIT (1),
+/// DIRECTORY_INHERIT (2) and NO_PROPAGATE (4), and not on INHERIT_ONLY (8):
 ///
 /// | 1 | 2 | 4 | A new directory gets | A new file or link gets |
 /// |---|---|---|---|---|
 /// | – | – | – | nothing | nothing |
 /// | – | – | set | nothing | nothing |
-/// | set | – | – | the entry with 8 set | the entry with 1, 2, 4 and 8 cleared |
-/// | set | – | set | nothing | the entry with 1, 2, 4 and 8 cleared |
-/// | – | set | – | the entry with 8 cleared | nothing |
-/// | – | set | set | the entry with 1, 2, 4 and 8 cleared | nothing |
-/// | set | set | – | the entry with 8 cleared | the entry with 1, 2, 4 and 8 cleared |
-/// | set | set | set | the entry with 1, 2, 4 and 8 cleared | the entry with 1, 2, 4 and 8 cleared |
+/// | set | – | – | the ACE with 8 set | the ACE with 1, 2, 4 and 8 cleared |
+/// | set | – | set | nothing | the ACE with 1, 2, 4 and 8 cleared |
+/// | – | set | – | the ACE with 8 cleared | nothing |
+/// | – | set | set | the ACE with 1, 2, 4 and 8 cleared | nothing |
+/// | set | set | – | the ACE with 8 cleared | the ACE with 1, 2, 4 and 8 cleared |
+/// | set | set | set | the ACE with 1, 2, 4 and 8 cleared | the ACE with 1, 2, 4 and 8 cleared |
 ///
-/// Every other flag, the type, the mask and the who are the entry's. `Err`: there is no memory for the list.
+/// All other flags, the type, the mask and the principal are those of the directory's ACE. `Err`: the allocation of the
+/// ACL fails.
 pub fn inherit<A: Allocator, B: Allocator>(
     alloc: A,
     list: &AclList<B>,

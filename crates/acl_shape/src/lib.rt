@@ -1,5 +1,5 @@
-//! How the list of an object comes from a mode, from the list of its directory and from a request
-//! (RFC 8881, sections 6.3.2 and 6.4).
+//! Makes the access control list (ACL) of an object from a mode, from its directory's ACL, and from a request (RFC
+//! 8881, sections 6.3.2 and 6.4).
 #![tactic(auto)]
 
 mod admitting;

@@ -1,4 +1,4 @@
-//! A list as a mode, and a mode as a list.
+//! The mode of an access control list (ACL), and the ACL of a mode.
 ghost use Rattle.std.specs.Prelude.{◌≡◌, ℕ, ◌-◌, ◌<◌, IfOk};
 ghost use Rattle.acl_list.specs.Mask.{has_bit};
 ghost use Rattle.acl_shape.specs.Bounds.{IsBounded};
@@ -8,7 +8,7 @@ ghost use Rattle.acl_shape.specs.Mode as specs;
 use acl_list::{AclList, Entry, EntryKind, Kind, Who, class_grant, flag, mask};
 use std::alloc::{AllocError, Allocator};
 
-/// The bits that the owner is always allowed, whatever the mode.
+/// The permissions that the owner is always allowed, whatever the mode.
 const OWNER_ALWAYS: u32 = mask::READ_ATTRIBUTES
     | mask::WRITE_ATTRIBUTES
     | mask::READ_ACL
@@ -16,10 +16,10 @@ const OWNER_ALWAYS: u32 = mask::READ_ATTRIBUTES
     | mask::WRITE_OWNER
     | mask::SYNCHRONIZE;
 
-/// The bits that everyone is always allowed, whatever the mode.
+/// The permissions that everyone is always allowed, whatever the mode.
 const EVERYONE_ALWAYS: u32 = mask::READ_ATTRIBUTES | mask::READ_ACL | mask::SYNCHRONIZE;
 
-/// The three bits of a mode that the bits of a mask stand for.
+/// The three bits of a mode that represent the permissions of a mask.
 #[tactic(auto, using(acl_list::proofs::Bits::flag_bits))]
 fn digit(granted: u32) -> u32
     ensures value { result ≡ digit_of (has_bit granted) }
@@ -31,11 +31,11 @@ fn digit(granted: u32) -> u32
     4 * u32::from(read) + 2 * u32::from(write) + u32::from(execute)
 }
 
-/// The mode that a list stands for: its lowest nine bits (RFC 8881, section 6.3.2).
+/// The lowest nine bits of the mode that the ACL represents (RFC 8881, section 6.3.2).
 ///
-/// The bits of OWNER@, GROUP@ and EVERYONE@, each by its own entries and those of EVERYONE@ alone.
-/// Read is set where READ_DATA is allowed, write where WRITE_DATA and APPEND_DATA both are, execute
-/// where EXECUTE is. It takes no memory.
+/// The bits of OWNER@, GROUP@ and EVERYONE@ are computed from the access control entries (ACEs) of each and those of
+/// EVERYONE@ alone. Read is set if READ_DATA is allowed, write if both WRITE_DATA and APPEND_DATA are, execute if
+/// EXECUTE is. The function allocates nothing.
 pub fn mode_of<A: Allocator>(list: &AclList<A>) -> u32
     ensures value { result ≡ specs.mode_of list.now }
     ensures small { result < 512 }
@@ -45,7 +45,7 @@ pub fn mode_of<A: Allocator>(list: &AclList<A>) -> u32
         + digit(class_grant(list, Who::Everyone))
 }
 
-/// The bits of a mask that three bits of a mode stand for.
+/// The permissions that three bits of a mode represent.
 #[tactic(auto, using(acl_list::proofs::Bits::flag_bits), unfolding(crate::specs::Mode::class_mask))]
 fn class_mask(kind: Kind, digit: u32) -> u32
     requires { digit < 8 }
@@ -57,7 +57,7 @@ fn class_mask(kind: Kind, digit: u32) -> u32
     read + write + execute
 }
 
-/// The bits for writing: on a directory also DELETE_CHILD.
+/// The permissions for writing: on a directory also DELETE_CHILD.
 fn write_mask(kind: Kind) -> u32
     ensures { result ≡ specs.write_mask kind }
 {
@@ -67,7 +67,7 @@ fn write_mask(kind: Kind) -> u32
     }
 }
 
-/// The entry that a new mode keeps, where the group's three bits lack these bits of a mask.
+/// The ACE that a new mode keeps; `lacking` are the class bits that the group's three bits lack.
 fn kept(entry: &Entry, lacking: u32) -> Option<Entry>
     ensures { result ≡ specs.kept lacking entry.now }
 {
@@ -88,7 +88,7 @@ fn kept(entry: &Entry, lacking: u32) -> Option<Entry>
     }
 }
 
-/// An entry of the object itself, which no new object gets.
+/// An ACE for the object itself that no new object inherits.
 fn plain(kind: EntryKind, mask: u32, who: Who) -> Entry
     ensures { result ≡ specs.plain kind mask who }
 {
@@ -100,22 +100,22 @@ fn plain(kind: EntryKind, mask: u32, who: Who) -> Entry
     }
 }
 
-/// The list that a new mode makes of the list of an object: a list over `alloc` (RFC 8881, section 6.4.1.1).
+/// The ACL that a new mode makes from the ACL of an object, over `alloc` (RFC 8881, section 6.4.1.1).
 ///
-/// Only the lowest nine bits of `mode` count. Two entries for OWNER@ come first; then the entries kept, in their order;
-/// then two entries for GROUP@ and one for EVERYONE@. The class bits are READ_DATA to read, WRITE_DATA and APPEND_DATA
-/// (on a directory DELETE_CHILD too) to write, EXECUTE to execute. An entry is kept by its flags FILE_INHERIT
-/// (1), DIRECTORY_INHERIT (2) and INHERIT_ONLY (8):
+/// Only the lowest nine bits of `mode` count. Two ACEs for OWNER@ come first. The kept ACEs follow, in their order. Two
+/// ACEs for GROUP@ and one for EVERYONE@ come last. The class bits are READ_DATA to read, WRITE_DATA and APPEND_DATA
+/// (on a directory also DELETE_CHILD) to write, EXECUTE to execute. What is kept of an ACE depends on its flags
+/// FILE_INHERIT (1), DIRECTORY_INHERIT (2) and INHERIT_ONLY (8):
 ///
-/// | Type | Who | 8 set | 8 not set, 1 or 2 set | 1, 2 and 8 not set |
+/// | Type | Principal | 8 set | 8 not set, 1 or 2 set | 1, 2 and 8 not set |
 /// |---|---|---|---|---|
 /// | AUDIT, ALARM | any | as it is | as it is | as it is |
 /// | ALLOW, DENY | OWNER@, GROUP@, EVERYONE@ | as it is | with 8 set | dropped |
-/// | ALLOW | another user or group | as it is | less the class bits the group lacks | so too, even if none is left |
-/// | DENY | another user or group | as it is | as it is | as it is |
+/// | ALLOW | named user or group | as it is | less the class bits the group lacks | the same, even if none is left |
+/// | DENY | named user or group | as it is | as it is | as it is |
 ///
-/// Bits of a mask that the standard doesn't define stay. From a list within the bounds of
-/// [`crate::is_bounded`] it makes a list within them. `Err`: there is no memory for the list.
+/// Mask bits that the standard doesn't define stay. If the ACL is within the bounds of [`crate::is_bounded`], so is the
+/// result. `Err`: the allocation of the ACL fails.
 pub fn set_mode<A: Allocator, B: Allocator>(
     alloc: A,
     list: &AclList<B>,
@@ -125,10 +125,10 @@ pub fn set_mode<A: Allocator, B: Allocator>(
     ensures value { IfOk result (λ new. new ≡ specs.set_mode list.now kind mode) }
     ensures bounded { IsBounded list.now → IfOk result IsBounded }
 {
-    list_for_mode(alloc, list.as_slice(), kind, mode)
+    acl_for_mode(alloc, list.as_slice(), kind, mode)
 }
 
-fn list_for_mode<A: Allocator>(
+fn acl_for_mode<A: Allocator>(
     alloc: A,
     entries: &[Entry],
     kind: Kind,

@@ -1,13 +1,13 @@
-//! The two parts of a list.
+//! The two parts of an access control list (ACL).
 
 use acl_list::{Entry, EntryKind};
 
-/// A part of a list: each entry is of the dacl or of the sacl.
+/// A part of an ACL: each access control entry (ACE) is of the dacl or of the sacl.
 #[derive(Clone, Copy, Debug, PartialEq, Eq)]
 pub enum Part {
-    /// dacl, the ALLOW and DENY entries (RFC 8881, section 6.2.2).
+    /// dacl, the ALLOW and DENY ACEs (RFC 8881, section 6.2.2).
     Dacl,
-    /// sacl, the AUDIT and ALARM entries (section 6.2.3).
+    /// sacl, the AUDIT and ALARM ACEs (section 6.2.3).
     Sacl,
 }
 
@@ -15,7 +15,7 @@ impl Part {
     ghost use Rattle.std.specs.Prelude.{◌≡◌, count_by};
     ghost use Rattle.acl_shape.specs.Parts.{is_of};
 
-    /// Whether an entry is of the part.
+    /// Whether an ACE is of the part.
     pub fn has(self, entry: &Entry) -> bool
         ensures { result ≡ is_of self entry.now }
     {
@@ -26,7 +26,7 @@ impl Part {
         }
     }
 
-    /// How many of the entries are of the part.
+    /// The number of these ACEs that are of the part.
     pub fn count(self, entries: &[Entry]) -> usize
         ensures { result ≡ count_by (is_of self) entries.now }
     {

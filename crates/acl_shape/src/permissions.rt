@@ -1,7 +1,7 @@
-//! The list of an object with the high bits of its mode: as it is created, and as they are set.
+//! The access control list (ACL) of an object and the high bits of its mode, at creation and after a change.
 ghost use Rattle.std.specs.Prelude.{◌≡◌, IfOk, IfSome, IsOk, IsSome};
 ghost use Rattle.acl_shape.specs.Bounds.{IsBounded};
-ghost use Rattle.acl_shape.specs.Permissions.{changed_high, changed_list, created_high, created_list, default_list};
+ghost use Rattle.acl_shape.specs.Permissions.{changed_high, changed_acl, created_high, created_acl, default_acl};
 ghost use Rattle.acl_shape.specs.Permissions.{high_bits};
 ghost use Rattle.acl_shape.specs.Permissions as specs;
 
@@ -10,28 +10,29 @@ use crate::modes::set_mode;
 use acl_list::{AclList, Kind};
 use std::alloc::{AllocError, Allocator, Global};
 
-/// The bits of a mode for which no entry stands: MODE4_SUID, MODE4_SGID and MODE4_SVTX (RFC 8881, section 6.2.4).
+/// The bits of a mode that no access control entry (ACE) represents: MODE4_SUID, MODE4_SGID and MODE4_SVTX (RFC 8881,
+/// section 6.2.4).
 const HIGH_BITS: u32 = 0o7000;
 
-/// The mode and the list that a client gives.
+/// The mode and the ACL that a client gives.
 #[derive(Debug, Drop)]
 pub struct Given<A: Allocator = Global> {
     /// A mode. Only its lowest twelve bits count.
     pub mode: Option<u32>,
-    /// A list as [`crate::admit`] takes it, for an object of the same kind.
+    /// An ACL as [`crate::admit`] returns it, for an object of the same type.
     pub list: Option<AclList<A>>,
 }
 
-/// The list of an object and the high bits of its mode.
+/// The ACL of an object and the high bits of its mode.
 #[derive(Debug, Drop)]
 pub struct Permissions<A: Allocator = Global> {
-    /// The list, which gives the lowest nine bits of the mode.
+    /// The ACL, which gives the lowest nine bits of the mode.
     pub list: AclList<A>,
     /// The bits 0o7000 of the mode.
     pub high: u32,
 }
 
-/// The mode of an object created with no mode, no list and nothing inherited.
+/// The mode of an object that is created with no mode, no ACL and nothing inherited.
 fn default_mode(kind: Kind) -> u32
     ensures { result ≡ specs.default_mode kind }
 {
@@ -41,13 +42,13 @@ fn default_mode(kind: Kind) -> u32
     }
 }
 
-/// The list of a new object where neither a mode nor a list is given.
-fn list_by_default<A: Allocator + Copy>(
+/// The ACL of a new object if neither a mode nor an ACL is given.
+fn acl_by_default<A: Allocator + Copy>(
     alloc: A,
     inherited: AclList<A>,
     kind: Kind,
 ) -> Result<AclList<A>, AllocError>
-    ensures { IfOk result (λ list. list ≡ default_list kind inherited) }
+    ensures { IfOk result (λ list. list ≡ default_acl kind inherited) }
 {
     if inherited.is_empty() {
         set_mode(alloc, &inherited, kind, default_mode(kind))
@@ -56,57 +57,57 @@ fn list_by_default<A: Allocator + Copy>(
     }
 }
 
-/// The list of a new object.
-fn list_of_new<A: Allocator + Copy, B: Allocator>(
+/// The ACL of a new object.
+fn acl_of_new<A: Allocator + Copy, B: Allocator>(
     alloc: A,
     parent: &AclList<B>,
     kind: Kind,
     given: Given<A>,
 ) -> Result<AclList<A>, AllocError>
-    ensures value { IfOk result (λ list. list ≡ created_list parent.now kind given.mode given.list) }
+    ensures value { IfOk result (λ list. list ≡ created_acl parent.now kind given.mode given.list) }
     ensures given { IsSome given.list → IsOk result }
 {
     match (given.mode, given.list) {
         (_, Some(list)) => Ok(list),
         (Some(mode), None) => set_mode(alloc, &inherit(alloc, parent, kind)?, kind, mode),
-        (None, None) => list_by_default(alloc, inherit(alloc, parent, kind)?, kind),
+        (None, None) => acl_by_default(alloc, inherit(alloc, parent, kind)?, kind),
     }
 }
 
-/// The list and the high bits of a new object of this kind in a directory of this list (RFC 8881, section 6.4.3).
+/// The ACL and the high bits of a new object of this type in a directory with this ACL (RFC 8881, section 6.4.3).
 ///
-/// | Given | The list |
+/// | Given | The ACL |
 /// |---|---|
-/// | a mode | the inherited list, with that mode set |
-/// | a list, or both | the list |
-/// | neither | the inherited list; where that is empty, the list for the mode 0o600, on a directory 0o700 |
+/// | a mode | the inherited ACL, with that mode set |
+/// | an ACL, or both | the given ACL |
+/// | neither | the inherited ACL; if that is empty, the ACL for the mode 0o600, on a directory 0o700 |
 ///
-/// The high bits are those of the mode, and 0 where none is given. `Err`: there is no memory for
-/// the list; where a list is given, none is needed.
+/// The high bits are those of the mode, and 0 if none is given. `Err`: the allocation of the ACL fails. If an ACL is
+/// given, nothing is allocated.
 pub fn created_permissions<A: Allocator + Copy, B: Allocator>(
     alloc: A,
     parent: &AclList<B>,
     kind: Kind,
     given: Given<A>,
 ) -> Result<Permissions<A>, AllocError>
-    ensures list { IfOk result (λ made. made.list ≡ created_list parent.now kind given.mode given.list) }
+    ensures list { IfOk result (λ made. made.list ≡ created_acl parent.now kind given.mode given.list) }
     ensures high { IfOk result (λ made. made.high ≡ created_high given.mode) }
     ensures bounded { IsBounded parent.now → IfSome given.list IsBounded → IfOk result (λ made. IsBounded made.list) }
     ensures given { IsSome given.list → IsOk result }
 {
     let high = given.mode.map_or(0, |mode| mode & HIGH_BITS);
-    let list = list_of_new(alloc, parent, kind, given)?;
+    let list = acl_of_new(alloc, parent, kind, given)?;
     Ok(Permissions { list, high })
 }
 
-/// The list of an object after a mode, a list or both were set.
+/// The ACL of an object after a mode, an ACL or both are set.
 fn list_after<A: Allocator, B: Allocator>(
     alloc: A,
     list: &AclList<B>,
     kind: Kind,
     given: Given<A>,
 ) -> Result<AclList<A>, AllocError>
-    ensures value { IfOk result (λ after. after ≡ changed_list list.now kind given.mode given.list) }
+    ensures value { IfOk result (λ after. after ≡ changed_acl list.now kind given.mode given.list) }
     ensures given { IsSome given.list → IsOk result }
 {
     match (given.mode, given.list) {
@@ -116,17 +117,17 @@ fn list_after<A: Allocator, B: Allocator>(
     }
 }
 
-/// The list and the high bits of an object of this kind after a mode, a list or both were set
-/// (RFC 8881, section 6.4.1). It had this list and these high bits before.
+/// The ACL and the high bits of an object of this type after a mode, an ACL or both are set (RFC 8881, section 6.4.1).
+/// `list` and `high` are those from before.
 ///
-/// | Given | The list | The high bits |
+/// | Given | The ACL | The high bits |
 /// |---|---|---|
-/// | a mode | its list with that mode set | the mode's |
-/// | a list | the list given | as they were |
-/// | both | the list given | the mode's |
-/// | neither | as it was | as they were |
+/// | a mode | the old ACL with that mode set | the mode's |
+/// | an ACL | the given ACL | unchanged |
+/// | both | the given ACL | the mode's |
+/// | neither | unchanged | unchanged |
 ///
-/// `Err`: there is no memory for the list; where a list is given, none is needed.
+/// `Err`: the allocation of the ACL fails. If an ACL is given, nothing is allocated.
 pub fn changed_permissions<A: Allocator + Copy, B: Allocator>(
     alloc: A,
     list: &AclList<B>,
@@ -134,7 +135,7 @@ pub fn changed_permissions<A: Allocator + Copy, B: Allocator>(
     kind: Kind,
     given: Given<A>,
 ) -> Result<Permissions<A>, AllocError>
-    ensures list { IfOk result (λ now. now.list ≡ changed_list list.now kind given.mode given.list) }
+    ensures list { IfOk result (λ now. now.list ≡ changed_acl list.now kind given.mode given.list) }
     ensures high { IfOk result (λ now. now.high ≡ changed_high high given.mode) }
     ensures bounded { IsBounded list.now → IfSome given.list IsBounded → IfOk result (λ now. IsBounded now.list) }
     ensures given { IsSome given.list → IsOk result }

@@ -1,4 +1,4 @@
--- The words of an entry are read as that entry.
+-- The text of an access control entry (ACE) is read as that ACE.
 use Rattle.std.proofs.Common.{◌≡◌, ℕ, zero, suc, ◌/◌, ◌%◌, ◌*◌, ◌^◌, ◌<◌, Bool, true, false, nat_eq, List, [], ◌∷◌, ◌++◌, length, slice_index, Option, Some, None, is_none, Ok, bit_and, refl, ap, subst, ◌∙◌, eq-eqb, arith}
 use Rattle.std.specs.Int.{w32, to_be_bytes}
 use Rattle.std.proofs.lemmas.List.{append-nil, append_assoc}
@@ -12,9 +12,9 @@ use Rattle.acl_list.specs.declared.entry.EntryKind.{EntryKind}
 use Rattle.acl_list.specs.declared.entry.EntryKind.TheVariants.{Allow, Deny, Audit, Alarm}
 use Rattle.acl_words.specs.Fields.{split_at}
 use Rattle.acl_words.specs.Letters.{flag_letters, letters_text, permissions_text}
-use Rattle.acl_words.specs.Words.{Said, letter_of, kind_in, numbers_in, said_by, said_in, third_field, is_lettered, said_text}
+use Rattle.acl_words.specs.Words.{EntryWords, letter_of, kind_in, numbers_in, entry_words_by, entry_words_in, third_field, is_lettered, entry_words_text}
 use Rattle.acl_words.proofs.Lettering.{flags_again, permissions_again, Lacks-flags, Lacks-permissions}
-use Rattle.acl_words.proofs.Splitting.{Lacks, split_at_append, split_at_last_append, split_at_front}
+use Rattle.acl_words.proofs.Splitting.{Lacks, split_at_append, split_at_last_append, split_at_prefix}
 
 -- ---- the type
 
@@ -69,26 +69,26 @@ numbers_again flags mask f m =
 
 -- ---- the whole
 
--- the steps of reading, where the first three fields are known
+-- the steps of reading, once the first three fields are known
 steps : (object : Kind) (kind : EntryKind) (second rest third who : List ℕ) → split_at 58 (second ++ 58 ∷ rest) ≡ Some (second, rest) → split_at 58 rest ≡ Some (third, who)
-    → said_in object (letter_of kind ∷ 58 ∷ (second ++ 58 ∷ rest)) ≡ said_by object kind second rest who (numbers_in second third)
-unfolding said_in
+    → entry_words_in object (letter_of kind ∷ 58 ∷ (second ++ 58 ∷ rest)) ≡ entry_words_by object kind second rest who (numbers_in second third)
+unfolding entry_words_in
 steps object kind second rest third who e f = rw (first_split kind (second ++ 58 ∷ rest), e, f, kind_again kind) refl
 
 -- in letters
-in_letters : (object : Kind) (e : Said) → e.flags < 256 → bit_and e.mask mask.DEFINED ≡ e.mask → numbers_in (letters_text flag_letters e.flags) (third_field e.who) ≡ None
-    → said_in object (letter_of e.kind ∷ 58 ∷ (letters_text flag_letters e.flags ++ 58 ∷ (e.who ++ 58 ∷ permissions_text e.mask))) ≡ Ok e
+in_letters : (object : Kind) (e : EntryWords) → e.flags < 256 → bit_and e.mask mask.DEFINED ≡ e.mask → numbers_in (letters_text flag_letters e.flags) (third_field e.who) ≡ None
+    → entry_words_in object (letter_of e.kind ∷ 58 ∷ (letters_text flag_letters e.flags ++ 58 ∷ (e.who ++ 58 ∷ permissions_text e.mask))) ≡ Ok e
 in_letters object e small within other =
     let flags = letters_text flag_letters e.flags in
     let rest = e.who ++ 58 ∷ permissions_text e.mask in
-    let front = split_at_front 58 e.who (permissions_text e.mask) in
+    let prefix = split_at_prefix 58 e.who (permissions_text e.mask) in
     let eight : bit_and e.flags 255 ≡ e.flags = and_mask e.flags 8 ∙ (omega arith) in
-    steps object e.kind flags rest (third_field e.who) front.0 (split_at_append 58 flags rest (Lacks-flags e.flags)) front.1
+    steps object e.kind flags rest (third_field e.who) prefix.0 (split_at_append 58 flags rest (Lacks-flags e.flags)) prefix.1
     ∙ rw (other, split_at_last_append 58 e.who (permissions_text e.mask) (Lacks-permissions e.mask), flags_again e.flags eight, permissions_again object e.mask within) refl
 
 -- in the hexadecimal form
-in_numbers : (object : Kind) (e : Said) → e.flags < 256 → e.mask < 2 ^ 32
-    → said_in object (letter_of e.kind ∷ 58 ∷ (encode_lower (e.flags ∷ []) ++ 58 ∷ (encode_lower (to_be_bytes w32 e.mask) ++ 58 ∷ e.who))) ≡ Ok e
+in_numbers : (object : Kind) (e : EntryWords) → e.flags < 256 → e.mask < 2 ^ 32
+    → entry_words_in object (letter_of e.kind ∷ 58 ∷ (encode_lower (e.flags ∷ []) ++ 58 ∷ (encode_lower (to_be_bytes w32 e.mask) ++ 58 ∷ e.who))) ≡ Ok e
 in_numbers object e small within =
     let flags = encode_lower (e.flags ∷ []) in
     let mask = encode_lower (to_be_bytes w32 e.mask) in
@@ -100,8 +100,8 @@ is_none-None : {A : Type 0} (o : Option A) → is_none o ≡ true → o ≡ None
 is_none-None None h = refl
 is_none-None (Some x) h = absurd (cc)
 
--- letters say the entry
-lettered_parts : (e : Said) → is_lettered e ≡ true → (bit_and e.mask mask.DEFINED ≡ e.mask) × (numbers_in (letters_text flag_letters e.flags) (third_field e.who) ≡ None)
+-- letters express the ACE
+lettered_parts : (e : EntryWords) → is_lettered e ≡ true → (bit_and e.mask mask.DEFINED ≡ e.mask) × (numbers_in (letters_text flag_letters e.flags) (third_field e.who) ≡ None)
 unfolding is_lettered
 lettered_parts e h =
     let parts = and_parts (nat_eq (bit_and e.mask mask.DEFINED) e.mask) (is_none (numbers_in (letters_text flag_letters e.flags) (third_field e.who))) h in
@@ -114,15 +114,15 @@ joined_letters a who p = ap (λ (l : List ℕ). l ++ 58 ∷ p) (append_assoc a (
 joined_numbers : (a b who : List ℕ) → a ++ 58 ∷ b ++ 58 ∷ [] ++ who ++ [] ≡ a ++ 58 ∷ (b ++ 58 ∷ who)
 joined_numbers a b who = append-nil (a ++ 58 ∷ b ++ 58 ∷ [] ++ who) ∙ append_assoc (a ++ 58 ∷ b) (58 ∷ []) who ∙ append_assoc a (58 ∷ b) (58 ∷ who)
 
-letters_said : (e : Said) → is_lettered e ≡ true → said_text e ≡ letter_of e.kind ∷ 58 ∷ (letters_text flag_letters e.flags ++ 58 ∷ (e.who ++ 58 ∷ permissions_text e.mask))
-letters_said e h = rw h (ap (λ (t : List ℕ). letter_of e.kind ∷ 58 ∷ t) (joined_letters (letters_text flag_letters e.flags) e.who (permissions_text e.mask)))
+letters_text_is : (e : EntryWords) → is_lettered e ≡ true → entry_words_text e ≡ letter_of e.kind ∷ 58 ∷ (letters_text flag_letters e.flags ++ 58 ∷ (e.who ++ 58 ∷ permissions_text e.mask))
+letters_text_is e h = rw h (ap (λ (t : List ℕ). letter_of e.kind ∷ 58 ∷ t) (joined_letters (letters_text flag_letters e.flags) e.who (permissions_text e.mask)))
 
-numbers_said : (e : Said) → is_lettered e ≡ false → said_text e ≡ letter_of e.kind ∷ 58 ∷ (encode_lower (e.flags ∷ []) ++ 58 ∷ (encode_lower (to_be_bytes w32 e.mask) ++ 58 ∷ e.who))
-numbers_said e h = rw h (ap (λ (t : List ℕ). letter_of e.kind ∷ 58 ∷ t) (joined_numbers (encode_lower (e.flags ∷ [])) (encode_lower (to_be_bytes w32 e.mask)) e.who))
+numbers_text_is : (e : EntryWords) → is_lettered e ≡ false → entry_words_text e ≡ letter_of e.kind ∷ 58 ∷ (encode_lower (e.flags ∷ []) ++ 58 ∷ (encode_lower (to_be_bytes w32 e.mask) ++ 58 ∷ e.who))
+numbers_text_is e h = rw h (ap (λ (t : List ℕ). letter_of e.kind ∷ 58 ∷ t) (joined_numbers (encode_lower (e.flags ∷ [])) (encode_lower (to_be_bytes w32 e.mask)) e.who))
 
-pub said_again : (object : Kind) (e : Said) → e.flags < 256 → e.mask < 2 ^ 32 → said_in object (said_text e) ≡ Ok e
-said_again object e small within = go (is_lettered e) refl
+pub entry_words_again : (object : Kind) (e : EntryWords) → e.flags < 256 → e.mask < 2 ^ 32 → entry_words_in object (entry_words_text e) ≡ Ok e
+entry_words_again object e small within = go (is_lettered e) refl
   where
-    go : (letters : Bool) → is_lettered e ≡ letters → said_in object (said_text e) ≡ Ok e
-    go true h = let parts = lettered_parts e h in ap (said_in object) (letters_said e h) ∙ in_letters object e small parts.0 parts.1
-    go false h = ap (said_in object) (numbers_said e h) ∙ in_numbers object e small within
+    go : (letters : Bool) → is_lettered e ≡ letters → entry_words_in object (entry_words_text e) ≡ Ok e
+    go true h = let parts = lettered_parts e h in ap (entry_words_in object) (letters_text_is e h) ∙ in_letters object e small parts.0 parts.1
+    go false h = ap (entry_words_in object) (numbers_text_is e h) ∙ in_numbers object e small within

@@ -1,12 +1,12 @@
--- The words of an entry by a book are read as that entry.
+-- The text of an access control entry (ACE) by a book is read as that ACE.
 use Rattle.std.proofs.Common.{◌≡◌, Ok, refl}
 use Rattle.acl_list.specs.declared.entry.Kind.{Kind}
 use Rattle.acl_list.specs.declared.entry.Entry.{Entry}
 use Rattle.who_book.specs.Content.{Content, IsBook}
-use Rattle.who_book.proofs.Spelled.{who_read_back}
-use Rattle.acl_words.specs.Entries.{CanStand, entry_in, entry_text, said_of}
-use Rattle.acl_words.proofs.Again.{said_again}
+use Rattle.who_book.proofs.Spelled.{principal_read_back}
+use Rattle.acl_words.specs.Entries.{CanBeSet, entry_in, entry_text, entry_words_of}
+use Rattle.acl_words.proofs.Again.{entry_words_again}
 
-pub entry_again : (book : Content) (object : Kind) (e : Entry) → IsBook book → CanStand e → entry_in object book (entry_text book e) ≡ Ok e
-entry_again book object e is stands =
-    rw (said_again object (said_of book e) stands.flags stands.mask, who_read_back e.flags book e.who is stands.who) refl
+pub entry_again : (book : Content) (object : Kind) (e : Entry) → IsBook book → CanBeSet e → entry_in object book (entry_text book e) ≡ Ok e
+entry_again book object e is is_set =
+    rw (entry_words_again object (entry_words_of book e) is_set.flags is_set.mask, principal_read_back e.flags book e.who is is_set.who) refl

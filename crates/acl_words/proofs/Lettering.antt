@@ -1,4 +1,4 @@
--- Letters that are written are read again.
+-- Letters that are written are read back.
 use Rattle.std.proofs.Common.{◌≡◌, ℕ, ◌^◌, ◌<◌, Bool, true, false, nat_eq, List, [], ◌∷◌, ◌++◌, Option, Some, None, IfSome, option_and_then, bit_and, bit_or, refl, sym, ap, subst, ◌∙◌, arith, codes}
 use Rattle.std.specs.Option.{option_or}
 use Rattle.std.proofs.lemmas.List.{append-nil}
@@ -28,7 +28,7 @@ letters_again letters aliases ((letter, bit) ∷ more) bits c h = go (nat_eq (bi
     is_pow : bit ≡ 2 ^ h.1.0
     is_pow = h.1.1
 
-    go : (gone : Bool) → nat_eq (bit_and bits bit) 0 ≡ gone
+    go : (removed : Bool) → nat_eq (bit_and bits bit) 0 ≡ removed
         → letters_after letters aliases (bit_and bits (bit_or c bit)) (letters_text more bits) ≡ Some (bit_and bits (covered (bit_or c bit) more))
         → letters_after letters aliases (bit_and bits c) (letters_text ((letter, bit) ∷ more) bits) ≡ Some (bit_and bits (covered (bit_or c bit) more))
     go true e rest =
@@ -49,7 +49,7 @@ pub Lacks-letters : (byte : ℕ) (rows : Letters) (bits : ℕ) → NoLetter byte
 Lacks-letters byte [] bits h = tt
 Lacks-letters byte ((letter, bit) ∷ more) bits h = go (nat_eq (bit_and bits bit) 0) refl (Lacks-letters byte more bits h.1)
   where
-    go : (gone : Bool) → nat_eq (bit_and bits bit) 0 ≡ gone → Lacks byte (letters_text more bits) → Lacks byte (letters_text ((letter, bit) ∷ more) bits)
+    go : (removed : Bool) → nat_eq (bit_and bits bit) 0 ≡ removed → Lacks byte (letters_text more bits) → Lacks byte (letters_text ((letter, bit) ∷ more) bits)
     go true e rest = rw e rest
     go false e rest = rw e (h.0, rest)
 
@@ -119,7 +119,7 @@ letters_only object mask =
     subst (λ (n : ℕ). letters_after permission_letters (aliases_for object) n (letters_text permission_letters mask) ≡ Some (bit_and mask lettered_bits)) (bit_and-zero mask)
     (letters_again permission_letters (aliases_for object) permission_letters mask 0 (AreRead-permissions object))
 
--- what is read of letters with numbers after them
+-- the result of reading letters with numbers after them
 with_numbers : (object : Kind) (mask : ℕ) (rest : List ℕ) → permissions_in object (letters_text permission_letters mask ++ 43 ∷ rest) ≡ numbers_after (bit_and mask lettered_bits) 0 rest
 with_numbers object mask rest =
     rw (split_at_append 43 (letters_text permission_letters mask) rest (Lacks-letters 43 permission_letters mask NoLetter-permissions-plus), letters_only object mask) refl
@@ -145,7 +145,7 @@ permissions_again object bits within = go (nat_eq (bit_and bits 512) 0) refl (na
 Lacks-text_if : (bits bit : ℕ) (text : List ℕ) → Lacks 58 text → Lacks 58 (text_if bits bit text)
 Lacks-text_if bits bit text h = go (nat_eq (bit_and bits bit) 0) refl
   where
-    go : (gone : Bool) → nat_eq (bit_and bits bit) 0 ≡ gone → Lacks 58 (text_if bits bit text)
+    go : (removed : Bool) → nat_eq (bit_and bits bit) 0 ≡ removed → Lacks 58 (text_if bits bit text)
     go true e = rw e tt
     go false e = rw e h
 

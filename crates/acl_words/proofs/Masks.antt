@@ -13,7 +13,7 @@ bit_and-zero bits = same_masks (bit_and bits 0) 0 (λ i. has_bit-and bits 0 i �
     never true = refl
     never false = refl
 
--- with a bit that isn't there
+-- with a bit that isn't set
 none_more : (b c p : Bool) → b && p ≡ false → b && c ≡ b && (c || p)
 none_more true true p h = refl
 none_more true false true h = sym h
@@ -26,7 +26,7 @@ absent bits c k h =
     let none : has_bit bits i && has_bit (2 ^ k) i ≡ false = sym (has_bit-and bits (2 ^ k) i) ∙ ap (λ n. has_bit n i) (eqb-true (bit_and bits (2 ^ k)) 0 h) ∙ has_bit-zero i in
     rw (has_bit-and bits c i, has_bit-and bits (bit_or c (2 ^ k)) i, has_bit-or c (2 ^ k) i) (none_more (has_bit bits i) (has_bit c i) (has_bit (2 ^ k) i) none))
 
--- with a bit that is there
+-- with a bit that is set
 one_more : (b c p : Bool) → b && p ≡ p → (b && c) || p ≡ b && (c || p)
 one_more true c p h = refl
 one_more false c true h = sym h

@@ -1,7 +1,7 @@
 -- Texts that are split at a byte.
 use Rattle.std.proofs.Common.{◌≡◌, ◌≢◌, ℕ, zero, suc, ◌<◌, Bool, true, false, nat_eq, List, [], ◌∷◌, ◌++◌, length, get_or, take, drop, Option, Some, None, option_map, refl, arith, eq-eqb}
 use Rattle.std.proofs.lemmas.Bool.{ne_eqb}
-use Rattle.acl_words.specs.Fields.{before, split_at, split_at_last, front_or}
+use Rattle.acl_words.specs.Fields.{before, split_at, split_at_last, prefix_or}
 
 -- ---- as the loops find the place
 
@@ -16,7 +16,7 @@ pub split_at_nowhere : (byte : ℕ) (text : List ℕ) → ((k : ℕ) → k < len
 split_at_nowhere byte [] none = refl
 split_at_nowhere byte (x ∷ xs) none = rw (ne_eqb x byte (none 0 (omega arith)), split_at_nowhere byte xs (λ k h. none (suc k) (omega arith))) refl
 
--- the last is here where there is none after it
+-- the last byte is here if there is none after it
 last_here : (byte : ℕ) (text : List ℕ) (i : ℕ) → i < length text → get_or text i 0 ≡ byte → split_at_last byte (drop (suc i) text) ≡ None
     → split_at_last byte text ≡ Some (take i text, drop (suc i) text)
 last_here byte [] i lt here none = absurd (omega arith)
@@ -54,18 +54,18 @@ pub split_at_last_append : (byte : ℕ) (xs rest : List ℕ) → Lacks byte rest
 split_at_last_append byte [] rest h = rw (split_at_last_lacking byte rest h, eq-eqb byte byte refl) refl
 split_at_last_append byte (x ∷ xs) rest h = rw (split_at_last_append byte xs rest h) refl
 
--- a front with one more byte before it
-front_cons : (x byte : ℕ) (xs : List ℕ) (o : Option (List ℕ × List ℕ)) → front_or (x ∷ xs) (option_map (before x) o) ≡ x ∷ front_or xs o
-front_cons x byte xs None = refl
-front_cons x byte xs (Some parts) = refl
+-- a prefix with one more byte before it
+prefix_cons : (x byte : ℕ) (xs : List ℕ) (o : Option (List ℕ × List ℕ)) → prefix_or (x ∷ xs) (option_map (before x) o) ≡ x ∷ prefix_or xs o
+prefix_cons x byte xs None = refl
+prefix_cons x byte xs (Some parts) = refl
 
--- what is before the first such byte of a text that has one more at its end
-pub split_at_front : (byte : ℕ) (xs rest : List ℕ) → (after : List ℕ) × (split_at byte (xs ++ byte ∷ rest) ≡ Some (front_or xs (split_at byte xs), after))
-split_at_front byte [] rest = (rest, rw (eq-eqb byte byte refl) refl)
-split_at_front byte (x ∷ xs) rest = go (nat_eq x byte) refl (split_at_front byte xs rest)
+-- the prefix before the first byte with this value, for a text that is followed by that byte and a rest
+pub split_at_prefix : (byte : ℕ) (xs rest : List ℕ) → (after : List ℕ) × (split_at byte (xs ++ byte ∷ rest) ≡ Some (prefix_or xs (split_at byte xs), after))
+split_at_prefix byte [] rest = (rest, rw (eq-eqb byte byte refl) refl)
+split_at_prefix byte (x ∷ xs) rest = go (nat_eq x byte) refl (split_at_prefix byte xs rest)
   where
     go : (same : Bool) → nat_eq x byte ≡ same
-        → (after : List ℕ) × (split_at byte (xs ++ byte ∷ rest) ≡ Some (front_or xs (split_at byte xs), after))
-        → (after : List ℕ) × (split_at byte (x ∷ xs ++ byte ∷ rest) ≡ Some (front_or (x ∷ xs) (split_at byte (x ∷ xs)), after))
+        → (after : List ℕ) × (split_at byte (xs ++ byte ∷ rest) ≡ Some (prefix_or xs (split_at byte xs), after))
+        → (after : List ℕ) × (split_at byte (x ∷ xs ++ byte ∷ rest) ≡ Some (prefix_or (x ∷ xs) (split_at byte (x ∷ xs)), after))
     go true e more = (xs ++ byte ∷ rest, rw e refl)
-    go false e more = (more.0, rw (e, more.1, front_cons x byte xs (split_at byte xs)) refl)
+    go false e more = (more.0, rw (e, more.1, prefix_cons x byte xs (split_at byte xs)) refl)

@@ -1,4 +1,4 @@
--- The help of a field says what would do there.
+-- The help on a field: what is valid there.
 use Rattle.std.specs.Prelude.{ℕ, List, codes}
 use Rattle.acl_words.specs.declared.field.Field.{Field}
 use Rattle.acl_words.specs.declared.field.Field.TheVariants.{Form, EntryType, Flags, Permissions, Principal}

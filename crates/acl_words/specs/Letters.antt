@@ -1,4 +1,5 @@
--- The letters of an entry as words: those of nfs4_setfacl and nfs4_getfacl (nfs4_acl(5) of nfs4-acl-tools).
+-- The letters of an access control entry (ACE) as text: those of nfs4_setfacl and nfs4_getfacl (nfs4_acl(5) of
+-- nfs4-acl-tools).
 use Rattle.std.specs.Prelude.{ℕ, ◌+◌, ◌*◌, ◌==◌, nat_lt, if◌then◌else◌, List, [], ◌∷◌, ◌++◌, codes, Option, Some, None}
 use Rattle.std.specs.Prelude.{option_map, option_and_then, bit_and, bit_or}
 use Rattle.std.specs.List.{find}
@@ -27,7 +28,7 @@ flag_letters =
     ∷ (104, flag.INHERITED)  -- h
     ∷ []
 
--- the bits of the mask (RFC 8881, section 6.2.1.3)
+-- the permissions of the mask (RFC 8881, section 6.2.1.3)
 abbrev pub permission_letters : Letters
 permission_letters =
     (114, mask.READ_DATA)  -- r
@@ -66,7 +67,7 @@ generic_execute = mask.EXECUTE + (mask.READ_ATTRIBUTES + (mask.READ_ACL + mask.S
 abbrev pub aliases_with : ℕ → Letters
 aliases_with write = (82, generic_read) ∷ (87, write) ∷ (88, generic_execute) ∷ []
 
--- on a directory a W has D too
+-- on a directory a W includes D
 abbrev pub aliases_for : Kind → Letters
 aliases_for File = aliases_with generic_write
 aliases_for Directory = aliases_with (generic_write + mask.DELETE_CHILD)
@@ -82,19 +83,19 @@ bits_of letters byte = option_map (λ row. row.1) (find (λ row. row.0 == byte) 
 abbrev pub bits_in : Letters → Letters → ℕ → Option ℕ
 bits_in letters aliases byte = option_or (bits_of letters byte) (bits_of aliases byte)
 
--- the bits so far with those of the letters that follow
+-- the bits read before, with those of the letters that follow
 abbrev pub letters_after : Letters → Letters → ℕ → List ℕ → Option ℕ
 letters_after letters aliases bits [] = Some bits
 letters_after letters aliases bits (byte ∷ more) =
     option_and_then (λ new. letters_after letters aliases (bit_or bits new) more) (bits_in letters aliases byte)
 
--- a number with one more hexadecimal digit, as far as it has 32 bits
+-- a number with one more hexadecimal digit, if it fits in 32 bits
 abbrev pub number_with : ℕ → ℕ → Option ℕ
 number_with number byte =
     option_and_then (λ digit. if nat_lt number 268435456 then Some (16 * number + digit) else None)
     (hex_digit_value byte)
 
--- The bits so far with the number so far and with those that follow, each after a + (43). A number isn't 0.
+-- The bits read before, with the number read before and those that follow, each after a + (43). A number isn't 0.
 abbrev pub numbers_after : ℕ → ℕ → List ℕ → Option ℕ
 numbers_after bits number [] = if number == 0 then None else Some (bit_or bits number)
 numbers_after bits number (byte ∷ more) =
@@ -114,19 +115,19 @@ abbrev pub both_in : Kind → List ℕ → Option (List ℕ × List ℕ) → Opt
 both_in object text None = rights_in object text
 both_in object text (Some parts) = option_and_then (λ bits. numbers_after bits 0 parts.1) (rights_in object parts.0)
 
--- the mask of a text, for an object of this kind
+-- the mask of a text, for an object of this type
 abbrev pub permissions_in : Kind → List ℕ → Option ℕ
 permissions_in object text = both_in object text (split_at 43 text)
 
 -- ---- writing
 
--- the letters of the bits that are there
+-- the letters of the bits that are set
 abbrev pub letters_text : Letters → ℕ → List ℕ
 letters_text [] bits = []
 letters_text (row ∷ more) bits =
     if bit_and bits row.1 == 0 then letters_text more bits else row.0 ∷ letters_text more bits
 
--- a text, if the bit is there
+-- a text, if the bit is set
 abbrev pub text_if : ℕ → ℕ → List ℕ → List ℕ
 text_if bits bit text = if bit_and bits bit == 0 then [] else text
 

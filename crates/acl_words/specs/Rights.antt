@@ -1,4 +1,4 @@
--- The rights of a mask, and their names (RFC 8881, section 6.2.1.3.1).
+-- The permissions of a mask, and their names (RFC 8881, section 6.2.1.3.1).
 use Rattle.std.specs.Prelude.{ℕ, ◌^◌, ◌==◌, Bool, List, [], ◌∷◌, map, codes, Option, option_map}
 use Rattle.std.specs.List.{find, list_any}
 use Rattle.std.specs.Option.{option_or}
@@ -7,15 +7,15 @@ use Rattle.acl_list.specs.declared.mask.TheConstants as mask
 use Rattle.acl_list.specs.declared.entry.Kind.{Kind}
 use Rattle.acl_list.specs.declared.entry.Kind.TheVariants.{File, Directory, Link}
 
--- the rights by their bits, the lowest first
+-- the permissions by their bits, the lowest first
 abbrev pub rights : List ℕ
 rights = map (λ place. 2 ^ place) defined
 
--- whether a mask is the bit of one right
+-- whether a mask is the bit of one permission
 abbrev pub is_right : ℕ → Bool
 is_right bits = list_any (λ right. right == bits) rights
 
--- rights with their names
+-- permissions with their names
 abbrev pub Names : Type 0
 Names = List (ℕ × List ℕ)
 
@@ -40,7 +40,7 @@ names =
     ∷ (mask.SYNCHRONIZE, codes "synchronize")
     ∷ []
 
--- the names that a directory has in place of these
+-- the names that a directory has instead
 abbrev pub directory_names : Names
 directory_names =
     (mask.LIST_DIRECTORY, codes "list-directory")
@@ -48,11 +48,11 @@ directory_names =
     ∷ (mask.ADD_SUBDIRECTORY, codes "add-subdirectory")
     ∷ []
 
--- the name of a right in a table, if it is there
+-- the name of a permission in a table, if the table has it
 abbrev pub name_in : Names → ℕ → Option (List ℕ)
 name_in table right = option_map (λ row. row.1) (find (λ row. row.0 == right) table)
 
--- the name of a right on an object of this kind; none for what isn't the bit of one right
+-- the name of a permission on an object of this type; none if it isn't the bit of one permission
 abbrev pub right_name : Kind → ℕ → Option (List ℕ)
 right_name File right = name_in names right
 right_name Directory right = option_or (name_in directory_names right) (name_in names right)

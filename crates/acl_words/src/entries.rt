@@ -1,4 +1,4 @@
-//! An entry in words by a book, which gives users and groups their names.
+//! The text of an access control entry (ACE) by a book, which gives users and groups their names.
 ghost use Rattle.std.specs.Prelude.{◌≡◌, ◌<◌};
 ghost use Rattle.acl_words.specs.Entries.{entry_in, entry_text, named_in, principal_in};
 
@@ -8,7 +8,7 @@ use crate::words::Words;
 use acl_list::{Entry, Kind, Who};
 use who_book::{Book, NameKind};
 
-/// The who of a name of the book without its domain: under IDENTIFIER_GROUP a group's, else a user's.
+/// The principal with a name of the book, without its domain: a group under IDENTIFIER_GROUP, else a user.
 #[tactic(auto, unfolding(crate::specs::Entries::named_in))]
 fn named_in(book: &Book, flags: u32, name: &[u8]) -> Option<Who>
     ensures { result ≡ named_in flags book.now name.now }
@@ -21,7 +21,7 @@ fn named_in(book: &Book, flags: u32, name: &[u8]) -> Option<Who>
     })
 }
 
-/// The who of a principal.
+/// The principal of a text.
 fn principal_in(book: &Book, flags: u32, text: &[u8]) -> Option<Who>
     ensures { result ≡ principal_in flags book.now text.now }
 {
@@ -31,12 +31,12 @@ fn principal_in(book: &Book, flags: u32, text: &[u8]) -> Option<Who>
     }
 }
 
-/// The entry of a text, for an object of this kind: on a directory a `W` has `D` too.
+/// Reads an ACE, for an object of this type: on a directory, the alias `W` includes `D`.
 ///
-/// The text is as [`Words::read`] takes it. Its principal is `OWNER@`, `GROUP@`, `EVERYONE@`, a
-/// name of the book, with `@` and the book's domain or without, or decimal digits without leading
-/// zeros. A name or digits are a group's with flag `g`, else a user's. `Err` has the first field
-/// that can't be read, the principal after the others.
+/// The text has the form that [`Words::read`] accepts. Its principal is `OWNER@`, `GROUP@`, `EVERYONE@`, a name of the
+/// book, or decimal digits without leading zeros. A name may have `@` and the book's domain after it. A name or digits
+/// mean a group with flag `g`, else a user. `Err` has the first field that can't be read; the principal is checked
+/// last.
 pub fn read_entry(book: &Book, object: Kind, text: &[u8]) -> Result<Entry, Field>
     ensures { result ≡ entry_in object book.now text.now }
 {
@@ -56,14 +56,14 @@ pub fn read_entry(book: &Book, object: Kind, text: &[u8]) -> Result<Entry, Field
     }
 }
 
-/// The words of an entry: in letters where they say it, else in the hexadecimal form. A user or group has its name with
-/// `@` and the domain where the book has one, else digits. They are read as this entry:
-/// [`crate::entries_are_read_again`]. It takes no memory.
+/// Writes an ACE: in letters if they express it, else in the hexadecimal form. A user or group is written by its name
+/// with `@` and the domain if the book has one, else in digits. The text is read as this ACE:
+/// [`crate::entries_are_read_again`]. The function allocates nothing.
 pub fn write_entry(book: &Book, entry: &Entry) -> Text
     requires { entry.now.flags < 256 }
     ensures { result ≡ entry_text book.now entry.now }
 {
-    let who = book.spell_who(entry.who);
+    let who = book.spell_ace_principal(entry.who);
     let words = Words {
         kind: entry.kind,
         flags: entry.flags as u8,

@@ -1,8 +1,8 @@
-//! The field of an entry that can't be read, and what would do there.
+//! The field of an access control entry (ACE) that can't be read, and what is valid there.
 ghost use Rattle.std.specs.Prelude.{◌≡◌};
 ghost use Rattle.acl_words.specs.Help as specs;
 
-/// The first field of an entry that can't be read, in this order.
+/// The first field of an ACE that can't be read, in this order.
 #[derive(Clone, Copy, Debug, PartialEq, Eq)]
 pub enum Field {
     /// There are fewer than three colons.
@@ -18,7 +18,7 @@ pub enum Field {
 }
 
 impl Field {
-    /// Says what would do in the field.
+    /// A text that says what is valid in the field.
     pub fn help(self) -> &'static str
         ensures { result.now ≡ specs.help_text self }
     {

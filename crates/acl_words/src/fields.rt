@@ -1,8 +1,8 @@
-//! A text at the first or at the last of its bytes of one value.
+//! Splits a text at the first or the last byte with a given value.
 ghost use Rattle.std.specs.Prelude.{◌≡◌, option_map};
 ghost use Rattle.acl_words.specs.Fields as specs;
 
-/// Gives what stands before and after the first such byte.
+/// Returns what precedes and what follows the first byte with this value.
 pub(crate) fn split_at(text: &[u8], byte: u8) -> Option<(&[u8], &[u8])>
     ensures { option_map (λ parts. (parts.0.now, parts.1.now)) result ≡ specs.split_at byte text.now }
 {
@@ -14,7 +14,7 @@ pub(crate) fn split_at(text: &[u8], byte: u8) -> Option<(&[u8], &[u8])>
     None
 }
 
-/// Gives what stands before and after the last such byte.
+/// Returns what precedes and what follows the last byte with this value.
 pub(crate) fn split_at_last(text: &[u8], byte: u8) -> Option<(&[u8], &[u8])>
     ensures { option_map (λ parts. (parts.0.now, parts.1.now)) result ≡ specs.split_at_last byte text.now }
 {

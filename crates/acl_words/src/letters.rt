@@ -23,7 +23,7 @@ pub(crate) const FLAGS: [Letter; 8] = [
     (b'h', flag::INHERITED),
 ];
 
-/// The letters of the bits of a mask, in the order in which they are written.
+/// The letters of the permissions, in the order in which they are written.
 pub(crate) const PERMISSIONS: [Letter; 14] = [
     (b'r', mask::READ_DATA),
     (b'w', mask::WRITE_DATA),
@@ -57,7 +57,7 @@ const ALIASES: [Letter; 3] = [
     (b'X', GENERIC_EXECUTE),
 ];
 
-/// The aliases for a directory: a W has D too.
+/// The aliases for a directory: a W includes D.
 const DIRECTORY_ALIASES: [Letter; 3] = [
     (b'R', GENERIC_READ),
     (b'W', GENERIC_WRITE | mask::DELETE_CHILD),
@@ -80,7 +80,7 @@ fn bits_of(letters: &[Letter], byte: u8) -> Option<u32>
     letters.iter().find(|row| row.0 == byte).map(|row| row.1)
 }
 
-/// The bits of letters and aliases.
+/// The bits of a text of letters and aliases.
 fn read_letters(letters: &[Letter], aliases: &[Letter], text: &[u8]) -> Option<u32>
     ensures { result ≡ specs.letters_after letters.now aliases.now 0 text.now }
 {
@@ -114,7 +114,7 @@ fn digit(byte: u8) -> Option<u32>
     }
 }
 
-/// A number with one more hexadecimal digit.
+/// A number with one more hexadecimal digit. `None`: the byte is no digit, or the number exceeds 32 bits.
 fn number_with(number: u32, byte: u8) -> Option<u32>
     ensures { result ≡ specs.number_with number byte }
 {
@@ -126,7 +126,7 @@ fn number_with(number: u32, byte: u8) -> Option<u32>
     }
 }
 
-/// The bits with those of numbers that have a `+` between them.
+/// `bits` with those of the numbers of a text, which are separated by a `+`.
 fn read_numbers(mut bits: u32, text: &[u8]) -> Option<u32>
     ensures { result ≡ specs.numbers_after bits 0 text.now }
 {
@@ -157,7 +157,7 @@ pub(crate) fn read_flags(text: &[u8]) -> Option<u8>
     Some(flags as u8)
 }
 
-/// The mask of a text, for an object of this kind.
+/// The mask of a text, for an object of this type.
 pub(crate) fn read_permissions(object: Kind, text: &[u8]) -> Option<u32>
     ensures { result ≡ specs.permissions_in object text.now }
 {
@@ -170,14 +170,14 @@ fn read_both(object: Kind, text: &[u8], parts: Option<(&[u8], &[u8])>) -> Option
 {
     match parts {
         None => read_rights(object, text),
-        Some((front, rest)) => {
-            let bits = read_rights(object, front)?;
+        Some((prefix, rest)) => {
+            let bits = read_rights(object, prefix)?;
             read_numbers(bits, rest)
         }
     }
 }
 
-/// The bits of letters and aliases.
+/// The bits of a text of letters and aliases of permissions.
 
 fn read_rights(object: Kind, text: &[u8]) -> Option<u32>
     ensures { result ≡ specs.rights_in object text.now }
@@ -185,7 +185,7 @@ fn read_rights(object: Kind, text: &[u8]) -> Option<u32>
     read_letters(&PERMISSIONS, aliases_for(object), text)
 }
 
-/// Puts the letters of the bits that are there.
+/// Appends the letters of the bits that are set.
 fn push_letters(text: &mut Text, letters: &[Letter], bits: u32)
     requires { length text.old + length letters.now ≤ 256 }
     ensures text { text.new ≡ text.old ++ specs.letters_text letters.now bits }
@@ -198,7 +198,7 @@ fn push_letters(text: &mut Text, letters: &[Letter], bits: u32)
     }
 }
 
-/// Puts a piece, if the bit is there.
+/// Appends a piece if the bit is set.
 fn push_if(text: &mut Text, bits: u32, bit: u32, piece: &[u8])
     requires { length text.old + length piece.now ≤ 256 }
     ensures text { text.new ≡ text.old ++ specs.text_if bits bit piece.now }
@@ -209,7 +209,7 @@ fn push_if(text: &mut Text, bits: u32, bit: u32, piece: &[u8])
     }
 }
 
-/// Puts the letters of flags, at most 8.
+/// Appends the letters of flags, at most 8.
 pub(crate) fn push_flags(text: &mut Text, flags: u32)
     requires { length text.old ≤ 248 }
     ensures text { text.new ≡ text.old ++ specs.letters_text specs.flag_letters flags }
@@ -218,7 +218,7 @@ pub(crate) fn push_flags(text: &mut Text, flags: u32)
     push_letters(text, &FLAGS, flags);
 }
 
-/// Puts the letters of a mask, and `+200` and `+400`: at most 22 bytes.
+/// Appends the letters of a mask, and `+200` and `+400`: at most 22 bytes.
 pub(crate) fn push_permissions(text: &mut Text, mask: u32)
     requires { length text.old ≤ 234 }
     ensures text { text.new ≡ text.old ++ specs.permissions_text mask }

@@ -1,10 +1,10 @@
-//! The rights of a mask, and their names (RFC 8881, section 6.2.1.3.1).
+//! The permissions of a mask, and their names (RFC 8881, section 6.2.1.3.1).
 ghost use Rattle.std.specs.Prelude.{◌≡◌, is_some, option_map};
 ghost use Rattle.acl_words.specs.Rights as specs;
 
 use acl_list::{Kind, mask};
 
-/// The rights, in the order of their bits.
+/// The permissions, in the order of their bits.
 pub const RIGHTS: [u32; 16] = [
     mask::READ_DATA,
     mask::WRITE_DATA,
@@ -24,7 +24,7 @@ pub const RIGHTS: [u32; 16] = [
     mask::SYNCHRONIZE,
 ];
 
-/// The name of a right on an object of this kind. `None`: it isn't one of [`RIGHTS`].
+/// The name of a permission on an object of this type. `None`: it isn't one of [`RIGHTS`].
 pub fn right_name(object: Kind, right: u32) -> Option<&'static str>
     ensures name { option_map (λ name. name.now) result ≡ specs.right_name object right }
     ensures named { is_some result ≡ specs.is_right right }

@@ -1,9 +1,9 @@
-//! A short text that takes no memory.
+//! A short text that needs no allocation.
 ghost use Rattle.std.specs.Prelude.{◌≡◌, ◌+◌, ◌≤◌, [], ◌++◌, length};
 
 use std::marker::Model;
 
-/// The most bytes of a text.
+/// The largest number of bytes of a text.
 pub const MOST_TEXT: usize = 256;
 
 /// A text of at most [`MOST_TEXT`] bytes.
@@ -33,7 +33,7 @@ impl Text {
         }
     }
 
-    /// Puts bytes at the end.
+    /// Appends bytes.
     pub(crate) fn push(&mut self, piece: &[u8])
         requires { length self.old + length piece.now ≤ 256 }
         ensures { self.new ≡ self.old ++ piece.now }

@@ -1,9 +1,9 @@
-//! An entry in words, with its principal as text.
+//! The text of an access control entry (ACE), with its principal as text.
 ghost use Rattle.std.specs.Prelude.{◌≡◌, ◌≤◌, ◌+◌, [], ◌∷◌, ◌++◌, length, take, OnOk, OnErr, MatchResult, Ok, Err};
 ghost use Rattle.std.specs.Int.{w32, to_be_bytes};
 ghost use Rattle.hex.specs.Hex.{decode_sized, encode_lower};
 ghost use Rattle.acl_words.specs.Fields.{split_at_last};
-ghost use Rattle.acl_words.specs.WordViews.{said};
+ghost use Rattle.acl_words.specs.WordViews.{entry_words};
 ghost use Rattle.acl_words.specs.Words as specs;
 
 use crate::field::Field;
@@ -14,20 +14,20 @@ use acl_list::{EntryKind, Kind, mask};
 use hex::{decode_to_slice, encode_to_slice};
 use std::alloc::{AllocError, Allocator};
 
-/// An entry of a list with its principal as text.
+/// An ACE of an access control list with its principal as text.
 ///
-/// Its words are `TYPE:FLAGS:PRINCIPAL:PERMISSIONS` in the letters of nfs4_setfacl and nfs4_getfacl, as in
-/// `A:fdi:alice@lab.example:rxtncy`, or in the hexadecimal form `TYPE:FLAGS:MASK:PRINCIPAL`, as in
+/// The text of an ACE is `TYPE:FLAGS:PRINCIPAL:PERMISSIONS` in the letters of nfs4_setfacl and nfs4_getfacl, as in
+/// `A:fdi:alice@lab.example:rxtncy`. In the hexadecimal form it is `TYPE:FLAGS:MASK:PRINCIPAL`, as in
 /// `A:0b:001200a9:alice@lab.example`.
 #[derive(Clone, Copy, Debug)]
 pub struct Words<'a> {
-    /// The type of the entry.
+    /// The type of the ACE.
     pub kind: EntryKind,
-    /// The flags of the entry: bits of [`acl_list::flag`].
+    /// The flags of the ACE: bits of [`acl_list::flag`].
     pub flags: u8,
-    /// The mask of the entry: bits of [`acl_list::mask`].
+    /// The mask of the ACE: bits of [`acl_list::mask`].
     pub mask: u32,
-    /// The principal of the entry.
+    /// The principal of the ACE.
     pub who: &'a [u8],
 }
 
@@ -66,7 +66,7 @@ fn letter_of(kind: EntryKind) -> u8
     }
 }
 
-/// The byte that two hexadecimal digits are.
+/// The byte that two hexadecimal digits encode.
 fn byte_in(text: &[u8]) -> Option<u8>
     ensures { result ≡ specs.byte_in (decode_sized text.now 1) }
 {
@@ -77,7 +77,7 @@ fn byte_in(text: &[u8]) -> Option<u8>
     }
 }
 
-/// The number that eight hexadecimal digits are.
+/// The number that eight hexadecimal digits encode.
 fn word_in(text: &[u8]) -> Option<u32>
     ensures { result ≡ specs.word_in (decode_sized text.now 4) }
 {
@@ -88,7 +88,7 @@ fn word_in(text: &[u8]) -> Option<u32>
     }
 }
 
-/// The flags and the mask, where the one is two hexadecimal digits and the other eight.
+/// The flags and the mask, if the flags are two hexadecimal digits and the mask eight.
 #[tactic(auto, unfolding(crate::specs::Words::numbers_in))]
 fn numbers_in(flags: &[u8], mask: &[u8]) -> Option<(u8, u32)>
     ensures { result ≡ specs.numbers_in flags.now mask.now }
@@ -98,7 +98,7 @@ fn numbers_in(flags: &[u8], mask: &[u8]) -> Option<(u8, u32)>
     Some((flags, mask))
 }
 
-/// The entry of flags, principal and permissions in letters.
+/// The ACE with flags, principal and permissions in letters.
 fn lettered<'a>(
     object: Kind,
     kind: EntryKind,
@@ -106,7 +106,7 @@ fn lettered<'a>(
     rest: &'a [u8],
 ) -> Result<Words<'a>, Field>
     ensures { MatchResult result
-        (λ w. specs.lettered object kind flags.now (split_at_last 58 rest.now) ≡ Ok (said w))
+        (λ w. specs.lettered object kind flags.now (split_at_last 58 rest.now) ≡ Ok (entry_words w))
         (λ fault. specs.lettered object kind flags.now (split_at_last 58 rest.now) ≡ Err fault) }
 {
     let Some((who, permissions)) = split_at_last(rest, b':') else {
@@ -127,15 +127,15 @@ fn lettered<'a>(
 }
 
 impl<'a> Words<'a> {
-    /// The entry of a text, for an object of this kind: on a directory a `W` has `D` too.
+    /// Reads an ACE, for an object of this type: on a directory, the alias `W` includes `D`.
     ///
-    /// An entry is hexadecimal where its second field is two hexadecimal digits and its third eight, and else in
-    /// letters. In letters the principal ends at the last colon, and in the hexadecimal form it is all after the third.
-    /// `Err` has the first field that can't be read; the principal is taken as it is.
-    #[tactic(auto, unfolding(crate::specs::Words::said_in))]
+    /// An ACE is in the hexadecimal form if its second field is two hexadecimal digits and its third eight. Else it is
+    /// in letters. In letters the principal ends at the last colon. In the hexadecimal form it is everything after the
+    /// third. `Err` has the first field that can't be read; any principal is accepted.
+    #[tactic(auto, unfolding(crate::specs::Words::entry_words_in))]
     pub fn read(object: Kind, text: &'a [u8]) -> Result<Self, Field>
-        ensures { MatchResult result (λ w. specs.said_in object text.now ≡ Ok (said w))
-            (λ fault. specs.said_in object text.now ≡ Err fault) }
+        ensures { MatchResult result (λ w. specs.entry_words_in object text.now ≡ Ok (entry_words w))
+            (λ fault. specs.entry_words_in object text.now ≡ Err fault) }
     {
         let Some((kind, rest)) = split_at(text, b':') else {
             return Err(Field::Form);
@@ -160,10 +160,11 @@ impl<'a> Words<'a> {
         }
     }
 
-    /// Whether letters say the entry: each bit of the mask has a text, and the text isn't one of the hexadecimal form.
+    /// Whether letters express the ACE: each bit of the mask has a text, and the text isn't one of the hexadecimal
+    /// form.
     #[tactic(auto, unfolding(crate::specs::Words::is_lettered))]
     fn is_lettered(&self) -> bool
-        ensures { result ≡ specs.is_lettered (said self.now) }
+        ensures { result ≡ specs.is_lettered (entry_words self.now) }
     {
         let mut flags = Text::new();
         push_flags(&mut flags, u32::from(self.flags));
@@ -171,23 +172,23 @@ impl<'a> Words<'a> {
         self.mask & mask::DEFINED == self.mask && numbers.is_none()
     }
 
-    /// Puts what is written before the principal: at most 14 bytes.
-    fn push_front(&self, text: &mut Text, letters: bool)
+    /// Appends the part before the principal: at most 14 bytes.
+    fn push_prefix(&self, text: &mut Text, letters: bool)
         requires room { length text.old ≤ 242 }
-        requires letters { letters ≡ specs.is_lettered (said self.now) }
-        ensures text { text.new ≡ text.old ++ specs.front_text (said self.now) }
+        requires letters { letters ≡ specs.is_lettered (entry_words self.now) }
+        ensures text { text.new ≡ text.old ++ specs.prefix_text (entry_words self.now) }
         ensures few { length text.new ≤ length text.old + 14 }
     {
         if letters {
-            self.push_letters_front(text);
+            self.push_letters_prefix(text);
         } else {
-            self.push_numbers_front(text);
+            self.push_numbers_prefix(text);
         }
     }
 
-    fn push_letters_front(&self, text: &mut Text)
+    fn push_letters_prefix(&self, text: &mut Text)
         requires { length text.old ≤ 242 }
-        ensures text { text.new ≡ text.old ++ specs.letters_front (said self.now) }
+        ensures text { text.new ≡ text.old ++ specs.letters_prefix (entry_words self.now) }
         ensures few { length text.new ≤ length text.old + 11 }
     {
         text.push(&[letter_of(self.kind), b':']);
@@ -195,9 +196,9 @@ impl<'a> Words<'a> {
         text.push(b":");
     }
 
-    fn push_numbers_front(&self, text: &mut Text)
+    fn push_numbers_prefix(&self, text: &mut Text)
         requires { length text.old ≤ 242 }
-        ensures text { text.new ≡ text.old ++ specs.numbers_front (said self.now) }
+        ensures text { text.new ≡ text.old ++ specs.numbers_prefix (entry_words self.now) }
         ensures few { length text.new ≤ length text.old + 14 }
     {
         text.push(&[letter_of(self.kind), b':']);
@@ -207,11 +208,11 @@ impl<'a> Words<'a> {
         text.push(b":");
     }
 
-    /// Puts what is written after the principal: at most 23 bytes.
+    /// Appends the part after the principal: at most 23 bytes.
     fn push_back(&self, text: &mut Text, letters: bool)
         requires room { length text.old ≤ 233 }
-        requires letters { letters ≡ specs.is_lettered (said self.now) }
-        ensures text { text.new ≡ text.old ++ specs.back_text (said self.now) }
+        requires letters { letters ≡ specs.is_lettered (entry_words self.now) }
+        ensures text { text.new ≡ text.old ++ specs.back_text (entry_words self.now) }
         ensures few { length text.new ≤ length text.old + 23 }
     {
         if letters {
@@ -220,23 +221,23 @@ impl<'a> Words<'a> {
         }
     }
 
-    /// The words of an entry whose principal has at most 193 bytes. It takes no memory.
+    /// The text of an ACE whose principal has at most 193 bytes. The function allocates nothing.
     pub(crate) fn to_text(&self) -> Text
         requires { length self.now.who.now ≤ 193 }
-        ensures { result ≡ specs.said_text (said self.now) }
+        ensures { result ≡ specs.entry_words_text (entry_words self.now) }
     {
         let letters = self.is_lettered();
         let mut text = Text::new();
-        self.push_front(&mut text, letters);
+        self.push_prefix(&mut text, letters);
         text.push(self.who);
         self.push_back(&mut text, letters);
         text
     }
 
-    /// Puts the words of the entry: in letters where they say it, else in the hexadecimal form. They are read as this
-    /// entry: [`crate::words_are_read_again`]. `Err`: there is no memory for them, and nothing is put.
+    /// Appends the text of the ACE: in letters if they express it, else in the hexadecimal form. The text is read as
+    /// this ACE: [`crate::words_are_read_again`]. `Err`: the allocation fails, and nothing is appended.
     pub fn put<A: Allocator>(&self, out: &mut Vec<u8, A>) -> Result<(), AllocError>
-        ensures ok { OnOk result (out.new.items ≡ out.old.items ++ specs.said_text (said self.now)) }
+        ensures ok { OnOk result (out.new.items ≡ out.old.items ++ specs.entry_words_text (entry_words self.now)) }
         ensures err { OnErr result (out.new.items ≡ out.old.items) }
     {
         let before = out.len();
@@ -247,17 +248,17 @@ impl<'a> Words<'a> {
         put
     }
 
-    /// Puts the words of the entry, or as much of them as there is memory for.
+    /// Appends the text of the ACE, or a prefix of it if an allocation fails.
     fn append<A: Allocator>(&self, out: &mut Vec<u8, A>) -> Result<(), AllocError>
-        ensures ok { OnOk result (out.new.items ≡ out.old.items ++ specs.said_text (said self.now)) }
+        ensures ok { OnOk result (out.new.items ≡ out.old.items ++ specs.entry_words_text (entry_words self.now)) }
         ensures kept { take (length out.old.items) out.new.items ≡ out.old.items }
     {
         let letters = self.is_lettered();
-        let mut front = Text::new();
-        self.push_front(&mut front, letters);
+        let mut prefix = Text::new();
+        self.push_prefix(&mut prefix, letters);
         let mut back = Text::new();
         self.push_back(&mut back, letters);
-        out.extend_from_slice(front.as_bytes())?;
+        out.extend_from_slice(prefix.as_bytes())?;
         out.extend_from_slice(self.who)?;
         out.extend_from_slice(back.as_bytes())?;
         Ok(())
@@ -269,7 +270,7 @@ fn third_field(who: &[u8]) -> &[u8]
     ensures { result.now ≡ specs.third_field who.now }
 {
     match split_at(who, b':') {
-        Some((front, _)) => front,
+        Some((prefix, _)) => prefix,
         None => who,
     }
 }

@@ -1,13 +1,13 @@
--- When a sentence is said of a value that is out of range.
+-- When a value that is out of range gets a sentence.
 use Rattle.std.specs.Prelude.{◌≡◌, ◌&&◌, ℕ, ℤ, Bool, true, false, List, codes, Option, Some, None}
 use Rattle.toml.specs.Data.{Members}
 use Rattle.who_book.specs.Content.{is_domain}
 use Rattle.who_book.specs.Document.{is_up_to, integer_at}
 
--- a sentence is said exactly where something isn't right
-abbrev pub Says : {X : Type 0} → Bool → Option X → Type 0
-Says right None = right ≡ true
-Says right (Some words) = right ≡ false
+-- there is a sentence if and only if something isn't right
+abbrev pub Reports : {X : Type 0} → Bool → Option X → Type 0
+Reports right None = right ≡ true
+Reports right (Some words) = right ≡ false
 
 -- a value that is missing, or has another type, isn't out of range
 abbrev pub is_right_number : ℕ → Option ℤ → Bool

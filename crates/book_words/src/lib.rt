@@ -1,5 +1,4 @@
-//! Says what is wrong with a text that is no book of names, in a sentence: key, names, line, and
-//! what would do.
+//! Explains in a sentence why a text isn't a book of names: the key, the names, the line, and what is valid there.
 #![tactic(auto)]
 
 mod members;

@@ -1,13 +1,13 @@
-//! Members that the tables don't have, or that are there too often.
+//! Members that the tables don't have, or that occur too often.
 use crate::names::names_at;
 use std::alloc::{AllocError, Global};
 use toml::value::Array;
 use toml::{Table, Value};
 
-/// The most groups of a user.
+/// The largest number of groups of a user.
 const MOST_GROUPS: usize = 17;
 
-/// Says what is wrong with the members of a table of the right shape, if anything is.
+/// Explains what is wrong with the members of a table of the right shape. `None`: nothing is.
 pub(crate) fn member(alloc: Global, table: &Table) -> Result<Option<String>, AllocError> {
     let Some(rolls) = names_at(table, "members") else {
         return Ok(None);
@@ -28,7 +28,7 @@ fn has(table: &Table, key: &str, name: &str) -> bool {
     }
 }
 
-/// Says what is wrong with the array of a group.
+/// Explains what is wrong with the array of a group. `None`: nothing is.
 fn roll(
     alloc: Global,
     table: &Table,
@@ -44,7 +44,7 @@ fn roll(
     }
 }
 
-/// A user of an array that the book doesn't have, or that is there twice.
+/// Explains that an array names a user that the book doesn't have, or names a user twice.
 fn listed(
     alloc: Global,
     table: &Table,
@@ -63,7 +63,7 @@ fn listed(
     Ok(None)
 }
 
-/// How often an array has a name.
+/// The number of times that an array has a name.
 fn times(users: &Array, name: &str) -> usize {
     let mut count = 0usize;
     for value in users {
@@ -74,7 +74,7 @@ fn times(users: &Array, name: &str) -> usize {
     count
 }
 
-/// A user that is in more than 17 groups.
+/// Explains that a user is in more than 17 groups.
 fn crowded(alloc: Global, table: &Table, rolls: &Table) -> Result<Option<String>, AllocError> {
     let Some(users) = names_at(table, "users") else {
         return Ok(None);
@@ -90,7 +90,7 @@ fn crowded(alloc: Global, table: &Table, rolls: &Table) -> Result<Option<String>
     Ok(None)
 }
 
-/// How many arrays have a name.
+/// The number of arrays that have a name, each counted as often as it has it.
 fn groups_of(rolls: &Table, name: &str) -> usize {
     let mut count = 0usize;
     for (_, users) in rolls {

@@ -1,11 +1,11 @@
-//! Numbers, modes, domains and names that are out of range, and numbers of two names.
+//! Numbers, modes, domains and names that are out of range, and numbers with two names.
 ghost use Rattle.std.specs.Prelude.{◌≡◌, ◌&&◌, codes, IfOk, option_map};
 ghost use Rattle.std.specs.Char.{is_ascii_digit};
 ghost use Rattle.std.specs.List.{list_all};
 ghost use Rattle.toml.specs.View.{table_view};
 ghost use Rattle.who_book.specs.Document.{is_up_to, text_at, integer_at};
 ghost use Rattle.who_book.specs.Names.{is_word, is_name};
-ghost use Rattle.book_words.specs.Ranges.{Says, is_right_number, is_right_domain, are_right_settings};
+ghost use Rattle.book_words.specs.Ranges.{Reports, is_right_number, is_right_domain, are_right_settings};
 
 use std::alloc::{AllocError, Global};
 use toml::Table;
@@ -16,15 +16,15 @@ const GREATEST: u32 = 4_294_967_295;
 /// The greatest mode.
 const GREATEST_MODE: u32 = 0o7777;
 
-/// The most names of a table.
+/// The largest number of names in a table.
 const MOST_NAMES: usize = 1024;
 
-/// The most bytes of a domain, and of a name.
+/// The largest numbers of bytes of a domain and of a name.
 const LONGEST_DOMAIN: usize = 128;
 
 const LONGEST_NAME: usize = 64;
 
-/// Says what is out of range in a table of the right shape, if anything is.
+/// Explains what is out of range in a table of the right shape. `None`: nothing is.
 pub(crate) fn range(alloc: Global, table: &Table) -> Result<Option<String>, AllocError> {
     if let Some(words) = domain(alloc, table)? {
         return Ok(Some(words));
@@ -85,16 +85,16 @@ fn is_digits(text: &[u8]) -> bool
     text.iter().all(|byte| byte.is_ascii_digit())
 }
 
-/// Whether a text can be a name: digits alone are a number.
+/// Whether a text can be a name: digits alone would be a number.
 fn is_name(text: &str) -> bool
     ensures { result ≡ is_name text.now }
 {
     is_word(text, LONGEST_NAME) && !is_digits(text.as_bytes())
 }
 
-/// Says what is wrong with the domain.
+/// Explains what is wrong with the domain. `None`: nothing is.
 fn domain(alloc: Global, table: &Table) -> Result<Option<String>, AllocError>
-    ensures { IfOk result (λ words. Says (is_right_domain (text_at (codes "domain") (table_view table.now))) words) }
+    ensures { IfOk result (λ words. Reports (is_right_domain (text_at (codes "domain") (table_view table.now))) words) }
 {
     let Some(text) = text_at(table, "domain") else {
         return Ok(None);
@@ -106,9 +106,9 @@ fn domain(alloc: Global, table: &Table) -> Result<Option<String>, AllocError>
     Ok(Some(words))
 }
 
-/// The first of the root's settings that is out of range.
+/// Explains the first of the root's settings that is out of range.
 fn settings(alloc: Global, table: &Table) -> Result<Option<String>, AllocError>
-    ensures { IfOk result (λ words. Says (are_right_settings (table_view table.now)) words) }
+    ensures { IfOk result (λ words. Reports (are_right_settings (table_view table.now)) words) }
 {
     if let Some(words) = number(alloc, "root_owner", integer_at(table, "root_owner"))? {
         return Ok(Some(words));
@@ -119,9 +119,9 @@ fn settings(alloc: Global, table: &Table) -> Result<Option<String>, AllocError>
     mode(alloc, integer_at(table, "root_mode"))
 }
 
-/// A mode that is out of range.
+/// Explains that a mode is out of range.
 fn mode(alloc: Global, mode: Option<i64>) -> Result<Option<String>, AllocError>
-    ensures { IfOk result (λ words. Says (is_right_number 4095 mode) words) }
+    ensures { IfOk result (λ words. Reports (is_right_number 4095 mode) words) }
 {
     let Some(mode) = mode else {
         return Ok(None);
@@ -135,9 +135,9 @@ fn mode(alloc: Global, mode: Option<i64>) -> Result<Option<String>, AllocError>
     Ok(Some(words))
 }
 
-/// A number that is out of range, of this key or name.
+/// Explains that the number of this key or name is out of range.
 fn number(alloc: Global, name: &str, number: Option<i64>) -> Result<Option<String>, AllocError>
-    ensures { IfOk result (λ words. Says (is_right_number 4294967295 number) words) }
+    ensures { IfOk result (λ words. Reports (is_right_number 4294967295 number) words) }
 {
     let Some(number) = number else {
         return Ok(None);
@@ -149,7 +149,7 @@ fn number(alloc: Global, name: &str, number: Option<i64>) -> Result<Option<Strin
     Ok(Some(words))
 }
 
-/// The first name or number of a table that is out of range, or too many names.
+/// Explains the first name or number of a table that is out of range, or that there are too many names.
 fn rows(alloc: Global, table: &Table, key: &str) -> Result<Option<String>, AllocError> {
     let Some(names) = names_at(table, key) else {
         return Ok(None);
@@ -169,14 +169,14 @@ fn rows(alloc: Global, table: &Table, key: &str) -> Result<Option<String>, Alloc
     Ok(None)
 }
 
-/// Says what is out of range in a row of a table.
+/// Explains what is out of range in a row of a table. `None`: nothing is.
 fn row(
     alloc: Global,
     key: &str,
     name: &str,
     integer: Option<i64>,
 ) -> Result<Option<String>, AllocError>
-    ensures { IfOk result (λ words. Says (is_name name.now && is_right_number 4294967295 integer) words) }
+    ensures { IfOk result (λ words. Reports (is_name name.now && is_right_number 4294967295 integer) words) }
 {
     if !is_name(name) {
         let words = format!(in alloc;
@@ -190,7 +190,7 @@ fn row(
     }
 }
 
-/// Two names of one number, in a table of users or else of groups.
+/// Explains that two names have the same number, in the table of users or else of groups.
 pub(crate) fn twice(alloc: Global, table: &Table) -> Result<Option<String>, AllocError> {
     if let Some(words) = pair(alloc, table, "users")? {
         return Ok(Some(words));
@@ -198,7 +198,7 @@ pub(crate) fn twice(alloc: Global, table: &Table) -> Result<Option<String>, Allo
     pair(alloc, table, "groups")
 }
 
-/// Two names of one number in the table of a key.
+/// Explains that two names have the same number, in the table of a key.
 fn pair(alloc: Global, table: &Table, key: &str) -> Result<Option<String>, AllocError> {
     let Some(names) = names_at(table, key) else {
         return Ok(None);
@@ -212,7 +212,7 @@ fn pair(alloc: Global, table: &Table, key: &str) -> Result<Option<String>, Alloc
     Ok(None)
 }
 
-/// The name of this number that comes before another name of a table.
+/// The name of a table that has this number and comes before another name.
 fn before<'a>(names: &'a Table, name: &str, number: Option<i64>) -> Option<&'a str> {
     for (other, value) in names {
         if other.as_str() == name {

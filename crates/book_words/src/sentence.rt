@@ -1,4 +1,4 @@
-//! The sentence of a fault.
+//! The sentence that explains a fault.
 ghost use Rattle.std.specs.Prelude.{◌≡◌, codes, string_bytes, IfOk};
 
 use crate::members::member;
@@ -8,9 +8,9 @@ use std::alloc::{AllocError, Global};
 use toml::Table;
 use who_book::BookFault;
 
-/// Says what is wrong with a text that has this fault, without the name of its file: as
-/// `users: carol and bob are both 1002`. It is one sentence, of the first place that is found.
-/// `Err`: there is no memory for it.
+/// Explains what is wrong with a text that has this fault, as in `users: carol and bob are both 1002`. The name of the
+/// file isn't included. The result is one sentence, on the first place that is found. `Err`: the allocation of the
+/// sentence fails.
 pub fn explain(alloc: Global, text: &str, fault: BookFault) -> Result<String, AllocError>
     ensures { fault ≡ BookFault.Memory → IfOk result (λ words. string_bytes words ≡ codes "there is no memory for it") }
 {
@@ -23,7 +23,7 @@ pub fn explain(alloc: Global, text: &str, fault: BookFault) -> Result<String, Al
     }
 }
 
-/// Says what is wrong with a table that has this fault.
+/// Explains what is wrong with a table that has this fault.
 fn of_table(alloc: Global, table: &Table, fault: BookFault) -> Result<String, AllocError> {
     let found = match fault {
         BookFault::Shape => shape(alloc, table)?,
@@ -38,7 +38,7 @@ fn of_table(alloc: Global, table: &Table, fault: BookFault) -> Result<String, Al
     }
 }
 
-/// Where a text stops being TOML, and why.
+/// Explains at which line a text stops being TOML, and why.
 fn syntax(alloc: Global, text: &str, error: &toml::de::Error) -> Result<String, AllocError> {
     let why = error.message();
     match error.span() {
@@ -47,7 +47,7 @@ fn syntax(alloc: Global, text: &str, error: &toml::de::Error) -> Result<String, 
     }
 }
 
-/// The number of the line of a byte, from 1.
+/// The number of the line that has the byte at `start`, from 1.
 fn line_at(text: &str, start: usize) -> usize {
     let mut line = 1usize;
     for byte in text.as_bytes().iter().take(start) {

@@ -8,7 +8,7 @@ struct Key {
     example: &'static str,
 }
 
-/// The keys that each book has.
+/// The keys that each book must have.
 static KEYS: [Key; 6] = [
     Key {
         name: "domain",
@@ -36,17 +36,17 @@ static KEYS: [Key; 6] = [
     },
 ];
 
-/// The key that a book may have.
+/// The key that a book may leave out.
 const MEMBERS: &str = "members";
 
-/// A line that gives that one a value.
+/// A line that gives `members` a value.
 const ROLLS: &str = "members = { staff = [\"alice\"] }";
 
 fn keys() -> &'static [Key] {
     &KEYS
 }
 
-/// Says what is wrong with the keys of a table, or the types of their values, if anything is.
+/// Explains what is wrong with the keys of a table or the types of their values. `None`: nothing is.
 pub(crate) fn shape(alloc: Global, table: &Table) -> Result<Option<String>, AllocError> {
     if let Some(words) = unknown(alloc, table)? {
         return Ok(Some(words));
@@ -59,7 +59,7 @@ pub(crate) fn shape(alloc: Global, table: &Table) -> Result<Option<String>, Allo
     rolls(alloc, table)
 }
 
-/// A key that no book has.
+/// Explains that a table has a key that no book has.
 fn unknown(alloc: Global, table: &Table) -> Result<Option<String>, AllocError> {
     for key in table.keys() {
         let name = key.as_str();
@@ -78,7 +78,7 @@ fn is_known(name: &str) -> bool {
     name == MEMBERS || keys().iter().any(|key| key.name == name)
 }
 
-/// Says what is wrong with a key that each book has.
+/// Explains what is wrong with a key that each book must have. `None`: nothing is.
 fn of_key(alloc: Global, table: &Table, key: &Key) -> Result<Option<String>, AllocError> {
     let (name, example) = (key.name, key.example);
     let Some(value) = table.get(name) else {
@@ -100,7 +100,7 @@ fn of_key(alloc: Global, table: &Table, key: &Key) -> Result<Option<String>, All
     Ok(Some(words))
 }
 
-/// Says what is wrong with the type of a table of names, or of a number in it.
+/// Explains what is wrong with the type of a table of names, or of a number in it. `None`: nothing is.
 fn rows(
     alloc: Global,
     key: &str,
@@ -120,7 +120,7 @@ fn rows(
     Ok(None)
 }
 
-/// Says what is wrong with the type of `members`, or of an array in it.
+/// Explains what is wrong with the type of `members`, or of an array in it. `None`: nothing is.
 fn rolls(alloc: Global, table: &Table) -> Result<Option<String>, AllocError> {
     let Some(value) = table.get(MEMBERS) else {
         return Ok(None);

@@ -1,5 +1,5 @@
--- Memory is refused to the operation that the record of a call names, as the call is run again. That one
--- is answered DELAY, unless an operation before it found no memory either.
+-- On replay, the operation that the record of a call names fails its allocation. It is answered DELAY, unless the
+-- allocation of an operation before it fails too.
 use Rattle.std.proofs.Common.{◌≡◌, ◌+◌, ℕ, zero, suc, Bool, true, false, if◌then◌else◌, List, inl, inr, refl, sym, ap, subst, ◌∙◌, length, arith}
 use Rattle.std.specs.Prelude.{◌⊎◌, ◌==◌, [], ◌∷◌, Option, Some, None, Result, Ok, Err, MatchResult}
 use Rattle.std.specs.Option.{option_map}
@@ -8,10 +8,10 @@ use Rattle.nfs_types.specs.declared.status.Status.TheVariants as statuses
 use Rattle.nfs_ops.specs.Operations.{Operation, Known, next_at}
 use Rattle.nfs_ops.specs.Results.{Outcome}
 use Rattle.nfs_ops.specs.declared.OpKind.TheVariants as kinds
-use Rattle.compound_run.specs.Context.{Context, behind}
+use Rattle.compound_run.specs.Context.{Context, context_after}
 use Rattle.compound_run.specs.Operations.{may_delay}
 use Rattle.compound_run.specs.Runs.{Point, Given, Steps, Runs, result_bytes}
-use Rattle.compound_run.specs.Telling.{is_delay}
+use Rattle.compound_run.specs.AnswerOf.{is_delay}
 use Rattle.compound_run.specs.Keeping.{keeps_alone}
 use Rattle.compound_run.specs.Delayed.{delayed_in, delayed_alone}
 use Rattle.compound_run.specs.Delaying.{DelaysFrom, DelaysIn, is_place}
@@ -19,11 +19,11 @@ use Rattle.compound_run.proofs.Ending.{never_delayed}
 use Rattle.compound_laws.specs.Replays.{IsEarlier}
 use Rattle.compound_laws.proofs.Determined.{Answer, delay_is, isnt_delay, later_same, never_first, step_same}
 
--- the same place is told, or an earlier one
+-- the same place is reported, or an earlier one
 abbrev pub Agree : Option ℕ → Option ℕ → Type 0
 Agree other place = IsEarlier other place ⊎ (other ≡ place)
 
--- ---- a run to which memory is refused where its own record says so
+-- ---- a run with an allocation failing at the place of its own record
 
 equal_to : (m n : ℕ) → (m == n) ≡ true → m ≡ n
 equal_to m n is = grind (arith, is)
@@ -37,7 +37,7 @@ first_at k = omega arith
 next_place : (i k : ℕ) → i + suc k ≡ suc i + k
 next_place i k = omega arith
 
--- memory is refused to no operation but the one that these results tell of, of which the first stands at place `k`
+-- only the operation that these results report fails its allocation; the first of them is at place `k`
 abbrev OnlyThere : Option ℕ → ℕ → List Given → Type 0
 OnlyThere refused k results = (i : ℕ) → is_place refused (i + k) ≡ true → delayed_in results ≡ Some i
 
@@ -54,7 +54,7 @@ delays_from : (k : ℕ) (refused : Option ℕ) (c : Context) (bytes : List ℕ) 
 delays_from k refused c bytes [] only = tt
 delays_from k refused c bytes (given ∷ results) only = (
   λ here may. first_delayed given results (is_delay given.outcome) refl (only 0 (subst (λ n. is_place refused n ≡ true) (first_at k) here)),
-  delays_from (suc k) refused (behind c (length (result_bytes given))) (next_at bytes).1 results
+  delays_from (suc k) refused (context_after c (length (result_bytes given))) (next_at bytes).1 results
       (λ i here. rest_delayed (delayed_in results) (is_delay given.outcome) i (only (suc i) (subst (λ n. is_place refused n ≡ true) (next_place i k) here))),
 )
 
@@ -65,9 +65,9 @@ itself (Some m) i here = let same = equal_to m (i + 0) here in let there : m ≡
 pub delays_itself : (c : Context) (bytes : List ℕ) (results : List Given) → DelaysIn (delayed_in results) c bytes results
 delays_itself c bytes results = delays_from 0 (delayed_in results) c bytes results (itself (delayed_in results))
 
--- ---- another run from the same place
+-- ---- another run from the same state
 
--- memory is refused to the operation that these results tell of
+-- the operation that these results report fails its allocation
 abbrev AtPlace : Option ℕ → ℕ → List Given → Type 0
 AtPlace refused k results = (i : ℕ) → delayed_in results ≡ Some i → is_place refused (i + k) ≡ true
 
@@ -120,10 +120,10 @@ one_agrees false false c n bytes old mid mid' new last given given' results othe
     let alike : given ≡ given' = λ i. record { number = same i; outcome = both.0 i } in
     let there : Answer c n bytes given mid others last =
     subst (λ (g : Given). Answer c n bytes g mid others last) (sym alike) (subst (λ (p : Point). Answer c n bytes given' p others last) (sym both.1) y) in
-    let more = subst (λ (g : Given). DelaysFrom (suc k) refused (behind c (length (result_bytes g))) (next_at bytes).1 others) (sym alike) delays.1 in
+    let more = subst (λ (g : Given). DelaysFrom (suc k) refused (context_after c (length (result_bytes g))) (next_at bytes).1 others) (sym alike) delays.1 in
     lifted (delayed_in others) (delayed_in results)
-    (rest_agrees given.outcome mid new last results others (λ rs p. Runs (behind c (length (result_bytes given))) n (next_at bytes).1 mid rs p)
-    (λ u v. rest (behind c (length (result_bytes given))) u v more (later_place refused k given results is at)) x there)
+    (rest_agrees given.outcome mid new last results others (λ rs p. Runs (context_after c (length (result_bytes given))) n (next_at bytes).1 mid rs p)
+    (λ u v. rest (context_after c (length (result_bytes given))) u v more (later_place refused k given results is at)) x there)
 
 agrees_from : (c : Context) (n : ℕ) (bytes : List ℕ) (old : Point) (results others : List Given) (new last : Point) (k : ℕ) (refused : Option ℕ)
     → Runs c n bytes old results new → Runs c n bytes old others last → DelaysFrom k refused c bytes others → AtPlace refused k results
@@ -148,7 +148,7 @@ runs_agree c n bytes old results others new last a b delays =
 
 -- ---- an operation that is the only one
 
--- where it is kept it found memory
+-- if it is logged, its allocation succeeded
 kept_undelayed : (op : Operation) (outcome : Result Outcome Status) → keeps_alone op outcome ≡ true → is_delay outcome ≡ false
 kept_undelayed op (Ok outcome) kept = refl
 kept_undelayed (Known kinds.CreateSession v) (Err statuses.Delay) kept = cc

@@ -14,7 +14,7 @@ use Rattle.session_slots.specs.Creating.{Creates}
 use Rattle.session_slots.specs.Destroying.{destroy_session_refusal, without_session, without_client}
 use Rattle.session_slots.specs.Exchanging.{Exchanges}
 use Rattle.compound_run.specs.Realm.{Realm, Opened}
-use Rattle.compound_run.specs.Questions.{told}
+use Rattle.compound_run.specs.Questions.{result_unless}
 use Rattle.compound_run.specs.State.{Call}
 use Rattle.compound_run.specs.Sessions.{session_of, opens_without, with_registry}
 use Rattle.compound_run.specs.ExchangeId.{ExchangesId, exchanging}
@@ -35,7 +35,7 @@ exchanges_alike caller v q r new outcome same e =
     record {
       given = e.given;
       exchanges = subst (λ (x : Registry × List Opened). Exchanges x.0 (exchanging caller v (record r { registry = x.0; opens = x.1 })) e.given new.registry) (λ i. (registry i, opened i)) e.exchanges;
-      told = e.told;
+      outcome_is = e.outcome_is;
       others = ap (λ os. record r { registry = new.registry; opens = os }) (ap (λ (x : Realm). x.opens) e.others ∙ opened);
     }
 
@@ -44,11 +44,11 @@ creates_alike caller v q r new outcome same e = record {
   made = e.made;
   creates = let registry = same.registry in let lasting = same.lasting in
       subst (λ (x : Registry × Bool). Creates x.0 (create_of x.1 caller v) e.made new.registry) (λ i. (registry i, lasting i)) e.creates;
-  told = e.told;
-  others = ap (λ os. record r { registry = new.registry; opens = os }) (ap (λ (x : Realm). x.opens) e.others ∙ ap (opens_without e.made.gone) same.opens);
+  outcome_is = e.outcome_is;
+  others = ap (λ os. record r { registry = new.registry; opens = os }) (ap (λ (x : Realm). x.opens) e.others ∙ ap (opens_without e.made.removed) same.opens);
 }
 
--- where it is OK the clients change, else nothing changes
+-- if it is OK the clients change, else nothing changes
 done_alike : (change : Registry → Registry) (q r new : Realm) (outcome : Result Outcome Status) → KnowAlike q r
     → OnOk outcome (new ≡ with_registry (change q.registry) q) → OnOk outcome (beside r new ≡ with_registry (change r.registry) r)
 done_alike change q r new (Ok o) same is =
@@ -66,7 +66,7 @@ refused_alike q r new (Err status) same is =
 
 destroys_alike : (v : Value destroy_session_args) (q r new : Realm) (outcome : Result Outcome Status) → KnowAlike q r → DestroysSession v q outcome new → DestroysSession v r outcome (beside r new)
 destroys_alike v q r new outcome same e = record {
-  told = e.told ∙ ap (λ x. told (destroy_session_refusal x (session_of v)) (Done kinds.DestroySession tt)) same.registry;
+  outcome_is = e.outcome_is ∙ ap (λ x. result_unless (destroy_session_refusal x (session_of v)) (Done kinds.DestroySession tt)) same.registry;
   ok = done_alike (λ x. without_session x (session_of v)) q r new outcome same e.ok;
   err = refused_alike q r new outcome same e.err;
 }
@@ -76,7 +76,7 @@ goes_alike v q r new outcome same e =
     let registry = same.registry in
     let opened = same.opens in
     record {
-      told = e.told ∙ λ i. told (client_refusal v (record r { registry = registry i; opens = opened i })) (Done kinds.DestroyClientId tt);
+      outcome_is = e.outcome_is ∙ λ i. result_unless (client_refusal v (record r { registry = registry i; opens = opened i })) (Done kinds.DestroyClientId tt);
       ok = done_alike (λ x. without_client x v) q r new outcome same e.ok;
       err = refused_alike q r new outcome same e.err;
     }

@@ -1,5 +1,5 @@
--- An operation that is the only one of its COMPOUND, done twice in one realm: it has the same result,
--- and leaves the same realm, where it found memory both times or neither time.
+-- An operation that is the only one of its COMPOUND, run twice in one realm. It has the same result, and the end realm
+-- is the same, if its allocation succeeded both times or failed both times.
 use Rattle.std.proofs.Common.{◌≡◌, ℕ, Bool, true, false, refl, sym, ap, ◌∙◌}
 use Rattle.std.specs.Prelude.{if◌then◌else◌, Option, Some, None, Result, Ok, Err}
 use Rattle.xdr_wire.specs.Xdr.{Value}
@@ -14,14 +14,14 @@ use Rattle.session_slots.specs.declared.creating.Made.{Made}
 use Rattle.session_slots.specs.Registry.{Registry}
 use Rattle.session_slots.proofs.ClientsDetermined.{AreDelayed, create_same, exchange_same}
 use Rattle.compound_run.specs.Realm.{Realm}
-use Rattle.compound_run.specs.Sessions.{opens_without, told_by, with_registry}
+use Rattle.compound_run.specs.Sessions.{opens_without, outcome_from, with_registry}
 use Rattle.compound_run.specs.ExchangeId.{ExchangesId, exchanged, exchanging}
 use Rattle.compound_run.specs.CreateSession.{CreatesSession, create_of, session_made}
 use Rattle.compound_run.specs.DestroySession.{DestroysSession}
 use Rattle.compound_run.specs.DestroyClientid.{DestroysClient}
 use Rattle.compound_run.specs.InSession.{ActsAlone}
 use Rattle.compound_run.specs.Delayed.{delayed_alone}
-use Rattle.compound_run.specs.Telling.{is_delay}
+use Rattle.compound_run.specs.AnswerOf.{is_delay}
 
 delay_of : {A : Type 0} (result : Result A Status) → is_delay result ≡ true → result ≡ Err statuses.Delay
 delay_of (Ok value) is = cc
@@ -31,17 +31,17 @@ delay_of (Err status) is = cc
 are_delayed : {A : Type 0} (x y : Result A Status) → is_delay x ≡ is_delay y → AreDelayed x y
 are_delayed x y at = (λ is. delay_of y (sym at ∙ ap is_delay is), λ is. delay_of x (at ∙ ap is_delay is))
 
-told_delayed : {A : Type 0} (gives : A → Outcome) (result : Result A Status) → is_delay (told_by gives result) ≡ is_delay result
-told_delayed gives (Ok value) = refl
-told_delayed gives (Err status) = refl
+outcome_delayed : {A : Type 0} (gives : A → Outcome) (result : Result A Status) → is_delay (outcome_from gives result) ≡ is_delay result
+outcome_delayed gives (Ok value) = refl
+outcome_delayed gives (Err status) = refl
 
--- the results found memory both times, or neither time
-both_delayed : {A : Type 0} (gives : A → Outcome) (x y : Result A Status) (o o' : Result Outcome Status) → o ≡ told_by gives x → o' ≡ told_by gives y
+-- the allocation succeeded both times, or failed both times
+both_delayed : {A : Type 0} (gives : A → Outcome) (x y : Result A Status) (o o' : Result Outcome Status) → o ≡ outcome_from gives x → o' ≡ outcome_from gives y
     → is_delay o ≡ is_delay o' → AreDelayed x y
-both_delayed gives x y o o' told told' at =
-    are_delayed x y (sym (told_delayed gives x) ∙ (sym (ap is_delay told) ∙ (at ∙ (ap is_delay told' ∙ told_delayed gives y))))
+both_delayed gives x y o o' outcome result' at =
+    are_delayed x y (sym (outcome_delayed gives x) ∙ (sym (ap is_delay outcome) ∙ (at ∙ (ap is_delay result' ∙ outcome_delayed gives y))))
 
--- an operation is done twice
+-- an operation is run twice
 abbrev ActTwice : Result Outcome Status → Result Outcome Status → Realm → Realm → Type 0
 ActTwice o o' p q = (o ≡ o') × (p ≡ q)
 
@@ -50,17 +50,17 @@ exchange_id_same : (caller : Identity) (v : Value exchange_id_args) (old : Realm
 exchange_id_same caller v old o o' p q e f at =
     let a = exchanging caller v old in
     let both = exchange_same old.registry a e.given f.given p.registry q.registry e.exchanges f.exchanges
-    (both_delayed exchanged e.given f.given o o' e.told f.told at) in
-    (e.told ∙ (ap (told_by exchanged) both.0 ∙ sym f.told), e.others ∙ (ap (λ (r : Registry). with_registry r old) both.1 ∙ sym f.others))
+    (both_delayed exchanged e.given f.given o o' e.outcome_is f.outcome_is at) in
+    (e.outcome_is ∙ (ap (outcome_from exchanged) both.0 ∙ sym f.outcome_is), e.others ∙ (ap (λ (r : Registry). with_registry r old) both.1 ∙ sym f.others))
 
 create_session_same : (caller : Identity) (v : Value create_session_args) (old : Realm) (o o' : Result Outcome Status) (p q : Realm)
     → CreatesSession caller v old o p → CreatesSession caller v old o' q → is_delay o ≡ is_delay o' → ActTwice o o' p q
 create_session_same caller v old o o' p q e f at =
     let a = create_of old.lasting caller v in
     let both = create_same old.registry a e.made f.made p.registry q.registry e.creates f.creates
-    (both_delayed session_made e.made.result f.made.result o o' e.told f.told at) in (
-      e.told ∙ (ap (λ (m : Made). told_by session_made m.result) both.0 ∙ sym f.told),
-      e.others ∙ ((λ i. record old { registry = both.1 i; opens = opens_without (both.0 i).gone old.opens }) ∙ sym f.others),
+    (both_delayed session_made e.made.result f.made.result o o' e.outcome_is f.outcome_is at) in (
+      e.outcome_is ∙ (ap (λ (m : Made). outcome_from session_made m.result) both.0 ∙ sym f.outcome_is),
+      e.others ∙ ((λ i. record old { registry = both.1 i; opens = opens_without (both.0 i).removed old.opens }) ∙ sym f.others),
     )
 
 destroy_session_same : (v : Value destroy_session_args) (old : Realm) (o o' : Result Outcome Status) (p q : Realm)
@@ -82,9 +82,9 @@ alone_same : (caller : Identity) (op : Operation) (old : Realm) (o o' : Result O
 alone_same caller (Known kinds.ExchangeId v) old o o' p q e f at = exchange_id_same caller v old o o' p q e f at
 alone_same caller (Known kinds.CreateSession v) old o o' p q e f at = create_session_same caller v old o o' p q e f at
 alone_same caller (Known kinds.DestroySession v) old o o' p q e f at =
-    let same : o ≡ o' = e.told ∙ sym f.told in (same, destroy_session_same v old o o' p q same e f)
+    let same : o ≡ o' = e.outcome_is ∙ sym f.outcome_is in (same, destroy_session_same v old o o' p q same e f)
 alone_same caller (Known kinds.DestroyClientId v) old o o' p q e f at =
-    let same : o ≡ o' = e.told ∙ sym f.told in (same, destroy_client_same v old o o' p q same e f)
+    let same : o ≡ o' = e.outcome_is ∙ sym f.outcome_is in (same, destroy_client_same v old o o' p q same e f)
 alone_same caller op old o o' p q e f at = absurd e
 
 abbrev place_if : Bool → Option ℕ
@@ -96,7 +96,7 @@ place_same false false at = refl
 place_same true false at = cc
 place_same false true at = cc
 
--- where the record names the same place, or none
+-- if the record names the same place, or none
 pub acts_same : (caller : Identity) (op : Operation) (old : Realm) (o o' : Result Outcome Status) (p q : Realm)
     → ActsAlone caller op old o p → ActsAlone caller op old o' q → delayed_alone o ≡ delayed_alone o' → (o ≡ o') × (p ≡ q)
 acts_same caller op old o o' p q e f at = alone_same caller op old o o' p q e f (place_same (is_delay o) (is_delay o') at)

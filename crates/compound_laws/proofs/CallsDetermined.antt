@@ -1,6 +1,6 @@
--- A call that is run twice from one state. It has the same reply, and leaves the same but for the trail,
--- where memory was refused to the same operation, or to none. Where memory is refused to the operation
--- that the first run's record names, it is so unless an operation before that one found none.
+-- A call that is run twice from one state. Let both runs fail an allocation of the same operation, or of none. Then the
+-- replies are the same, and so are the end states but for the trail. If an allocation fails at the place of the first
+-- run's record, that holds unless an operation before that place failed one.
 use Rattle.std.proofs.Common.{◌≡◌, ◌-◌, ◌||◌, ℕ, Bool, true, List, sym, ap, ◌∙◌}
 use Rattle.std.specs.Prelude.{◌∷◌, Option, Some, None}
 use Rattle.std.specs.List.{list_any}
@@ -19,25 +19,27 @@ use Rattle.compound_run.specs.Sessions.{session_of, with_registry}
 use Rattle.compound_run.specs.Sequence.{keeping, sequence_done}
 use Rattle.compound_run.specs.Beginning.{Beginning, Ends, Refuses, Acts, Follows, beginning}
 use Rattle.compound_run.specs.InSession.{Reply, RunsAlone, RunsBegun, RunsBy, RunsCall, RunsOf, RunsOnSlot, Sequenced}
-use Rattle.compound_run.specs.InSession.{begin_in, begun_in, context_behind, given_alone, in_registry, sequenced}
+use Rattle.compound_run.specs.InSession.{begin_in, begun_in, call_context_after_sequence, given_alone, in_registry, sequenced}
 use Rattle.compound_run.specs.Keeping.{is_change, keeps, keeps_alone, keeps_begun, keeps_by, keeps_of, keeps_on_slot, keeps_only}
-use Rattle.compound_run.specs.Delayed.{delayed, delayed_begun, delayed_by, delayed_of, delayed_on_slot, delayed_only}
+use Rattle.compound_run.specs.Delayed.{delayed_begun, delayed_by, delayed_on_slot, delayed_only}
+use Rattle.compound_run.specs.Delayed.{delayed, delayed_of}
 use Rattle.compound_run.specs.Delaying.{Delays, DelaysBegun, DelaysBy, DelaysOf, DelaysOnSlot}
 use Rattle.compound_laws.proofs.Agreeing.{Agree, alone_agrees, delays_itself, runs_agree}
 use Rattle.compound_laws.proofs.AloneDetermined.{acts_same}
 use Rattle.compound_laws.proofs.Determined.{runs_same}
 
--- Two runs of a call: the replies, whether it is kept, and the states after it. The trail isn't compared.
+-- Two runs of a call: the replies, whether it is logged, and the states after it. The trail isn't compared.
 pub record AreAlike (a b : Reply) (keeps again : Bool) (p q : State) : Type 0 where
   pub reply : a ≡ b
   pub kept : keeps ≡ again
   pub realm : p.realm ≡ q.realm
   pub settings : p.settings ≡ q.settings
 
--- A call that is run so, and again from the same state: the replies, whether it is kept, the places of
--- its records, that memory is refused where the first record says so, and the states after it
+-- A run of a call, and another from the same state. The parts are the replies, whether the call is logged, the places
+-- of the records, and the states after it. `First` and `Second` state of the two runs that an allocation fails at the
+-- place of the first record.
 pub record Twice (a b : Reply) (keeps again : Bool) (place other : Option ℕ) (First Second : Type 0) (p q : State) : Type 0 where
-  -- the first run is one to which memory is refused where its own record says so
+  -- in the first run an allocation fails at the place of its own record
   pub first : First
   pub alike : place ≡ other → AreAlike a b keeps again p q
   pub agrees : keeps ≡ true → Second → Agree other place
@@ -46,15 +48,15 @@ slot_twice : (old : State) (c : Sequenced) (granted : NewCall) (bytes others : L
     → Twice (Some bytes) (Some others) (keeps_on_slot old c granted bytes p x) (keeps_on_slot old c granted others q y)
     (delayed_on_slot old c granted bytes p x) (delayed_on_slot old c granted others q y)
     (DelaysOnSlot (delayed_on_slot old c granted bytes p x) old c granted bytes p x) (DelaysOnSlot (delayed_on_slot old c granted bytes p x) old c granted others q y) p q
-slot_twice old c granted bytes others p q (end, (results, runs, told), is, few) (last, (results', runs', told'), is', few') =
-    let cx = context_behind old c.call c.tag c.count c.sequence granted in
+slot_twice old c granted bytes others p q (end, (results, runs, result), is, few) (last, (results', runs', result'), is', few') =
+    let cx = call_context_after_sequence old c.call c.tag c.count c.sequence granted in
     let from = start (in_registry (begun_in old.realm c.call c.count c.sequence c.operations) old) in
     let passed = passes (last_at old.realm.registry (session_of (sequence_session c.sequence)) (sequence_slot c.sequence)) (sequence_number c.sequence) in
     record {
       first = delays_itself cx c.operations results;
       alike = λ at.
           let both = runs_same cx (cx.count - cx.position) c.operations from results results' end last runs runs' at in
-          let same : bytes ≡ others = told ∙ (ap (λ (rs : List Given). together c.tag (sequence_done c.sequence granted.highest_slot ∷ rs)) both.0 ∙ sym told') in
+          let same : bytes ≡ others = result ∙ (ap (λ (rs : List Given). together c.tag (sequence_done c.sequence granted.highest_slot ∷ rs)) both.0 ∙ sym result') in
           record {
             reply = ap Some same;
             kept = ap (λ (rs : List Given). list_any is_change rs || passed) both.0;
@@ -70,12 +72,12 @@ only_twice : (call : Call) (tag : List ℕ) (op : Operation) (old : State) (byte
     → (x : RunsAlone call tag op old bytes p) → (y : RunsAlone call tag op old others q)
     → Twice (Some bytes) (Some others) (keeps_only call tag op old bytes p x) (keeps_only call tag op old others q y)
     (delayed_only call tag op old bytes p x) (delayed_only call tag op old others q y) (Unit {0}) (Unit {0}) p q
-only_twice call tag op old bytes others p q ((outcome, acts, told), rest) ((outcome', acts', told'), rest') = record {
+only_twice call tag op old bytes others p q ((outcome, acts, result), rest) ((outcome', acts', result'), rest') = record {
   first = tt;
   alike = λ at.
       let both = acts_same call.caller op old.realm outcome outcome' p.realm q.realm acts acts' at in
       record {
-        reply = ap Some (told ∙ (ap (given_alone tag (number_of op)) both.0 ∙ sym told'));
+        reply = ap Some (result ∙ (ap (given_alone tag (number_of op)) both.0 ∙ sym result'));
         kept = ap (keeps_alone op) both.0;
         realm = both.1;
         settings = ap (λ (s : State). s.settings) rest ∙ sym (ap (λ (s : State). s.settings) rest');

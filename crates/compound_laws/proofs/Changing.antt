@@ -1,4 +1,4 @@
--- Most operations leave the realm as it is. A law on what they do has an arm for each of the others.
+-- Most operations leave the realm unchanged. A law on their effects has an arm for each of the others.
 use Rattle.std.proofs.Common.{◌≡◌, ◌⊎◌}
 use Rattle.xdr_wire.specs.Xdr.{Value}
 use Rattle.nfs_ops.specs.Forms.{close_args, create_args, link_args, open_args, remove_args, rename_args, setattr_args}
@@ -32,6 +32,6 @@ operation_of (OfSetAttr v) = Known kinds.SetAttr v
 operation_of (OfWrite v) = Known kinds.Write v
 operation_of (OfReclaimComplete v) = Known kinds.ReclaimComplete v
 
--- an operation leaves every realm, or is one of those that change it
+-- an operation leaves every realm unchanged, or is one of those that change it
 abbrev pub Parts : Context → Handles → Operation → Type 0
 Parts c h op = ((r : Realm) → (meaning c h op).effect r ≡ r) ⊎ ((k : Changing) × (op ≡ operation_of k))

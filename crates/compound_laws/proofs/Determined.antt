@@ -1,6 +1,6 @@
--- A call that is run twice from one state has the same reply, and leaves the same, where memory was
--- refused to the same operation, or to none. The lines of a delayed operation alone may differ, which
--- are held and never told.
+-- A call that is run twice from one state. Let both runs fail an allocation of the same operation, or of none. Then the
+-- replies are the same, and so are the end states. Only the lines of a delayed operation may differ, which are held and
+-- never written.
 use Rattle.std.proofs.Common.{◌≡◌, ◌≢◌, ℕ, zero, suc, Bool, true, false, if◌then◌else◌, List, refl, sym, ap, subst, ◌∙◌, length, inl, inr}
 use Rattle.std.specs.Prelude.{[], ◌∷◌, Option, Some, None, Result, Ok, Err, MatchResult, OnOk, OnErr}
 use Rattle.std.specs.Option.{option_map}
@@ -10,15 +10,15 @@ use Rattle.nfs_ops.specs.Operations.{Operation, next_at, number_of}
 use Rattle.nfs_ops.specs.Results.{Outcome}
 use Rattle.access_guard.specs.Log.{Log, held, settled}
 use Rattle.compound_run.specs.Realm.{Realm}
-use Rattle.compound_run.specs.Context.{Context, Handles, behind}
+use Rattle.compound_run.specs.Context.{Context, Handles, context_after}
 use Rattle.compound_run.specs.Operations.{meaning, may_delay}
 use Rattle.compound_run.specs.Runs.{Point, Given, Steps, Runs, Unless, outcome, result_bytes, traced}
 use Rattle.compound_run.specs.Settings.{Settings}
-use Rattle.compound_run.specs.Telling.{is_delay}
+use Rattle.compound_run.specs.AnswerOf.{is_delay}
 use Rattle.compound_run.specs.Delayed.{delayed_in}
 use Rattle.compound_run.proofs.Ending.{never_delayed}
 
--- the places that two runs have reached are the same, but for the lines that are held
+-- the points that two runs have reached are the same, but for the lines that are held
 pub record AreSame (p q : Point) : Type 0 where
   pub realm : p.realm ≡ q.realm
   pub settings : p.settings ≡ q.settings
@@ -40,7 +40,7 @@ meant false result A isnt unless = unless
 
 -- ---- one operation
 
--- it isn't delayed: all that it does is determined
+-- it isn't delayed: its effects are determined
 record IsMeant (c : Context) (op : Operation) (old : Point) (result : Result Outcome Status) (new : Point) : Type 0 where
   outcome : result ≡ outcome (meaning c old.handles op) old.realm
   log : new.log ≡ settled true (held (traced (meaning c old.handles op) old.realm) old.log)
@@ -134,7 +134,7 @@ ends_same c op old mid mid' new last number (Err s) (Err s') results others A B 
 
 abbrev pub Answer : Context → ℕ → List ℕ → Given → Point → List Given → Point → Type 0
 Answer c n bytes given mid results new =
-    MatchResult given.outcome (λ o. Runs (behind c (length (result_bytes given))) n (next_at bytes).1 mid results new) (λ s. (results ≡ []) × (new ≡ mid))
+    MatchResult given.outcome (λ o. Runs (context_after c (length (result_bytes given))) n (next_at bytes).1 mid results new) (λ s. (results ≡ []) × (new ≡ mid))
 
 one_same : (d d' : Bool) (c : Context) (n : ℕ) (bytes : List ℕ) (old mid mid' new last : Point) (given given' : Given) (results others : List Given)
     → is_delay given.outcome ≡ d → is_delay given'.outcome ≡ d' → given.number ≡ given'.number
@@ -153,8 +153,8 @@ one_same false false c n bytes old mid mid' new last given given' results others
     let alike : given ≡ given' = λ i. record { number = same i; outcome = both.0 i } in
     let there : Answer c n bytes given mid others last =
     subst (λ (g : Given). Answer c n bytes g mid others last) (sym alike) (subst (λ (p : Point). Answer c n bytes given' p others last) (sym both.1) y) in
-    let more = rest_same given.outcome mid new last results others (λ rs p. Runs (behind c (length (result_bytes given))) n (next_at bytes).1 mid rs p)
-    (λ k l. rest (behind c (length (result_bytes given))) k l (later_same (delayed_in results) (delayed_in others) at)) x there in
+    let more = rest_same given.outcome mid new last results others (λ rs p. Runs (context_after c (length (result_bytes given))) n (next_at bytes).1 mid rs p)
+    (λ k l. rest (context_after c (length (result_bytes given))) k l (later_same (delayed_in results) (delayed_in others) at)) x there in
     (λ i. alike i ∷ more.0 i, more.1)
 
 pub runs_same : (c : Context) (n : ℕ) (bytes : List ℕ) (old : Point) (results others : List Given) (new last : Point) → Runs c n bytes old results new → Runs c n bytes old others last

@@ -17,7 +17,7 @@ use Rattle.nfs_types.proofs.Tables.{shared}
 use Rattle.nfs_ops.specs.Forms.{entry, readdir_args}
 use Rattle.nfs_ops.specs.Listing.{Judged, Listing, listing, listing_unless, given_before, fitting, some_fit, those_fitting, first_refusal, judged_within, readdir_limit, IsListing}
 use Rattle.nfs_ops.specs.Operations.{Known}
-use Rattle.nfs_ops.specs.Parts.{listed_behind, listed_at_most, listed_attributes}
+use Rattle.nfs_ops.specs.Parts.{listed_after, listed_at_most, listed_attributes}
 use Rattle.nfs_ops.specs.Results.{Outcome}
 use Rattle.nfs_ops.specs.declared.listing.ListFault.{ListFault}
 use Rattle.nfs_ops.specs.declared.listing.ListFault.TheVariants.{Refused, TooSmall}
@@ -34,7 +34,7 @@ use Rattle.compound_run.specs.Realm.{Realm}
 use Rattle.compound_run.specs.Context.{Context, Handles}
 use Rattle.compound_run.specs.Sight.{Sight, whole}
 use Rattle.compound_run.specs.Faults.{IsFault, MayFault}
-use Rattle.compound_run.specs.Questions.{Holds, Valid, Row, failure, all_granted, told}
+use Rattle.compound_run.specs.Questions.{Holds, Valid, Row, failure, all_granted, result_unless}
 use Rattle.compound_run.specs.Rows.{object_of, first_facts, first_row}
 use Rattle.compound_run.specs.Meaning.{here}
 use Rattle.compound_run.specs.Operations.{meaning}
@@ -112,10 +112,10 @@ each_two : (P Q R : ℕ → Type 0) (ns : List ℕ) → ((n : ℕ) → P n → Q
 each_two P Q R [] f p q = tt
 each_two P Q R (n ∷ ns) f p q = (f n p.0 q.0, each_two P Q R ns f p.1 q.1)
 
--- where the bit is granted whenever it is demanded, the two agree
-so : (asked granted : Bool) → (asked ≡ true → granted ≡ true) → asked ≡ asked && granted
-so true granted h = sym (h refl)
-so false granted h = refl
+-- if the permission is granted whenever it is demanded, the two agree
+granted_if_asked : (asked granted : Bool) → (asked ≡ true → granted ≡ true) → asked ≡ asked && granted
+granted_if_asked true granted h = sym (h refl)
+granted_if_asked false granted h = refl
 
 -- ---- one entry
 
@@ -126,18 +126,18 @@ module _ (c : Context) (asked : List ℕ) (s : Sight) (n : Name) where
   abbrev L : Bool
   L = allows s.lists c.caller n.child READ_ACL
 
-  -- the attributes that a bit governs, among the permitted ones
+  -- the attributes that a permission governs, among the permitted ones
   each_permitted : (ns : List ℕ) (b : Bool) → AllByRecursion IsSupported ns → AllByRecursion (λ a. has_number (granted_words A L) a ≡ b) ns
       → AllByRecursion (λ a. has_number (given_set (permitted s.lists c.caller n.child asked)) a ≡ has_number asked a && b) ns
   each_permitted ns b supported words =
       each_two IsSupported (λ a. has_number (granted_words A L) a ≡ b) (λ a. has_number (given_set (permitted s.lists c.caller n.child asked)) a ≡ has_number asked a && b) ns
       (λ a supported is. given_all (permitted s.lists c.caller n.child asked) a supported ∙ shared asked (granted_words A L) a ∙ ap (λ b. has_number asked a && b) is) supported words
 
-  -- and among all that are requested, where the bit is granted if any of them is requested
+  -- and among all that are requested, if the permission is granted when any of them is requested
   each_asked : (ns : List ℕ) (b : Bool) → AllByRecursion IsSupported ns → (has_any asked ns ≡ true → b ≡ true) → AllByRecursion (λ a. has_number (given_set asked) a ≡ has_number asked a && b) ns
   each_asked ns b supported granted =
       each_two IsSupported (λ a. has_number asked a ≡ true → list_any (λ m. has_number asked m) ns ≡ true) (λ a. has_number (given_set asked) a ≡ has_number asked a && b) ns
-      (λ a supported is. given_all asked a supported ∙ so (has_number asked a) b (λ h. granted (is h))) supported (any_of (λ m. has_number asked m) ns)
+      (λ a supported is. given_all asked a supported ∙ granted_if_asked (has_number asked a) b (λ h. granted (is h))) supported (any_of (λ m. has_number asked m) ns)
 
   of_permitted : IsExact s.lists c.caller asked n (entry_of c s n statuses.Access (permitted s.lists c.caller n.child asked))
   of_permitted = record {
@@ -220,45 +220,45 @@ module _ (c : Context) (asked : List ℕ) (s : Sight) where
       of true = are_exact (fitting limit (map (judged_entry c asked s) names)) names live
       of false = tt
 
-listed_exact : (c : Context) (v : Value readdir_args) (directory : ℕ) (s : Sight) → AllByRecursion (λ n. IsSome (s.kinds n.child)) (names_above s directory (listed_behind v))
-    → AreExact s.lists c.caller (listed_attributes v) (names_above s directory (listed_behind v)) (given_in (listed c v directory s)).entries
+listed_exact : (c : Context) (v : Value readdir_args) (directory : ℕ) (s : Sight) → AllByRecursion (λ n. IsSome (s.kinds n.child)) (names_above s directory (listed_after v))
+    → AreExact s.lists c.caller (listed_attributes v) (names_above s directory (listed_after v)) (given_in (listed c v directory s)).entries
 unfolding listed listing
 listed_exact c v directory s live =
     let limit = readdir_limit (listed_at_most v) c.room in
-    listing_exact c (listed_attributes v) s limit (names_above s directory (listed_behind v)) (first_refusal (judged_within limit (judged_above c (listed_attributes v) directory (listed_behind v) s))) live
+    listing_exact c (listed_attributes v) s limit (names_above s directory (listed_after v)) (first_refusal (judged_within limit (judged_above c (listed_attributes v) directory (listed_after v) s))) live
 
--- ---- names lead to objects that are there
+-- ---- names have existing objects
 
 all_in : (P : Name → Type 0) (names : List Name) → ((n : Name) → IsIn n names → P n) → AllByRecursion P names
 all_in P [] f = tt
-all_in P (n ∷ names) f = (f n (inl refl), all_in P names (λ m stands. f m (inr stands)))
+all_in P (n ∷ names) f = (f n (inl refl), all_in P names (λ m holds. f m (inr holds)))
 
 names_live : (w : World) (directory cookie : ℕ) → IsSound w → AllByRecursion (λ n. IsSome (kind_of w n.child)) (filter (λ n. nat_lt cookie n.cookie) (names_in w.names directory))
 names_live w directory cookie sound =
-    all_in (λ n. IsSome (kind_of w n.child)) (filter (λ n. nat_lt cookie n.cookie) (names_in w.names directory)) (λ n stands.
-    let above = from_filter (λ n. nat_lt cookie n.cookie) n (names_in w.names directory) stands in
-    let within = from_filter (λ n. n.directory == directory) n w.names above.stood in
-    (sound.rooted.ends n within.stood).1)
+    all_in (λ n. IsSome (kind_of w n.child)) (filter (λ n. nat_lt cookie n.cookie) (names_in w.names directory)) (λ n holds.
+    let above = from_filter (λ n. nat_lt cookie n.cookie) n (names_in w.names directory) holds in
+    let within = from_filter (λ n. n.directory == directory) n w.names above.was_present in
+    (sound.rooted.ends n within.was_present).1)
 
-told_answer : (f : Option Status) (answer o : Outcome) → told f answer ≡ Ok o → o ≡ answer
-told_answer None answer o h = let same : answer ≡ o = cc in sym same
-told_answer (Some status) answer o h = cc
+result_answer : (f : Option Status) (answer o : Outcome) → result_unless f answer ≡ Ok o → o ≡ answer
+result_answer None answer o h = let same : answer ≡ o = cc in sym same
+result_answer (Some status) answer o h = cc
 
 pub gives_exactly : (c : Context) (h : Handles) (v : Value readdir_args) (r : Realm) (o : Outcome) → IsSound r.world → outcome (meaning c h (Known kinds.ReadDir v)) r ≡ Ok o → GivesExactly c h v (whole r) o
 gives_exactly c h v r o sound is = record {
   given = given_in (listed c v (here h) (whole r));
-  is = told_answer _ _ o is;
-  exact = listed_exact c v (here h) (whole r) (names_live r.world (here h) (listed_behind v) sound);
+  is = result_answer _ _ o is;
+  exact = listed_exact c v (here h) (whole r) (names_live r.world (here h) (listed_after v) sound);
 }
 
 -- ---- an entry that is refused
 
--- the names of which the first are returned and the next is refused
+-- the names: a prefix of them is returned, and the next one is refused
 record Cut (f : Name → Judged Demand) (names : List Name) (given : List (Value entry)) (d : Demand) : Type 0 where
   before : List Name
   name : Name
-  behind : List Name
-  parts : names ≡ before ++ name ∷ behind
+  later : List Name
+  parts : names ≡ before ++ name ∷ later
   are_given : map f before ≡ map Ok given
   refused : f name ≡ Err d
 
@@ -271,14 +271,14 @@ tail_is x y xs ys is = cc
 cut : (f : Name → Judged Demand) (names : List Name) (given : List (Value entry)) (d : Demand) (others : List (Judged Demand)) → map f names ≡ map Ok given ++ Err d ∷ others → Cut f names given d
 cut f [] [] d others is = cc
 cut f [] (e ∷ given) d others is = cc
-cut f (n ∷ names) [] d others is = record { before = []; name = n; behind = names; parts = refl; are_given = refl; refused = head_is (f n) (Err d) (map f names) others is }
+cut f (n ∷ names) [] d others is = record { before = []; name = n; later = names; parts = refl; are_given = refl; refused = head_is (f n) (Err d) (map f names) others is }
 cut f (n ∷ names) (e ∷ given) d others is =
     let rest = cut f names given d others (tail_is (f n) (Ok e) (map f names) (map Ok given ++ Err d ∷ others) is) in
     let one = head_is (f n) (Ok e) (map f names) (map Ok given ++ Err d ∷ others) is in
     record {
       before = n ∷ rest.before;
       name = rest.name;
-      behind = rest.behind;
+      later = rest.later;
       parts = ap (λ l. n ∷ l) rest.parts;
       are_given = λ i. one i ∷ rest.are_given i;
       refused = rest.refused;
@@ -299,7 +299,7 @@ unasked lists caller asked number (Some e) d is = of (has_number asked 11) refl 
     of true never is = cc
     of false never is = (never, refl)
 
--- the row of entries refuses where an entry is refused
+-- the row of entries refuses if an entry is refused
 refused_row : (lists : Lists) (caller : Identity) (t : Result Listing (ListFault Demand)) → all_granted lists caller (refused_in t ∷ []) ≡ false → (d : Demand) × (t ≡ Err (Refused d))
 refused_row lists caller (Ok given) is = cc
 refused_row lists caller (Err (Refused d)) is = (d, refl)
@@ -319,9 +319,9 @@ module _ (c : Context) (h : Handles) (v : Value readdir_args) (s : Sight) where
   judged = judged_entry c (listed_attributes v) s
 
   -- the demand that refuses a listing
-  what_is : (d : Demand) → listed c v (here h) s ≡ Err (Refused d) → IsListing limit (judged_above c (listed_attributes v) (here h) (listed_behind v) s) (Err (Refused d))
+  what_is : (d : Demand) → listed c v (here h) s ≡ Err (Refused d) → IsListing limit (judged_above c (listed_attributes v) (here h) (listed_after v) s) (Err (Refused d))
   unfolding listed
-  what_is d is = subst (IsListing limit (judged_above c (listed_attributes v) (here h) (listed_behind v) s)) is (listing_is limit (judged_above c (listed_attributes v) (here h) (listed_behind v) s))
+  what_is d is = subst (IsListing limit (judged_above c (listed_attributes v) (here h) (listed_after v) s)) is (listing_is limit (judged_above c (listed_attributes v) (here h) (listed_after v) s))
 
   abbrev Refuses : Type 0
   Refuses = IsUnlisted c h v s ⊎ MeetsRefused c h v s
@@ -335,14 +335,14 @@ module _ (c : Context) (h : Handles) (v : Value readdir_args) (s : Sight) where
   meets : (d : Demand) → listed c v (here h) s ≡ Err (Refused d) → (passed : IsPassed) → IsGranted → MeetsRefused c h v s
   meets d is passed granted =
       let r = what_is d is in
-      let at = cut judged (names_above s (here h) (listed_behind v)) r.before d r.others r.parts in
+      let at = cut judged (names_above s (here h) (listed_after v)) r.before d r.others r.parts in
       let none = unasked s.lists c.caller (listed_attributes v) at.name.child _ d (refusing c s at.name _ d at.refused) in
       record {
         passed = passed;
         granted = granted;
         before = at.before;
         name = at.name;
-        behind = at.behind;
+        later = at.later;
         parts = at.parts;
         entries = r.before;
         given = at.are_given;
@@ -377,9 +377,9 @@ module _ (c : Context) (h : Handles) (v : Value readdir_args) (s : Sight) where
       let one : judged m.name ≡ Err d =
       ap (λ o. entry_by c s m.name (judgment s.lists c.caller (listed_attributes v) m.name.child o)) is
       ∙ ap (λ b. entry_by c s m.name (cond b (Ok (statuses.Access, permitted s.lists c.caller m.name.child (listed_attributes v))) err)) m.unasked in
-      let parts : judged_above c (listed_attributes v) (here h) (listed_behind v) s ≡ map Ok m.entries ++ Err d ∷ map judged m.behind =
-      ap (map judged) m.parts ∙ map-append judged m.before (m.name ∷ m.behind) ∙ (λ i. m.given i ++ one i ∷ map judged m.behind) in
-      ap (listing limit) parts ∙ refused_listing limit m.entries (map judged m.behind) d m.within
+      let parts : judged_above c (listed_attributes v) (here h) (listed_after v) s ≡ map Ok m.entries ++ Err d ∷ map judged m.later =
+      ap (map judged) m.parts ∙ map-append judged m.before (m.name ∷ m.later) ∙ (λ i. m.given i ++ one i ∷ map judged m.later) in
+      ap (listing limit) parts ∙ refused_listing limit m.entries (map judged m.later) d m.within
 
   not_granted : (m : MeetsRefused c h v s) → all_granted s.lists c.caller (refused_in (listed c v (here h) s) ∷ []) ≡ false
   not_granted m = of (first_refused s.lists c.caller (entry_demands (listed_attributes v) (object_of s (Some m.name.child)))) refl m.refused
@@ -398,12 +398,12 @@ module _ (c : Context) (h : Handles) (v : Value readdir_args) (s : Sight) where
       by_row c.caller s (meaning c h (Known kinds.ReadDir v)).questions (λ s. refused_in (listed c v (here h) s) ∷ [])
       (inr (m.passed.0, inr (m.passed.1.0, inr (m.passed.1.1.0, inr (m.passed.1.1.1.0, inr (m.passed.1.1.1.1.0, inr (m.granted, inl (refl, not_granted m))))))))
 
-told_failure : (f : Option Status) (o : Outcome) → told f o ≡ Err statuses.Access → f ≡ Some statuses.Access
-told_failure None o is = cc
-told_failure (Some status) o is = cc
+result_failure : (f : Option Status) (o : Outcome) → result_unless f o ≡ Err statuses.Access → f ≡ Some statuses.Access
+result_failure None o is = cc
+result_failure (Some status) o is = cc
 
 pub readdir_refuses : (c : Context) (h : Handles) (v : Value readdir_args) (r : Realm) → outcome (meaning c h (Known kinds.ReadDir v)) r ≡ Err statuses.Access → IsUnlisted c h v (whole r) ⊎ MeetsRefused c h v (whole r)
-readdir_refuses c h v r is = let row = refused_by_row c.caller (whole r) (meaning c h (Known kinds.ReadDir v)).questions (told_failure _ _ is) in refuses c h v (whole r) row.demands row.first
+readdir_refuses c h v r is = let row = refused_by_row c.caller (whole r) (meaning c h (Known kinds.ReadDir v)).questions (result_failure _ _ is) in refuses c h v (whole r) row.demands row.first
 
 pub readdir_is_refused : (c : Context) (h : Handles) (v : Value readdir_args) (r : Realm) → IsUnlisted c h v (whole r) ⊎ MeetsRefused c h v (whole r) → outcome (meaning c h (Known kinds.ReadDir v)) r ≡ Err statuses.Access
-readdir_is_refused c h v r is = let m = meaning c h (Known kinds.ReadDir v) in ap (λ f. told f (m.answer (whole r))) (is_refused c h v (whole r) is)
+readdir_is_refused c h v r is = let m = meaning c h (Known kinds.ReadDir v) in ap (λ f. result_unless f (m.answer (whole r))) (is_refused c h v (whole r) is)

@@ -1,4 +1,4 @@
--- Operations on filehandles and on one object tell a caller no more than the caller may see.
+-- Operations on filehandles and on one object reveal to a caller no more than the caller may see.
 use Rattle.std.proofs.Common.{ℕ, List, refl, ap}
 use Rattle.nfs_ops.specs.Operations.{Known}
 use Rattle.nfs_ops.specs.declared.OpKind.TheVariants as kinds
@@ -8,7 +8,7 @@ use Rattle.compound_run.specs.Meaning.{here}
 use Rattle.compound_run.specs.Operations.{meaning}
 use Rattle.compound_laws.specs.Disclosure.{DisclosesNothing}
 use Rattle.compound_laws.proofs.Seen.{IsSeen, discloses_nothing}
-use Rattle.compound_laws.proofs.Showing.{reads, bytes_seen}
+use Rattle.compound_laws.proofs.Observing.{reads, bytes_seen}
 
 access_seen : (c : Context) (h : Handles) (asked : ℕ) → IsSeen (meaning c h (Known kinds.Access asked))
 access_seen c h asked w = (refl, λ _. (refl, λ _. (refl, λ _. refl)))
@@ -28,11 +28,11 @@ savefh_seen c h w = (refl, λ _. (refl, λ _. (refl, λ _. refl)))
 restorefh_seen : (c : Context) (h : Handles) → IsSeen (meaning c h (Known kinds.RestoreFh tt))
 restorefh_seen c h w = (refl, λ _. (refl, λ _. (refl, λ _. refl)))
 
--- the parent of a directory is seen by all
+-- every caller sees the parent of a directory
 lookupp_seen : (c : Context) (h : Handles) → IsSeen (meaning c h (Known kinds.LookupP tt))
 lookupp_seen c h w = (refl, λ _. (refl, λ _. (refl, λ _. (refl, λ _. (refl, λ _. (refl, λ _. (refl, λ _. refl)))))))
 
--- how many bytes a link's text has is seen by all, the text where READ_DATA is granted
+-- every caller sees the byte count of a link's text, and its text if READ_DATA is granted
 readlink_seen : (c : Context) (h : Handles) → IsSeen (meaning c h (Known kinds.ReadLink tt))
 readlink_seen c h w = (
   refl,

@@ -1,4 +1,4 @@
--- No operation, and so no call, changes whether sessions outlive a restart.
+-- No operation, and so no call, changes whether sessions are persistent.
 use Rattle.std.proofs.Common.{◌≡◌, ℕ, Bool, true, false, inl, inr, refl, sym, ap, subst, ◌∙◌}
 use Rattle.std.specs.Prelude.{Option, Some, None, unwrap_or}
 use Rattle.xdr_wire.specs.Xdr.{Value}
@@ -58,5 +58,5 @@ pub lasting_keeps : (lasting : Bool) → Keeps (Lasts lasting)
 lasting_keeps lasting = record {
   operations = λ c h op r o lasts is. operations_leave c h op r ∙ lasts;
   registry = λ r registry lasts. lasts;
-  without = λ r registry gone lasts. lasts;
+  without = λ r registry expired lasts. lasts;
 }

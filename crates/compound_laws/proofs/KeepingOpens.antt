@@ -1,4 +1,4 @@
--- Each operation keeps the law of open files.
+-- Each operation preserves the law of open files.
 use Rattle.std.proofs.Common.{◌≡◌, ℕ, ◌<◌, ◌≤◌, Bool, true, false, ◌&&◌, List, inl, inr, refl, sym, ap, subst, length, nat_lt, arith}
 use Rattle.std.specs.Prelude.{[], ◌∷◌, ◌++◌, ◌==◌, Option, Some, None, IsSome, Ok, not, unwrap_or, if◌then◌else◌}
 use Rattle.std.specs.List.{AllByRecursion}
@@ -18,26 +18,24 @@ use Rattle.nfs_ops.specs.Results.{Outcome}
 use Rattle.nfs_ops.specs.declared.OpKind.TheVariants as kinds
 use Rattle.session_slots.proofs.Members.{length_filter}
 use Rattle.node_tree.specs.declared.at.At.{At}
-use Rattle.node_tree.specs.Notes.{Notes}
 use Rattle.node_tree.specs.World.{World, Object, object, kind_of, child_named}
 use Rattle.node_tree.specs.Changes.{touched, retold, written, resized, with_write, with_size, with_list, with_owner}
 use Rattle.node_tree.proofs.Objects.{option_map-changed}
 use Rattle.compound_run.specs.Realm.{Realm, Opened}
 use Rattle.compound_run.specs.Context.{Context, Handles}
 use Rattle.compound_run.specs.Sight.{whole, kind_at}
-use Rattle.compound_run.specs.Questions.{failure, told}
+use Rattle.compound_run.specs.Questions.{failure, result_unless}
 use Rattle.compound_run.specs.Meaning.{at, here, there, number_in}
 use Rattle.compound_run.specs.Operations.Close.{ended}
 use Rattle.compound_run.specs.Operations.Create.{created, list_at}
 use Rattle.compound_run.specs.Lists.{set_list}
-use Rattle.compound_run.specs.Operations.Setattr.{sets_list, sets_owner, sized, listed, owned, set_on, setting}
+use Rattle.compound_run.specs.Operations.Setattr.{sets_acl, sets_owner, sized, listed, owned, set_on, setting}
 use Rattle.compound_run.specs.Operations.Open.{access_of, found_by, found, found_fault, wanted, truncates, joined, reopened, with_reopened, with_open, new_open, file_of, file_in, opened_on, name_in, has_open_space, has_file_space, has_space_for}
 use Rattle.compound_run.specs.Operations.{meaning}
 use Rattle.compound_run.specs.Runs.{outcome}
 use Rattle.compound_run.specs.Exact.{ArePassedOrSuffice}
 use Rattle.compound_run.specs.Operations.ReclaimComplete.{reclaimed}
 use Rattle.compound_run.specs.Sessions.{opens_without}
-use Rattle.compound_run.specs.State.{State, with_notes}
 use Rattle.compound_run.specs.Stateids.{client_of}
 use Rattle.session_slots.specs.Destroying.{with_reclaimed}
 use Rattle.session_slots.specs.Registry.{Registry}
@@ -71,7 +69,7 @@ sized_same w file None at = same_again w
 sized_same w file (Some size) at = truncated_same w file size at
 
 listed_same : (w : World) (number : ℕ) (o : Object) (wanted : Wanted) (at : At) → Same w (listed number o wanted at w)
-listed_same w number o wanted at = of (sets_list wanted)
+listed_same w number o wanted at = of (sets_acl wanted)
   where
     of : (b : Bool) → Same w (if b then with_list w number (set_list wanted o.kind o.list) (changed_high o.high wanted.mode) at else w)
     of true = record {
@@ -161,7 +159,7 @@ hold_made c v directory r space hold =
       kept = kept_new w directory name made (at c w) hold.kept;
     }
 
--- a truncated file is still there
+-- a truncated file still exists
 file_same : (c : Context) (v : Value open_args) (directory file : ℕ) (w : World) → Same w (file_in c v directory (Some file) w)
 file_same c v directory file w = of (truncates c v)
   where
@@ -213,7 +211,7 @@ hold_reclaimed false c r hold = hold_registry r (with_reclaimed r.registry (clie
 
 -- ---- each operation
 
-no_failure : (f : Option Status) (answer o : Outcome) → told f answer ≡ Ok o → f ≡ None
+no_failure : (f : Option Status) (answer o : Outcome) → result_unless f answer ≡ Ok o → f ≡ None
 no_failure None answer o is = refl
 no_failure (Some status) answer o is = cc
 
@@ -251,8 +249,8 @@ operations_keep c h op r o hold is =
 
 -- ---- each call
 
--- the opens of a client go
-hold_without : (r : Realm) (registry : Registry) (gone : Option ℕ) → OpensHold r → OpensHold (record r { registry = registry; opens = opens_without gone r.opens })
+-- the opens of a client are closed
+hold_without : (r : Realm) (registry : Registry) (expired : Option ℕ) → OpensHold r → OpensHold (record r { registry = registry; opens = opens_without expired r.opens })
 hold_without r registry None hold = record { live = hold.live; few = hold.few; kept = hold.kept }
 hold_without r registry (Some client) hold = record {
   live = each_left (LiveIn r.world) (LiveIn r.world) (λ o. not (o.client == client)) r.opens (λ o stays live. live) hold.live;
@@ -262,7 +260,3 @@ hold_without r registry (Some client) hold = record {
 
 pub opens_keep : Keeps OpensHold
 opens_keep = record { operations = operations_keep; registry = hold_registry; without = hold_without }
-
--- notes that are begun anew leave objects and names
-pub hold_notes : (notes : Notes) (old : State) → OpensHold old.realm → OpensHold (with_notes notes old).realm
-hold_notes notes old hold = record { live = hold.live; few = hold.few; kept = record { led = hold.kept.led; numbered = hold.kept.numbered } }

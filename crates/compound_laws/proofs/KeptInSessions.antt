@@ -1,7 +1,6 @@
--- A fact of a realm that each operation keeps is kept by calls of sessions, and by whole runs.
-use Rattle.std.proofs.Common.{◌≡◌, ℕ, true, List, sym, subst}
-use Rattle.std.specs.Prelude.{[], ◌∷◌, Option, Some, None, Result, Ok, Err, OnOk, OnErr, ◌-◌}
-use Rattle.std.specs.List.{AllByRecursion}
+-- A fact of a realm that each operation preserves is preserved by calls with sessions, and by the events between them.
+use Rattle.std.proofs.Common.{◌≡◌, ℕ, List, sym, subst}
+use Rattle.std.specs.Prelude.{Option, Some, None, Result, Ok, Err, OnOk, OnErr, ◌-◌}
 use Rattle.std.specs.Option.{option_map_or}
 use Rattle.xdr_wire.specs.Reading.{read_at}
 use Rattle.xdr_wire.specs.Xdr.{Value}
@@ -15,17 +14,17 @@ use Rattle.nfs_ops.specs.declared.OpKind.TheVariants as kinds
 use Rattle.access_guard.specs.Epochs.{next_epoch}
 use Rattle.session_slots.specs.declared.session.Begin.{Begin}
 use Rattle.session_slots.specs.declared.session.Begin.TheVariants as begins
-use Rattle.session_slots.specs.Letting.{let_go}
+use Rattle.session_slots.specs.Expiring.{expire}
 use Rattle.session_slots.specs.Registry.{Registry}
-use Rattle.session_slots.specs.Repeating.{Fate, Runs, Repeats, Fails, AnswersBy, AnswersAll}
+use Rattle.session_slots.specs.Retrying.{Fate, Runs, Retries, Fails, AnswersBy}
 use Rattle.compound_run.specs.Realm.{Realm}
 use Rattle.compound_run.specs.Compound.{args_form, args_in}
 use Rattle.compound_run.specs.State.{State, Call, start, with_book, without_client}
 use Rattle.compound_run.specs.Sessions.{with_registry}
 use Rattle.compound_run.specs.Sequence.{keeping}
 use Rattle.compound_run.specs.Beginning.{Beginning, Ends, Refuses, Acts, Follows, beginning}
-use Rattle.compound_run.specs.InSession.{Reply, ActsAlone, RunsCall, RunsOf, RunsBegun, RunsBy, AnswersInSession, begin_in, begun_in, context_behind, fate, in_registry, sequenced}
-use Rattle.compound_laws.specs.Events.{Event, Comes, Loads, LetsGo, Begins, RunsEvent, event_fate, loaded, notes_go_on}
+use Rattle.compound_run.specs.InSession.{Reply, ActsAlone, RunsCall, RunsOf, RunsBegun, RunsBy, AnswersInSession, begin_in, begun_in, call_context_after_sequence, fate, in_registry, sequenced}
+use Rattle.compound_laws.specs.Events.{loaded}
 use Rattle.compound_laws.proofs.KeptByRuns.{Keeps, runs_keep}
 
 -- ---- an operation that is the only one
@@ -36,7 +35,7 @@ changed_or_not P keeps (Err status) old new registry hold ok err = subst P (sym 
 
 alone_keeps : (P : Realm → Type 0) → Keeps P → (caller : Identity) (op : Operation) (old : Realm) (outcome : Result Outcome Status) (new : Realm) → P old → ActsAlone caller op old outcome new → P new
 alone_keeps P keeps caller (Known kinds.ExchangeId v) old outcome new hold acts = subst P (sym acts.others) (keeps.registry old new.registry hold)
-alone_keeps P keeps caller (Known kinds.CreateSession v) old outcome new hold acts = subst P (sym acts.others) (keeps.without old new.registry acts.made.gone hold)
+alone_keeps P keeps caller (Known kinds.CreateSession v) old outcome new hold acts = subst P (sym acts.others) (keeps.without old new.registry acts.made.removed hold)
 alone_keeps P keeps caller (Known kinds.DestroySession v) old outcome new hold acts = changed_or_not P keeps outcome old new _ hold acts.ok acts.err
 alone_keeps P keeps caller (Known kinds.DestroyClientId v) old outcome new hold acts = changed_or_not P keeps outcome old new _ hold acts.ok acts.err
 alone_keeps P keeps caller op old outcome new hold acts = absurd acts
@@ -46,7 +45,7 @@ alone_keeps P keeps caller op old outcome new hold acts = absurd acts
 by_begin : (P : Realm → Type 0) → Keeps P → (b : Begin) (call : Call) (tag : List ℕ) (count : ℕ) (v : Value sequence_args) (operations : List ℕ) (old : State) (bytes : List ℕ) (new : State) → P old.realm
     → RunsBy b (sequenced call tag count v operations) old bytes new → P new.realm
 by_begin P keeps (begins.New granted) call tag count v operations old bytes new hold (end, (results, runs, same), is, few) =
-    let c = context_behind old call tag count v granted in
+    let c = call_context_after_sequence old call tag count v granted in
     let begun = start (in_registry (begun_in old.realm call count v operations) old) in
     let held = runs_keep P keeps c (c.count - c.position) operations begun results end (keeps.registry old.realm (begun_in old.realm call count v operations) hold) runs in
     subst (λ (s : State). P s.realm) (sym is) (keeps.registry end.realm (keeping v bytes end.realm.registry) held)
@@ -58,7 +57,7 @@ by_begin P keeps (begins.Refused status) call tag count v operations old bytes n
 by_beginning : (P : Realm → Type 0) → Keeps P → (b : Beginning) (call : Call) (tag : List ℕ) (count : ℕ) (old : State) (bytes : List ℕ) (new : State) → P old.realm → RunsBegun call tag count b old bytes new → P new.realm
 by_beginning P keeps (Ends status) call tag count old bytes new hold runs = absurd runs
 by_beginning P keeps (Refuses number status) call tag count old bytes new hold runs = absurd runs
-by_beginning P keeps (Acts op) call tag count old bytes new hold ((outcome, acts, told), rest) = alone_keeps P keeps call.caller op old.realm outcome new.realm hold acts
+by_beginning P keeps (Acts op) call tag count old bytes new hold ((outcome, acts, result), rest) = alone_keeps P keeps call.caller op old.realm outcome new.realm hold acts
 by_beginning P keeps (Follows v operations) call tag count old bytes new hold runs = by_begin P keeps (begin_in old.realm call count v operations) call tag count v operations old bytes new hold runs
 
 by_arguments : (P : Realm → Type 0) → Keeps P → (a : Option (Value args_form × List ℕ)) (call : Call) (old : State) (reply : Reply) (new : State) → P old.realm → RunsOf call a old reply new → P new.realm
@@ -69,43 +68,21 @@ by_arguments P keeps (Some ((tag, (minor, count)), operations)) call old (Some b
 by_fate : (P : Realm → Type 0) → Keeps P → (f : Fate Reply) (call : Call) (old : State) (reply : Reply) (new : State) → P old.realm → AnswersBy RunsCall f call old reply new → P new.realm
 unfolding RunsCall
 by_fate P keeps Runs call old reply new hold answers = by_arguments P keeps (args_in (read_at args_form call.arguments)) call old reply new hold answers
-by_fate P keeps (Repeats kept) call old reply new hold answers = subst (λ (s : State). P s.realm) (sym answers.1) hold
+by_fate P keeps (Retries kept) call old reply new hold answers = subst (λ (s : State). P s.realm) (sym answers.1) hold
 by_fate P keeps (Fails refusal) call old reply new hold answers = subst (λ (s : State). P s.realm) (sym answers.1) hold
 
 pub session_calls_keep : (P : Realm → Type 0) → Keeps P → (old : State) (call : Call) (reply : Reply) (new : State) → P old.realm → AnswersInSession old call reply new → P new.realm
 session_calls_keep P keeps old call reply new hold answers = by_fate P keeps (fate old call) call old reply new hold answers
 
--- ---- what comes between calls
+-- ---- the events between calls
 
 by_epoch : (P : Realm → Type 0) (book : Content) (old : State) (epoch : Option ℕ) → P old.realm → P (option_map_or (λ n. with_book book old) epoch old).realm
 by_epoch P book old None hold = hold
 by_epoch P book old (Some n) hold = hold
 
--- a book that is loaded leaves the realm
+-- loading a book leaves the realm unchanged
 pub loads_keep : (P : Realm → Type 0) (book : Content) (old : State) → P old.realm → P (loaded book old).realm
 loads_keep P book old hold = by_epoch P book old (next_epoch old.settings.epoch) hold
 
 pub letting_go_keeps : (P : Realm → Type 0) → Keeps P → (client : ℕ) (old : State) → P old.realm → P (without_client client old).realm
-letting_go_keeps P keeps client old hold = keeps.without old.realm (let_go client old.realm.registry) (Some client) hold
-
--- ---- whole runs in which the notes go on
-
--- a call among events is answered as it is alone
-as_call : (f : Fate Reply) (call : Call) (old : State) (reply : Reply) (new : State) → AnswersBy RunsEvent f (Comes call) old reply new → AnswersBy RunsCall f call old reply new
-as_call Runs call old reply new answers = answers
-as_call (Repeats kept) call old reply new answers = answers
-as_call (Fails refusal) call old reply new answers = answers
-
-event_keeps : (P : Realm → Type 0) → Keeps P → (event : Event) (old : State) (reply : Reply) (new : State) → P old.realm → notes_go_on event ≡ true → AnswersBy RunsEvent (event_fate old event) event old reply new → P new.realm
-event_keeps P keeps (Comes call) old reply new hold on answers = session_calls_keep P keeps old call reply new hold (as_call (fate old call) call old reply new answers)
-event_keeps P keeps (Loads book) old reply new hold on answers = subst (λ (s : State). P s.realm) (sym answers.1) (loads_keep P book old hold)
-event_keeps P keeps (LetsGo client) old reply new hold on answers = subst (λ (s : State). P s.realm) (sym answers.1) (letting_go_keeps P keeps client old hold)
-event_keeps P keeps (Begins notes) old reply new hold on answers = cc
-
-pub events_keep : (P : Realm → Type 0) → Keeps P → (events : List Event) (replies : List Reply) (old new : State) → P old.realm → AllByRecursion (λ e. notes_go_on e ≡ true) events
-    → AnswersAll event_fate RunsEvent events replies old new → P new.realm
-events_keep P keeps [] [] old new hold on answers = subst (λ (s : State). P s.realm) (sym answers) hold
-events_keep P keeps [] (reply ∷ replies) old new hold on answers = absurd answers
-events_keep P keeps (event ∷ events) [] old new hold on answers = absurd answers
-events_keep P keeps (event ∷ events) (reply ∷ replies) old new hold on (mid, one, rest) =
-    events_keep P keeps events replies mid new (event_keeps P keeps event old reply mid hold on.0 one) on.1 rest
+letting_go_keeps P keeps client old hold = keeps.without old.realm (expire client old.realm.registry) (Some client) hold

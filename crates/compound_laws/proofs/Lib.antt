@@ -1,7 +1,7 @@
 pub mod Seen
 pub mod Tested
-pub mod Showing
-pub mod Told
+pub mod Observing
+pub mod Disclosed
 pub mod ListingSeen
 pub mod HandlesSeen
 pub mod NamesSeen
@@ -13,12 +13,11 @@ pub mod KeptInSessions
 pub mod Changing
 pub mod Operations
 pub mod KeepingOpens
-pub mod ChangingBySteps
 pub mod KeepingLasting
 pub mod Alike
-pub mod RowsStand
+pub mod RowsHold
 pub mod WrongRows
-pub mod Telling
+pub mod WrongOrders
 pub mod OverSessions
 pub mod Alone
 pub mod Simulates

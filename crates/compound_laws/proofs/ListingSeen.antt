@@ -1,4 +1,4 @@
--- READDIR tells a caller no more than the caller may see.
+-- READDIR reveals to a caller no more than the caller may see.
 use Rattle.std.proofs.Common.{◌≡◌, ℕ, Bool, true, false, ◌&&◌, ◌||◌, cond, List, refl, sym, ap, ◌∙◌}
 use Rattle.std.specs.Prelude.{[], ◌∷◌, Option, Some, None, Result, Ok, Err, is_some, map, filter, nat_lt, if◌then◌else◌, unwrap_or}
 use Rattle.std.specs.Option.{option_map}
@@ -18,7 +18,7 @@ use Rattle.nfs_ops.specs.Forms.{readdir_args}
 use Rattle.nfs_ops.specs.Given.{readdir_outcome}
 use Rattle.nfs_ops.specs.Listing.{Judged, listing, readdir_limit}
 use Rattle.nfs_ops.specs.Operations.{Known}
-use Rattle.nfs_ops.specs.Parts.{listed_behind, listed_at_most, listed_attributes}
+use Rattle.nfs_ops.specs.Parts.{listed_after, listed_at_most, listed_attributes}
 use Rattle.nfs_ops.specs.declared.OpKind.TheVariants as kinds
 use Rattle.node_tree.specs.World.{Name, Object, object, kind_of, names_in}
 use Rattle.node_tree.specs.Judged.{judged_of}
@@ -36,12 +36,12 @@ use Rattle.compound_run.specs.Operations.Readdir.{first_refused, permitted, judg
 use Rattle.compound_laws.specs.Disclosure.{DisclosesNothing}
 use Rattle.compound_laws.proofs.Seen.{IsSeen, discloses_nothing}
 use Rattle.compound_laws.proofs.Tested.{all_fail}
-use Rattle.compound_laws.proofs.Showing.{Grants, MaySee, gives_mask, values_seen}
+use Rattle.compound_laws.proofs.Observing.{Grants, MaySee, gives_mask, values_seen}
 
 -- ---- the names
 
-names_shown : (w : Realm) (caller : Identity) (number : ℕ) → gives w.world caller number LIST_DIRECTORY ≡ true → (whole w).names number ≡ (view w caller).names number
-names_shown w caller number h = of (gives w.world caller number EXECUTE)
+names_listed : (w : Realm) (caller : Identity) (number : ℕ) → gives w.world caller number LIST_DIRECTORY ≡ true → (whole w).names number ≡ (view w caller).names number
+names_listed w caller number h = of (gives w.world caller number EXECUTE)
   where
     of : (b : Bool) → names_in w.world.names number ≡ (if b || gives w.world caller number LIST_DIRECTORY then names_in w.world.names number else [])
     of true = refl
@@ -68,7 +68,7 @@ each_without : (asked words ns : List ℕ) → AllByRecursion (λ n. has_number 
 each_without asked words [] all = tt
 each_without asked words (n ∷ ns) all = (without asked words n all.0, each_without asked words ns all.1)
 
--- where READ_ATTRIBUTES isn't granted no attribute that it governs is returned
+-- if READ_ATTRIBUTES isn't granted, no attribute that it governs is returned
 none_given : (l : Bool) → AllByRecursion (λ n. has_number (granted_words false l) n ≡ false) governed
 unfolding has_number
 none_given true = all_fail (λ n. has_number (granted_words false true) n) governed refl
@@ -93,7 +93,7 @@ permitted_seen w caller number asked h = of (gives w.world caller number READ_AT
 
 -- ---- an entry
 
--- an object that isn't there has no attributes
+-- an object that doesn't exist has no attributes
 values_of_none : (c : Context) (w : Realm) (number : ℕ) (error : Status) (set : List ℕ) → object w.world number ≡ None → values_at c.book (whole w) number error set ≡ values_at c.book (view w c.caller) number error set
 values_of_none c w number error set none = of (gives w.world c.caller number READ_ATTRIBUTES) refl
   where
@@ -101,7 +101,7 @@ values_of_none c w number error set none = of (gives w.world c.caller number REA
     of true is = rw is refl
     of false is = rw is (rw none refl)
 
--- where no demand is refused, the governed attributes may be seen
+-- if no demand is refused, the governed attributes may be seen
 all_seen : (w : Realm) (caller : Identity) (number : ℕ) (asked : List ℕ) (k : Option Kind) → object_of (whole w) (Some number) ≡ option_map (λ kind. record { number = number; kind = kind }) k → is_some k ≡ true
     → first_refused (judged_of w.world) caller (entry_demands asked (object_of (whole w) (Some number))) ≡ None → MaySee w caller number asked
 all_seen w caller number asked None is there none governs = cc
@@ -118,24 +118,24 @@ all_seen w caller number asked (Some kind) is there none governs =
     of false is h = cc
 
 module _ (c : Context) (asked : List ℕ) (w : Realm) (n : Name) where
-  abbrev told_by : Result (Status × List ℕ) Demand → Sight → Judged Demand
-  told_by j s = entry_by c s n j
+  abbrev judged_by : Result (Status × List ℕ) Demand → Sight → Judged Demand
+  judged_by j s = entry_by c s n j
 
-  values_seen_at : (error : Status) (set : List ℕ) → MaySee w c.caller n.child set → told_by (Ok (error, set)) (whole w) ≡ told_by (Ok (error, set)) (view w c.caller)
+  values_seen_at : (error : Status) (set : List ℕ) → MaySee w c.caller n.child set → judged_by (Ok (error, set)) (whole w) ≡ judged_by (Ok (error, set)) (view w c.caller)
   values_seen_at error set may =
       ap (λ values. let j : Judged Demand = Ok (n.cookie, (n.name, (given_set set, values))) in j) (values_seen c.book w c.caller n.child error set may)
 
   judged_seen : (o : Option Demand) → first_refused (judged_of w.world) c.caller (entry_demands asked (object_of (whole w) (Some n.child))) ≡ o
-      → told_by (judgment (judged_of w.world) c.caller asked n.child o) (whole w) ≡ told_by (judgment (judged_of w.world) c.caller asked n.child o) (view w c.caller)
+      → judged_by (judgment (judged_of w.world) c.caller asked n.child o) (whole w) ≡ judged_by (judgment (judged_of w.world) c.caller asked n.child o) (view w c.caller)
   judged_seen None is = of (object w.world n.child) refl
     where
-      of : (o : Option Object) → object w.world n.child ≡ o → told_by (Ok (statuses.Ok, asked)) (whole w) ≡ told_by (Ok (statuses.Ok, asked)) (view w c.caller)
+      of : (o : Option Object) → object w.world n.child ≡ o → judged_by (Ok (statuses.Ok, asked)) (whole w) ≡ judged_by (Ok (statuses.Ok, asked)) (view w c.caller)
       of None none = ap (λ values. let j : Judged Demand = Ok (n.cookie, (n.name, (given_set asked, values))) in j) (values_of_none c w n.child statuses.Ok asked none)
       of (Some o) there =
           values_seen_at statuses.Ok asked (all_seen w c.caller n.child asked (Some o.kind) (ap (λ x. option_map (λ kind. record { number = n.child; kind = kind }) (option_map (λ o. o.kind) x)) there) refl is)
   judged_seen (Some d) is = of (has_number asked 11)
     where
-      of : (b : Bool) → told_by (if b then Ok (statuses.Access, permitted (judged_of w.world) c.caller n.child asked) else Err d) (whole w) ≡ told_by (if b then Ok (statuses.Access, permitted (judged_of w.world) c.caller n.child asked) else Err d) (view w c.caller)
+      of : (b : Bool) → judged_by (if b then Ok (statuses.Access, permitted (judged_of w.world) c.caller n.child asked) else Err d) (whole w) ≡ judged_by (if b then Ok (statuses.Access, permitted (judged_of w.world) c.caller n.child asked) else Err d) (view w c.caller)
       of true = values_seen_at statuses.Access (permitted (judged_of w.world) c.caller n.child asked) (permitted_seen w c.caller n.child asked)
       of false = refl
 
@@ -151,10 +151,10 @@ entries_seen c asked w (n ∷ all) = λ i. entry_seen c asked w n i ∷ entries_
 listed_seen : (c : Context) (v : Value readdir_args) (directory : ℕ) (w : Realm) → gives w.world c.caller directory LIST_DIRECTORY ≡ true → listed c v directory (whole w) ≡ listed c v directory (view w c.caller)
 unfolding listed
 listed_seen c v directory w granted =
-    let names = names_shown w c.caller directory granted in
+    let names = names_listed w c.caller directory granted in
     ap (listing (readdir_limit (listed_at_most v) c.room))
-    (entries_seen c (listed_attributes v) w (filter (λ n. nat_lt (listed_behind v) n.cookie) ((whole w).names directory))
-    ∙ ap (λ all. map (judged_entry c (listed_attributes v) (view w c.caller)) (filter (λ n. nat_lt (listed_behind v) n.cookie) all)) names)
+    (entries_seen c (listed_attributes v) w (filter (λ n. nat_lt (listed_after v) n.cookie) ((whole w).names directory))
+    ∙ ap (λ all. map (judged_entry c (listed_attributes v) (view w c.caller)) (filter (λ n. nat_lt (listed_after v) n.cookie) all)) names)
 
 readdir_seen : (c : Context) (h : Handles) (v : Value readdir_args) → IsSeen (meaning c h (Known kinds.ReadDir v))
 readdir_seen c h v w = (

@@ -1,4 +1,4 @@
--- The open files where the world changes.
+-- The open files when the world changes.
 use Rattle.std.proofs.Common.{◌≡◌, ◌≢◌, ℕ, ◌<◌, ◌≤◌, Bool, true, false, not, cond, ◌||◌, List, inl, inr, refl, sym, ap, ◌∙◌, subst, length, arith}
 use Rattle.std.specs.Prelude.{[], ◌∷◌, ◌++◌, ◌==◌, Option, Some, None, IsSome, is_some, filter, find, nat_eq, nat_lt, nat_le, ◌&&◌, if◌then◌else◌}
 use Rattle.std.specs.List.{AllByRecursion, list_all}
@@ -14,17 +14,16 @@ use Rattle.who_book.specs.Content.{Content}
 use Rattle.session_slots.specs.Registry.{Registry}
 use Rattle.session_slots.proofs.Members.{length_filter}
 use Rattle.node_tree.specs.declared.at.At.{At}
-use Rattle.node_tree.specs.World.{World, Object, Name, object, kind_of, has_name, is_named, child_named, names_in, is_one}
+use Rattle.node_tree.specs.World.{World, Object, Name, object, kind_of, is_file, is_file_at, has_name, is_named, child_named, names_in, is_one}
 use Rattle.node_tree.specs.Changes.{changed, touched, retold, without_name, unlinked, other_names, given_name, with_new, with_link, with_move}
 use Rattle.node_tree.specs.Sound.{IsIn, IsSound}
-use Rattle.node_tree.specs.Steps.{is_file, is_file_at}
 use Rattle.node_tree.proofs.Objects.{is_at-same, is_at-apart, by_number, lookup-inserted, option_map-changed}
 use Rattle.node_tree.proofs.Rising.{number-below}
 use Rattle.node_tree.proofs.Unlinking.{after, after_elsewhere, after_was, after_stays, read_released}
 use Rattle.compound_run.specs.Realm.{Realm, Opened, unopened, opens_left, with_loss}
 use Rattle.compound_run.specs.Sessions.{with_registry}
 use Rattle.compound_run.specs.State.{restored}
-use Rattle.compound_run.specs.Known.{Known, is_next, open_fits, opens_fit, rise_above}
+use Rattle.compound_run.specs.ClientState.{ClientState, is_next, open_fits, opens_fit, rise_above}
 use Rattle.compound_laws.specs.LiveOpens.{IsKept, OpensHold}
 
 -- ---- facts of each element of a list
@@ -53,27 +52,27 @@ pub of_found : {X : Type 0} (P : X → Type 0) (p : X → Bool) (xs : List X) (x
 of_found P p [] x all is = cc
 of_found P p (y ∷ xs) x all is = of_first P (p y) y x (find p xs) all.0 (of_found P p xs x all.1) is
 
--- an open of a file that is there, and a name of an object that is there
+-- an open of an existing file, and a name of an existing object
 abbrev pub LiveIn : World → Opened → Type 0
 LiveIn w o = kind_of w o.object ≡ Some File
 
-abbrev pub LedIn : World → Name → Type 0
-LedIn w n = IsSome (kind_of w n.child)
+abbrev pub ChildExists : World → Name → Type 0
+ChildExists w n = IsSome (kind_of w n.child)
 
--- the child of a name is there
+-- the child of a name exists
 pub of_child : (w : World) (directory : ℕ) (name : List ℕ) (child : ℕ) → IsKept w → child_named w directory name ≡ Some child → IsSome (kind_of w child)
 of_child w directory name child kept is = of (find (λ (n : Name). pointwise nat_eq n.name name) (names_in w.names directory)) refl is
   where
-    left : AllByRecursion (LedIn w) (names_in w.names directory)
-    left = each_left (LedIn w) (LedIn w) (λ (n : Name). n.directory == directory) w.names (λ n here there. there) kept.led
+    left : AllByRecursion (ChildExists w) (names_in w.names directory)
+    left = each_left (ChildExists w) (ChildExists w) (λ (n : Name). n.directory == directory) w.names (λ n here there. there) kept.children_exist
 
     of : (o : Option Name) → find (λ (n : Name). pointwise nat_eq n.name name) (names_in w.names directory) ≡ o → option_map (λ (n : Name). n.child) o ≡ Some child → IsSome (kind_of w child)
     of None found is = cc
     of (Some n) found is =
         let same : n.child ≡ child = cc in
-        subst (λ k. IsSome (kind_of w k)) same (of_found (LedIn w) (λ (n : Name). pointwise nat_eq n.name name) (names_in w.names directory) n left found)
+        subst (λ k. IsSome (kind_of w k)) same (of_found (ChildExists w) (λ (n : Name). pointwise nat_eq n.name name) (names_in w.names directory) n left found)
 
--- ---- a world in which no object goes or comes
+-- ---- a world in which no object is added or removed
 
 pub record Same (w new : World) : Type 0 where
   pub kinds : (k : ℕ) → kind_of new k ≡ kind_of w k
@@ -88,7 +87,7 @@ same_then w mid new a b = record { kinds = λ k. b.kinds k ∙ a.kinds k; names 
 
 kept_same : (w new : World) → Same w new → IsKept w → IsKept new
 kept_same w new same kept = record {
-  led = subst (λ names. AllByRecursion (LedIn new) names) (sym same.names) (each (LedIn w) (LedIn new) w.names (λ n there. ap is_some (same.kinds n.child) ∙ there) kept.led);
+  children_exist = subst (λ names. AllByRecursion (ChildExists new) names) (sym same.names) (each (ChildExists w) (ChildExists new) w.names (λ n there. ap is_some (same.kinds n.child) ∙ there) kept.children_exist);
   numbered = λ number there. subst (λ next. number < next) (sym same.next) (kept.numbered number (ap is_some (sym (same.kinds number)) ∙ there));
 }
 
@@ -102,7 +101,7 @@ hold_same r new same hold = record { live = live_same r.world new r.opens same.k
 pub hold_registry : (r : Realm) (registry : Registry) → OpensHold r → OpensHold (with_registry registry r)
 hold_registry r registry hold = record { live = hold.live; few = hold.few; kept = hold.kept }
 
--- a change of one object that keeps its kind
+-- a change of one object that keeps its type
 pub same_changed : (w : World) (number : ℕ) (f : Object → Object) (objects : List (ℕ × Object)) → ((o : Object) → (f o).kind ≡ o.kind) → objects ≡ changed number f w.objects
     → (k : ℕ) → option_map (λ (o : Object). o.kind) (lookup (is_at (nat_cmp k)) objects) ≡ kind_of w k
 same_changed w number f objects keeps is k = ap (λ es. option_map (λ (o : Object). o.kind) (lookup (is_at (nat_cmp k)) es)) is ∙ option_map-changed (λ o. o.kind) number f w.objects keeps k
@@ -117,7 +116,7 @@ hold_linked r directory name number at there hold =
       live = live_same r.world (with_link r.world directory name number at) r.opens kinds hold.live;
       few = hold.few;
       kept = record {
-        led = one_more (LedIn (with_link r.world directory name number at)) r.world.names _ (each (LedIn r.world) (LedIn (with_link r.world directory name number at)) r.world.names (λ n is. ap is_some (kinds n.child) ∙ is) hold.kept.led) (ap is_some (kinds number) ∙ there);
+        children_exist = one_more (ChildExists (with_link r.world directory name number at)) r.world.names _ (each (ChildExists r.world) (ChildExists (with_link r.world directory name number at)) r.world.names (λ n is. ap is_some (kinds n.child) ∙ is) hold.kept.children_exist) (ap is_some (kinds number) ∙ there);
         numbered = λ k is. hold.kept.numbered k (ap is_some (sym (kinds k)) ∙ is);
       };
     }
@@ -137,13 +136,13 @@ module _ (w : World) (directory : ℕ) (name : List ℕ) (o : Object) (at : At) 
   kind_elsewhere : (k : ℕ) → k ≢ w.next_number → kind_of new k ≡ kind_of w k
   kind_elsewhere k apart = kinds_new k ∙ ap (λ b. option_map (λ (o : Object). o.kind) (cond b (Some o) (object w k))) (is_at-apart k w.next_number apart)
 
-  -- the objects that were there are as they were
+  -- the objects that existed before are unchanged
   pub kind_stays : (k : ℕ) → IsSome (kind_of w k) → kind_of new k ≡ kind_of w k
   kind_stays k there = kind_elsewhere k (λ same. let below : k < w.next_number = kept.numbered k there in omega (arith, below, same))
 
   pub kept_new : IsKept new
   kept_new = record {
-    led = one_more (LedIn new) w.names _ (each (LedIn w) (LedIn new) w.names (λ n there. ap is_some (kind_stays n.child there) ∙ there) kept.led) (ap is_some kind_there);
+    children_exist = one_more (ChildExists new) w.names _ (each (ChildExists w) (ChildExists new) w.names (λ n there. ap is_some (kind_stays n.child there) ∙ there) kept.children_exist) (ap is_some kind_there);
     numbered = λ k there. by_number k w.next_number
         (λ same. omega (arith, same))
         (λ apart. let below : k < w.next_number = kept.numbered k (ap is_some (sym (kind_elsewhere k apart)) ∙ there) in omega (arith, below));
@@ -161,7 +160,7 @@ hold_new r directory name o at hold = record {
 
 -- ---- an object that has lost a name
 
--- the opens that are left in a world that stays
+-- the opens that remain are no more than before
 few_left : (w : World) (lost : Option ℕ) (opens : List Opened) → length (opens_left w lost opens) ≤ length opens
 few_left w None opens = omega arith
 few_left w (Some number) opens = of (is_some (kind_of w number))
@@ -185,15 +184,15 @@ hold_lost_none r lost hold = record { live = left lost; few = let less = few_lef
 elsewhere : (a b : ℕ) → not (a == b) ≡ true → b ≢ a
 elsewhere a b test same = let is : (a == b) ≡ true = (Decides-eqb a b).1 (sym same) in cc
 
--- no name leads to the object
-abbrev LeadsElsewhere : ℕ → Name → Type 0
-LeadsElsewhere child n = child ≢ n.child
+-- the name isn't one of the object
+abbrev NamesAnother : ℕ → Name → Type 0
+NamesAnother child n = child ≢ n.child
 
-no_first : (b : Bool) (n : Name) (child : ℕ) (names : List Name) → (n.child == child) ≡ b → (has_name names child ≡ false → AllByRecursion (LeadsElsewhere child) names) → b || has_name names child ≡ false → AllByRecursion (LeadsElsewhere child) (n ∷ names)
+no_first : (b : Bool) (n : Name) (child : ℕ) (names : List Name) → (n.child == child) ≡ b → (has_name names child ≡ false → AllByRecursion (NamesAnother child) names) → b || has_name names child ≡ false → AllByRecursion (NamesAnother child) (n ∷ names)
 no_first true n child names is others none = cc
 no_first false n child names is others none = (elsewhere n.child child (ap not is), others none)
 
-no_name : (names : List Name) (child : ℕ) → has_name names child ≡ false → AllByRecursion (LeadsElsewhere child) names
+no_name : (names : List Name) (child : ℕ) → has_name names child ≡ false → AllByRecursion (NamesAnother child) names
 no_name [] child none = tt
 no_name (n ∷ names) child none = no_first (n.child == child) n child names refl (no_name names child) none
 
@@ -201,7 +200,8 @@ each_two : {X : Type 0} (P Q R : X → Type 0) (xs : List X) → ((x : X) → P 
 each_two P Q R [] f p q = tt
 each_two P Q R (x ∷ xs) f p q = (f x p.0 q.0, each_two P Q R xs f p.1 q.1)
 
--- the kinds of a world in which the object has gone, where none of these names leads to it
+-- The types of a world in which an object has lost a name, and these names remain. The object is removed if none of
+-- them is its name.
 pub record Loses (w new : World) (lost : ℕ) (names : List Name) : Type 0 where
   pub kinds : (k : ℕ) → kind_of new k ≡ after (has_name names lost) (kind_of w) lost k
   pub next : new.next_number ≡ w.next_number
@@ -217,7 +217,7 @@ module _ (w new : World) (lost : ℕ) (names : List Name) (loses : Loses w new l
       of true = after_stays (kind_of w) lost k
       of false = after_elsewhere (kind_of w) lost k apart
 
-  -- where the object is still there, all objects are
+  -- if the object still exists, all objects do
   all_there : IsSome (kind_of new lost) → (k : ℕ) → kind_of new k ≡ kind_of w k
   all_there there k = by_number lost k (λ same. was k (subst (λ x. IsSome (kind_of new x)) same there)) (λ apart. other k apart)
 
@@ -226,15 +226,15 @@ module _ (w new : World) (lost : ℕ) (names : List Name) (loses : Loses w new l
     where
       of : (b : Bool) → is_some (kind_of new lost) ≡ b → AllByRecursion (LiveIn new) (if b then opens else filter (λ (o : Opened). not (o.object == lost)) opens)
       of true there = live_same w new opens (all_there there) live
-      of false gone = each_left (LiveIn w) (LiveIn new) (λ (o : Opened). not (o.object == lost)) opens (λ o apart is. other o.object (elsewhere o.object lost apart) ∙ is) live
+      of false expired = each_left (LiveIn w) (LiveIn new) (λ (o : Opened). not (o.object == lost)) opens (λ o apart is. other o.object (elsewhere o.object lost apart) ∙ is) live
 
-  -- names that led to an object that is there still do
-  led_left : AllByRecursion (LedIn w) names → AllByRecursion (LedIn new) names
-  led_left led = of (has_name names lost) refl
+  -- names of an existing object still have it
+  children_left : AllByRecursion (ChildExists w) names → AllByRecursion (ChildExists new) names
+  children_left child_exists = of (has_name names lost) refl
     where
-      of : (b : Bool) → has_name names lost ≡ b → AllByRecursion (LedIn new) names
-      of true is = each (LedIn w) (LedIn new) names (λ n there. ap is_some (loses.kinds n.child ∙ ap (λ b. after b (kind_of w) lost n.child) is ∙ after_stays (kind_of w) lost n.child) ∙ there) led
-      of false is = each_two (LeadsElsewhere lost) (LedIn w) (LedIn new) names (λ n apart there. ap is_some (other n.child apart) ∙ there) (no_name names lost is) led
+      of : (b : Bool) → has_name names lost ≡ b → AllByRecursion (ChildExists new) names
+      of true is = each (ChildExists w) (ChildExists new) names (λ n there. ap is_some (loses.kinds n.child ∙ ap (λ b. after b (kind_of w) lost n.child) is ∙ after_stays (kind_of w) lost n.child) ∙ there) child_exists
+      of false is = each_two (NamesAnother lost) (ChildExists w) (ChildExists new) names (λ n apart there. ap is_some (other n.child apart) ∙ there) (no_name names lost is) child_exists
 
   numbered_left : IsKept w → (k : ℕ) → IsSome (kind_of new k) → k < new.next_number
   numbered_left kept k there = subst (λ next. k < next) (sym loses.next) (kept.numbered k (ap is_some (sym (was k there)) ∙ there))
@@ -256,7 +256,7 @@ hold_without r directory name child at hold =
     record {
       live = live_left w new child names loses r.opens hold.live;
       few = let less = few_left new (Some child) r.opens in let few = hold.few in omega (arith, less, few);
-      kept = record { led = led_left w new child names loses (each_left (LedIn w) (LedIn w) (λ (n : Name). not (is_named directory name n)) w.names (λ n other there. there) hold.kept.led); numbered = numbered_left w new child names loses hold.kept };
+      kept = record { children_exist = children_left w new child names loses (each_left (ChildExists w) (ChildExists w) (λ (n : Name). not (is_named directory name n)) w.names (λ n other there. there) hold.kept.children_exist); numbered = numbered_left w new child names loses hold.kept };
     }
 
 pub hold_removed : (r : Realm) (directory : ℕ) (name : List ℕ) (at : At) (child : Option ℕ) → child_named r.world directory name ≡ child → OpensHold r → OpensHold (with_loss (unlinked r.world directory name at) child r)
@@ -270,10 +270,10 @@ module _ (r : Realm) (from : ℕ) (old : List ℕ) (to : ℕ) (new : List ℕ) (
   abbrev names : List Name
   names = other_names to new (other_names from old r.world.names)
 
-  led_before : AllByRecursion (LedIn r.world) names
-  led_before =
-      each_left (LedIn r.world) (LedIn r.world) (λ (n : Name). not (is_named to new n)) (other_names from old r.world.names) (λ n other is. is)
-      (each_left (LedIn r.world) (LedIn r.world) (λ (n : Name). not (is_named from old n)) r.world.names (λ n other is. is) hold.kept.led)
+  children_before : AllByRecursion (ChildExists r.world) names
+  children_before =
+      each_left (ChildExists r.world) (ChildExists r.world) (λ (n : Name). not (is_named to new n)) (other_names from old r.world.names) (λ n other is. is)
+      (each_left (ChildExists r.world) (ChildExists r.world) (λ (n : Name). not (is_named from old n)) r.world.names (λ n other is. is) hold.kept.children_exist)
 
   moving : (target : ℕ) → Loses r.world (with_move r.world from old (given_name r.world to new child) (Some target) at) target names
   moving target = record {
@@ -291,7 +291,7 @@ module _ (r : Realm) (from : ℕ) (old : List ℕ) (to : ℕ) (new : List ℕ) (
         live = live_left r.world w target names loses r.opens hold.live;
         few = let less = few_left w (Some target) r.opens in let few = hold.few in omega (arith, less, few);
         kept = record {
-          led = one_more (LedIn w) names _ (led_left r.world w target names loses led_before) (ap is_some (other r.world w target names loses child apart) ∙ there);
+          children_exist = one_more (ChildExists w) names _ (children_left r.world w target names loses children_before) (ap is_some (other r.world w target names loses child apart) ∙ there);
           numbered = numbered_left r.world w target names loses hold.kept;
         };
       }
@@ -306,7 +306,7 @@ module _ (r : Realm) (from : ℕ) (old : List ℕ) (to : ℕ) (new : List ℕ) (
         live = live_same r.world w r.opens kinds hold.live;
         few = hold.few;
         kept = record {
-          led = one_more (LedIn w) names _ (each (LedIn r.world) (LedIn w) names (λ n is. ap is_some (kinds n.child) ∙ is) led_before) (ap is_some (kinds child) ∙ there);
+          children_exist = one_more (ChildExists w) names _ (each (ChildExists r.world) (ChildExists w) names (λ n is. ap is_some (kinds n.child) ∙ is) children_before) (ap is_some (kinds child) ∙ there);
           numbered = λ k is. hold.kept.numbered k (ap is_some (sym (kinds k)) ∙ is);
         };
       }
@@ -325,13 +325,13 @@ hold_renamed r from old to name at (Some child) (Some target) is taken hold = of
 
 kept_sound : (w : World) → IsSound w → IsKept w
 kept_sound w sound = record {
-  led = all_in w.names (λ n stands. (sound.rooted.ends n stands).1);
+  children_exist = all_in w.names (λ n holds. (sound.rooted.ends n holds).1);
   numbered = λ k there. below k (object w k) refl there;
 }
   where
-    all_in : (names : List Name) → ((n : Name) → IsIn n names → IsSome (kind_of w n.child)) → AllByRecursion (LedIn w) names
+    all_in : (names : List Name) → ((n : Name) → IsIn n names → IsSome (kind_of w n.child)) → AllByRecursion (ChildExists w) names
     all_in [] f = tt
-    all_in (n ∷ names) f = (f n (inl refl), all_in names (λ m stands. f m (inr stands)))
+    all_in (n ∷ names) f = (f n (inl refl), all_in names (λ m holds. f m (inr holds)))
 
     below : (k : ℕ) (o : Option Object) → object w k ≡ o → IsSome (option_map (λ (o : Object). o.kind) o) → k < w.next_number
     below k None is there = cc
@@ -353,7 +353,7 @@ file_there (Some File) is = refl
 file_there (Some Directory) is = cc
 file_there (Some Link) is = cc
 
--- open files that may stand are of files that are there
+-- open files that fit are of existing files
 live_fit : (w : World) (registry : Registry) (next : ℕ) (opens : List Opened) → list_all (open_fits w registry next) opens ≡ true → AllByRecursion (LiveIn w) opens
 live_fit w registry next [] fit = tt
 live_fit w registry next (o ∷ opens) fit =
@@ -365,7 +365,7 @@ live_fit w registry next (o ∷ opens) fit =
 few_fit : (n : ℕ) → nat_le n 4096 ≡ true → n ≤ 4096
 few_fit n is = grind (arith, nat_tests, is)
 
-pub hold_restored : (w : World) (k : Known) (book : Content) (capacity : ℕ) → IsSound w → opens_fit w k ≡ true
+pub hold_restored : (w : World) (k : ClientState) (book : Content) (capacity : ℕ) → IsSound w → opens_fit w k ≡ true
     → OpensHold (restored w k book capacity).realm
 hold_restored w k book capacity sound fit =
     let all = both (is_next k.next_open) _ fit in

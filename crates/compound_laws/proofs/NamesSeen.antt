@@ -1,4 +1,4 @@
--- Operations that look up names tell a caller no more than the caller may see.
+-- Operations that look up names reveal to a caller no more than the caller may see.
 use Rattle.std.proofs.Common.{◌≡◌, ℕ, ◌<◌, ◌^◌, Bool, true, false, ◌&&◌, cond, List, refl, ap, sym, subst, length, arith}
 use Rattle.std.specs.Prelude.{[], ◌∷◌, ◌==◌, Option, Some, None, is_some, not, bit_and, bit_or, if◌then◌else◌}
 use Rattle.std.specs.Option.{option_map}
@@ -33,12 +33,12 @@ use Rattle.compound_run.specs.Meaning.{here, there, number_in, changed, unchange
 use Rattle.compound_run.specs.Operations.{meaning}
 use Rattle.compound_laws.specs.Disclosure.{DisclosesNothing}
 use Rattle.compound_laws.proofs.Seen.{IsSeen, discloses_nothing, first}
-use Rattle.compound_laws.proofs.Showing.{Grants, gives_mask, gives_part}
+use Rattle.compound_laws.proofs.Observing.{Grants, gives_mask, gives_part}
 
--- ---- names in a directory that EXECUTE is granted of
+-- ---- names in a directory on which EXECUTE is granted
 
-pub names_told : (w : Realm) (caller : Identity) (number : ℕ) → gives w.world caller number EXECUTE ≡ true → (whole w).names number ≡ (view w caller).names number
-names_told w caller number h = rw h refl
+pub names_seen : (w : Realm) (caller : Identity) (number : ℕ) → gives w.world caller number EXECUTE ≡ true → (whole w).names number ≡ (view w caller).names number
+names_seen w caller number h = rw h refl
 
 -- a row that demands EXECUTE beside other bits
 pub executes : (w : Realm) (caller : Identity) (handle : Option ℕ) (mask : ℕ) → mask < 2 ^ 32 → mask == 0 ≡ false → bit_and EXECUTE mask ≡ EXECUTE → is_some handle ≡ true → is_some (kind_of w.world (number_in handle)) ≡ true
@@ -69,7 +69,7 @@ link_seen c h name w = (
                 λ _. (
                   refl,
                   λ granted.
-                      let names = names_told w c.caller (here h) (executes w c.caller h.current (bit_or EXECUTE ADD_FILE) (omega arith) refl refl set live granted) in (
+                      let names = names_seen w c.caller (here h) (executes w c.caller h.current (bit_or EXECUTE ADD_FILE) (omega arith) refl refl set live granted) in (
                         ap (λ all. not (is_some (child_in all name))) names,
                         λ _. (refl, λ _. (ap (λ all. has_left w.world.next_tick && may_name (length all) w.world.next_cookie) names, λ _. refl)),
                       ),
@@ -88,7 +88,7 @@ link_discloses_nothing c h name = discloses_nothing (meaning c h (Known kinds.Li
 
 -- ---- CREATE
 
--- EXECUTE is demanded for each type that is created
+-- EXECUTE is demanded for each supported type
 create_executes : (w : Realm) (caller : Identity) (handle : Option ℕ) (type : Created) → type_fault (draft_of type) ≡ None → is_some handle ≡ true → is_some (kind_of w.world (number_in handle)) ≡ true
     → Grants w caller handle (creating_mask type) → gives w.world caller (number_in handle) EXECUTE ≡ true
 create_executes w caller handle parts.Directory is set live h = executes w caller handle (bit_or EXECUTE ADD_SUBDIRECTORY) (omega arith) refl refl set live h
@@ -123,7 +123,7 @@ create_seen c h v w = (
                   λ _. (
                     refl,
                     λ granted.
-                        let names = names_told w c.caller (here h) (create_executes w c.caller h.current (created_type v) typed set live granted) in (
+                        let names = names_seen w c.caller (here h) (create_executes w c.caller h.current (created_type v) typed set live granted) in (
                           ap (λ all. not (is_some (child_in all (created_name v)))) names,
                           λ _. (
                             refl,
@@ -149,7 +149,7 @@ create_discloses_nothing c h v = discloses_nothing (meaning c h (Known kinds.Cre
 
 -- ---- RENAME
 
--- if both directories are the same, it is checked once
+-- if both directories are the same, the demand is decided once
 second_gives : (lists : Lists) (caller : Identity) (s d : ℕ) (same : Bool) → s == d ≡ same → is_granted (decision lists caller (Bits s EXECUTE)) ≡ true
     → all_granted lists caller (cond same None (Some (Bits d EXECUTE)) ∷ []) ≡ true → is_granted (decision lists caller (Bits d EXECUTE)) ≡ true
 second_gives lists caller s d true is given h = subst (λ n. is_granted (decision lists caller (Bits n EXECUTE)) ≡ true) ((Decides-eqb s d).0 is) given
@@ -159,7 +159,7 @@ second : (a b : Bool) → a && b ≡ true → b ≡ true
 second true b h = h
 second false b h = cc
 
--- the demands of the first row, by the kinds of both directories
+-- the demands of the first row, by the types of both directories
 abbrev asks_first : Realm → Identity → ℕ → ℕ → Option Kind → Option Kind → Type 0
 asks_first w caller s d from to =
     all_granted (judged_of w.world) caller (rename_first (record {
@@ -185,9 +185,9 @@ rename_executes w caller h set live set' live' granted = of h.current h.saved re
     of None s is is' = cc
     of (Some d) None is is' = cc
     of (Some d) (Some s) is is' =
-        let so = subst (λ x. is_some (kind_of w.world (number_in x)) ≡ true) is live in
-        let so' = subst (λ x. is_some (kind_of w.world (number_in x)) ≡ true) is' live' in
-        let both = both_execute w caller s d (kind_of w.world s) (kind_of w.world d) so' so (subst (λ x. all_granted (judged_of w.world) caller (rename_first (first_facts (whole w) x)) ≡ true) (λ i. record { current = is i; saved = is' i }) granted) in
+        let holds = subst (λ x. is_some (kind_of w.world (number_in x)) ≡ true) is live in
+        let holds' = subst (λ x. is_some (kind_of w.world (number_in x)) ≡ true) is' live' in
+        let both = both_execute w caller s d (kind_of w.world s) (kind_of w.world d) holds' holds (subst (λ x. all_granted (judged_of w.world) caller (rename_first (first_facts (whole w) x)) ≡ true) (λ i. record { current = is i; saved = is' i }) granted) in
         (subst (λ x. gives w.world caller (number_in x) EXECUTE ≡ true) (sym is') both.0, subst (λ x. gives w.world caller (number_in x) EXECUTE ≡ true) (sym is) both.1)
 
 rename_seen : (c : Context) (h : Handles) (v : Value rename_args) → IsSeen (meaning c h (Known kinds.Rename v))
@@ -213,22 +213,22 @@ rename_seen c h v w = (
                     refl,
                     λ granted.
                         let both = rename_executes w c.caller h set live set' live' granted in
-                        let names = names_told w c.caller (here h) both.1 in
-                        let moved = ap (λ all. child_in all (old_name v)) (names_told w c.caller (there h) both.0) in
+                        let names = names_seen w c.caller (here h) both.1 in
+                        let moved = ap (λ all. child_in all (old_name v)) (names_seen w c.caller (there h) both.0) in
                         let replaced = ap (λ all. child_in all (new_name v)) names in
-                        let told : (meaning c h (Known kinds.Rename v)).answer (whole w) ≡ (meaning c h (Known kinds.Rename v)).answer (view w c.caller) =
+                        let outcome : (meaning c h (Known kinds.Rename v)).answer (whole w) ≡ (meaning c h (Known kinds.Rename v)).answer (view w c.caller) =
                         λ i. Done kinds.Rename (if is_one (moved i) (replaced i) then (unchanged (whole w) (there h), unchanged (whole w) (here h)) else (changed (whole w) (there h), changed (whole w) (here h))) in (
                           ap is_some moved,
                           λ _. (
                             λ i. is_one (moved i) (replaced i),
-                            λ _. told,
+                            λ _. outcome,
                             λ _. (
                               λ i. not (goes_below (whole w) (number_in (moved i)) (here h)),
                               λ _. (
                                 λ i. can_replace (whole w) (number_in (moved i)) (replaced i),
                                 λ _. (
                                   λ i. rename_second (second_facts (whole w) h (moved i) (replaced i)),
-                                  λ _. (λ i. has_left w.world.next_tick && may_move (length (names i)) w.world.next_cookie (there h) (here h) (replaced i), λ _. told),
+                                  λ _. (λ i. has_left w.world.next_tick && may_move (length (names i)) w.world.next_cookie (there h) (here h) (replaced i), λ _. outcome),
                                 ),
                               ),
                             ),

@@ -1,4 +1,4 @@
--- OPEN tells a caller no more than the caller may see.
+-- OPEN reveals to a caller no more than the caller may see.
 use Rattle.std.proofs.Common.{◌≡◌, ℕ, true, false, ◌&&◌, refl, ap, sym, ◌∙◌, length, inl, arith}
 use Rattle.std.specs.Prelude.{[], ◌∷◌, Option, Some, None, is_some}
 use Rattle.std.specs.Option.{option_map}
@@ -27,16 +27,16 @@ use Rattle.compound_run.specs.Meaning.{here}
 use Rattle.compound_run.specs.Operations.{meaning}
 use Rattle.compound_laws.specs.Disclosure.{DisclosesNothing}
 use Rattle.compound_laws.proofs.Seen.{IsSeen, discloses_nothing}
-use Rattle.compound_laws.proofs.NamesSeen.{names_told, executes}
+use Rattle.compound_laws.proofs.NamesSeen.{names_seen, executes}
 
 -- the first row of an OPEN, by its claim
 abbrev Opens : Realm → Identity → Handles → Claim → Type 0
 Opens w caller h claim = all_granted (judged_of w.world) caller (open_first claim (object_of (whole w) h.current) ∷ None ∷ []) ≡ true
 
--- a name is looked up where EXECUTE is granted; a filehandle is the current filehandle
+-- a name is looked up if EXECUTE is granted; a filehandle is the current filehandle
 found_seen : (w : Realm) (caller : Identity) (h : Handles) (claim : Claim) → is_some h.current ≡ true → is_some (kind_of w.world (here h)) ≡ true → Opens w caller h claim
     → found_by claim h (whole w) ≡ found_by claim h (view w caller)
-found_seen w caller h (ByName name) set live granted = ap (λ all. child_in all name) (names_told w caller (here h) (executes w caller h.current EXECUTE (omega arith) refl refl set live granted))
+found_seen w caller h (ByName name) set live granted = ap (λ all. child_in all name) (names_seen w caller (here h) (executes w caller h.current EXECUTE (omega arith) refl refl set live granted))
 found_seen w caller h ByHandle set live granted = refl
 
 apart : false ≡ true → ⊥
@@ -47,7 +47,7 @@ space_seen : (c : Context) (v : Value open_args) (w : Realm) (h : Handles) (clai
     → found_by claim h (whole w) ≡ file → has_file_space c v (here h) file (whole w) ≡ has_file_space c v (here h) file (view w c.caller)
 space_seen c v w h (ByName name) None set live granted is =
     ap (λ all. has_left w.world.next_tick && (new_fits (wanted c v) File (list_at (whole w) (here h)) && may_add (length all) (length w.world.objects) w.world.next_number w.world.next_stamp w.world.next_cookie))
-    (names_told w c.caller (here h) (executes w c.caller h.current EXECUTE (omega arith) refl refl set live granted))
+    (names_seen w c.caller (here h) (executes w c.caller h.current EXECUTE (omega arith) refl refl set live granted))
 space_seen c v w h ByHandle None set live granted is = absurd (apart (ap is_some (sym is) ∙ set))
 space_seen c v w h claim (Some file) set live granted is = refl
 

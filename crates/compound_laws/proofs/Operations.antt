@@ -1,4 +1,4 @@
--- The laws that each operation meets by itself: an operation is a row, and a law a field.
+-- The laws that each operation meets by itself: an operation is a row of the table, and a law a field.
 use Rattle.std.proofs.Common.{◌≡◌, ◌⊎◌, ℕ, Bool, true, false, refl}
 use Rattle.std.proofs.Common.{inl, inr}
 use Rattle.nfs_types.specs.declared.status.Status.{Status}
@@ -15,14 +15,14 @@ use Rattle.compound_run.specs.Operations.{entered, entry_fault, entry_may, meani
 use Rattle.compound_run.specs.Questions.{all_granted}
 use Rattle.compound_run.specs.Sight.{Sight}
 use Rattle.compound_laws.specs.Disclosure.{DisclosesNothing}
-use Rattle.compound_laws.specs.Lines.{AreExactly}
+use Rattle.compound_laws.specs.internal.Lines.{AreExactly}
 use Rattle.compound_laws.specs.RowsAsked.{first_of, second_of, table_rows, HasNoFirst, HasNoSecond, IsAmong, IsOntoItself}
 use Rattle.compound_laws.proofs.Changing.{Parts, OfClose, OfCreate, OfLink, OfOpen, OfRemove, OfRename, OfSetAttr}
 use Rattle.compound_laws.proofs.Changing.{OfWrite, OfReclaimComplete}
 use Rattle.compound_laws.proofs.Seen.{IsSeen, discloses_nothing, lookup_discloses_nothing, remove_discloses_nothing}
 use Rattle.compound_laws.proofs.HandlesSeen.{access_discloses_nothing, getfh_discloses_nothing, lookupp_discloses_nothing, putfh_discloses_nothing, putrootfh_discloses_nothing, readlink_discloses_nothing, restorefh_discloses_nothing, savefh_discloses_nothing}
 use Rattle.compound_laws.proofs.NamesSeen.{create_discloses_nothing, link_discloses_nothing, rename_discloses_nothing}
-use Rattle.compound_laws.proofs.Told.{close_discloses_nothing, getattr_discloses_nothing, nverify_discloses_nothing, read_discloses_nothing, reclaim_complete_discloses_nothing, setattr_discloses_nothing, verify_discloses_nothing, write_discloses_nothing}
+use Rattle.compound_laws.proofs.Disclosed.{close_discloses_nothing, getattr_discloses_nothing, nverify_discloses_nothing, read_discloses_nothing, reclaim_complete_discloses_nothing, setattr_discloses_nothing, verify_discloses_nothing, write_discloses_nothing}
 use Rattle.compound_laws.proofs.ListingSeen.{readdir_discloses_nothing}
 use Rattle.compound_laws.proofs.OpenSeen.{open_discloses_nothing}
 
@@ -34,13 +34,14 @@ abbrev pub IsGranted : Context → (Sight → Demands) → Sight → Type 0
 IsGranted c row s = all_granted s.lists c.caller (row s) ≡ true
 
 pub record Laws (c : Context) (h : Handles) (op : Operation) : Type 0 where
-  -- it tells a caller no more than the caller may see
+  -- it reveals to a caller no more than the caller may see
   pub discloses : DisclosesNothing (meaning c h op)
-  -- it leaves the realm as it is, or is one of those that change it
+  -- it leaves the realm unchanged, or is one of those that change it
   pub changes : Parts c h op
   -- its questions are those of its line, with its rows and no others
   pub asks : AreExactly c h op (meaning c h op).questions
-  -- each of its two rows is among them, or demands nothing anywhere; and where it is OK, the row was granted
+  -- each of its two rows is among them, or demands nothing for any facts; and if the operation is OK, the row was
+  -- granted
   pub first_asked : IsAmong (first_of c h op) (table_rows c h op) ⊎ HasNoFirst op
   pub first_granted : (s : Sight) → Passed c h op s → IsGranted c (first_of c h op) s
   pub second_asked : IsAmong (second_of c h op) (table_rows c h op) ⊎ HasNoSecond op
@@ -54,7 +55,7 @@ refusals_disclose_nothing : (c : Context) (h : Handles) (op : Operation) (number
     → DisclosesNothing (entered (entry_fault c op) (entry_may c op) (refusing c h number status is))
 refusals_disclose_nothing c h op number status is = discloses_nothing (entered (entry_fault c op) (entry_may c op) (refusing c h number status is)) (refused_seen c h op number status is)
 
--- one of these stands after a question that may suffice
+-- one of these, after a question that may suffice
 unless : {A B C : Type 0} → (A → B) → C ⊎ A → B ⊎ C
 unless goes (inl is) = inr is
 unless goes (inr more) = inl (goes more)

@@ -1,5 +1,5 @@
--- Operations after a SEQUENCE see no session: they run alike over any sessions, and leave them. One
--- that can't change anything, or isn't OK, leaves the realm.
+-- Operations after a SEQUENCE see no session: they run alike over any sessions, and leave them unchanged. One that
+-- can't change anything, or isn't OK, leaves the realm unchanged.
 use Rattle.std.proofs.Common.{◌≡◌, ◌≢◌, ℕ, zero, suc, Bool, true, false, ◌||◌, ◌&&◌, List, refl, sym, ap, ◌∙◌, length}
 use Rattle.std.specs.Prelude.{[], ◌∷◌, unwrap_or, Option, Some, None, Result, Ok, Err, MatchResult, OnOk, OnErr}
 use Rattle.std.specs.List.{list_any}
@@ -15,7 +15,7 @@ use Rattle.session_slots.specs.Registry.{Session}
 use Rattle.access_guard.specs.declared.line.Line.{Line}
 use Rattle.access_guard.specs.Log.{Log, held, settled}
 use Rattle.compound_run.specs.Realm.{Realm, Opened}
-use Rattle.compound_run.specs.Context.{Context, Handles, behind}
+use Rattle.compound_run.specs.Context.{Context, Handles, context_after}
 use Rattle.compound_run.specs.Sight.{whole}
 use Rattle.compound_run.specs.Meaning.{here}
 use Rattle.compound_run.specs.Operations.Open.{with_open, joined, found, file_in}
@@ -27,7 +27,7 @@ use Rattle.compound_run.specs.Covering.{with_sessions}
 use Rattle.compound_run.specs.Keeping.{is_change, is_changing, is_done}
 use Rattle.compound_run.proofs.Ending.{never_delayed}
 
--- the place of a COMPOUND, over other sessions, with another log and other settings
+-- the state that a COMPOUND has reached, over other sessions, with another log and other settings
 abbrev pub over : List (ℕ × Session) → Log → Settings → Point → Point
 over sessions log settings p = record { realm = with_sessions sessions p.realm; log = log; settings = settings; handles = p.handles }
 
@@ -71,22 +71,22 @@ unless false result A is = is
 -- The lines of an operation go to another log. A delayed one has none.
 record Logged (may : Bool) (result : Result Outcome Status) (lines : List Line) (old : Log) : Type 0 where
   log : Log
-  told : Unless may result (log ≡ settled true (held lines old))
+  settled : Unless may result (log ≡ settled true (held lines old))
   trail : result ≡ Err statuses.Delay → log.trail ≡ old.trail
   total : result ≡ Err statuses.Delay → log.total ≡ old.total
 
 logged : (may : Bool) (result : Result Outcome Status) (lines : List Line) (old : Log) → (may ≡ false → result ≢ Err statuses.Delay) → Logged may result lines old
-logged true (Err statuses.Delay) lines old never = record { log = old; told = λ other. absurd (other refl); trail = λ e. refl; total = λ e. refl }
+logged true (Err statuses.Delay) lines old never = record { log = old; settled = λ other. absurd (other refl); trail = λ e. refl; total = λ e. refl }
 logged false (Err statuses.Delay) lines old never = absurd (never refl refl)
 logged may (Ok outcome) lines old never = record {
   log = settled true (held lines old);
-  told = unless may (Ok outcome) _ refl;
+  settled = unless may (Ok outcome) _ refl;
   trail = λ e. cc;
   total = λ e. cc;
 }
 logged may (Err status) lines old never = record {
   log = settled true (held lines old);
-  told = unless may (Err status) _ refl;
+  settled = unless may (Err status) _ refl;
   trail = λ e. cc;
   total = λ e. cc;
 }
@@ -97,13 +97,13 @@ StepsOver sessions log settings c op old result new = (next : Log) × Steps c op
 step_over : (sessions : List (ℕ × Session)) (log : Log) (settings : Settings) (c : Context) (op : Operation) (old : Point) (result : Result Outcome Status) (new : Point)
     → Steps c op old result new → StepsOver sessions log settings c op old result new
 step_over sessions log settings c op old (Ok outcome) new steps =
-    let told = logged (may_delay c op) (Ok outcome) (traced (meaning c old.handles op) old.realm) log (λ e. never_delayed c op old new (Ok outcome) e steps) in (
-      told.log,
+    let answer = logged (may_delay c op) (Ok outcome) (traced (meaning c old.handles op) old.realm) log (λ e. never_delayed c op old new (Ok outcome) e steps) in (
+      answer.log,
       record {
         outcome = steps.outcome;
-        log = told.told;
-        trail_stays = told.trail;
-        total_stays = told.total;
+        log = answer.settled;
+        trail_stays = answer.trail;
+        total_stays = answer.total;
         realm = ap (with_sessions sessions) steps.realm ∙ sym (effect_over sessions c old.handles op old.realm);
         handles = steps.handles;
         realm_stays = tt;
@@ -112,13 +112,13 @@ step_over sessions log settings c op old (Ok outcome) new steps =
       },
     )
 step_over sessions log settings c op old (Err status) new steps =
-    let told = logged (may_delay c op) (Err status) (traced (meaning c old.handles op) old.realm) log (λ e. never_delayed c op old new (Err status) e steps) in (
-      told.log,
+    let answer = logged (may_delay c op) (Err status) (traced (meaning c old.handles op) old.realm) log (λ e. never_delayed c op old new (Err status) e steps) in (
+      answer.log,
       record {
         outcome = steps.outcome;
-        log = told.told;
-        trail_stays = told.trail;
-        total_stays = told.total;
+        log = answer.settled;
+        trail_stays = answer.trail;
+        total_stays = answer.total;
         realm = tt;
         handles = tt;
         realm_stays = ap (with_sessions sessions) steps.realm_stays;
@@ -144,14 +144,14 @@ runs_over sessions log settings c zero bytes old [] new runs = (log, ap (over se
 runs_over sessions log settings c zero bytes old (given ∷ results) new runs = absurd runs
 runs_over sessions log settings c (suc n) bytes old [] new runs = absurd runs
 runs_over sessions log settings c (suc n) bytes old (given ∷ results) new (mid, number, steps, rest) =
-    let next = behind c (length (result_bytes given)) in
+    let next = context_after c (length (result_bytes given)) in
     let first = step_over sessions log settings c (next_at bytes).0 old given.outcome mid steps in
     let others = rest_over sessions first.0 settings given.outcome mid new results (Runs next n (next_at bytes).1 mid results new)
     (λ last. Runs next n (next_at bytes).1 (over sessions first.0 settings mid) results (over sessions last settings new))
     (runs_over sessions first.0 settings next n (next_at bytes).1 mid results new) rest in
     (others.0, (over sessions first.0 settings mid, number, first.1, others.1))
 
--- ---- runs leave the settings
+-- ---- runs leave the settings unchanged
 
 rest_settled : (r : Result Outcome Status) (mid new : Point) (results : List Given) (Rest : Type 0) → (Rest → new.settings ≡ mid.settings)
     → MatchResult r (λ outcome. Rest) (λ status. (results ≡ []) × (new ≡ mid)) → new.settings ≡ mid.settings
@@ -163,7 +163,7 @@ runs_settled c zero bytes old [] new runs = ap (λ (p : Point). p.settings) runs
 runs_settled c zero bytes old (given ∷ results) new runs = absurd runs
 runs_settled c (suc n) bytes old [] new runs = absurd runs
 runs_settled c (suc n) bytes old (given ∷ results) new (mid, number, steps, rest) =
-    let next = behind c (length (result_bytes given)) in
+    let next = context_after c (length (result_bytes given)) in
     rest_settled given.outcome mid new results (Runs next n (next_at bytes).1 mid results new) (runs_settled next n (next_at bytes).1 mid results new) rest
     ∙ steps.settings
 
@@ -190,7 +190,7 @@ runs_idle c zero bytes old [] new none runs = ap (λ (p : Point). p.realm) runs
 runs_idle c zero bytes old (given ∷ results) new none runs = absurd runs
 runs_idle c (suc n) bytes old [] new none runs = absurd runs
 runs_idle c (suc n) bytes old (given ∷ results) new none (mid, number, steps, rest) =
-    let next = behind c (length (result_bytes given)) in
+    let next = context_after c (length (result_bytes given)) in
     let none = none_first (is_change given) (list_any is_change results) none in
     rest_idle given.outcome mid new results (Runs next n (next_at bytes).1 mid results new) (runs_idle next n (next_at bytes).1 mid results new none.1) rest
     ∙ step_idle c (next_at bytes).0 old given.number given.outcome mid number none.0 steps

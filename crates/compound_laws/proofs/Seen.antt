@@ -1,4 +1,4 @@
--- The view of a caller decides the answer to the caller.
+-- The view of a caller determines the answer to the caller.
 use Rattle.std.proofs.Common.{◌≡◌, ℕ, Bool, true, false, ◌&&◌, cond, List, refl, sym, ap, ◌∙◌, subst}
 use Rattle.std.specs.Prelude.{[], ◌∷◌, ◌++◌, Option, Some, None, Ok, is_some, not}
 use Rattle.std.specs.Option.{option_map}
@@ -16,15 +16,15 @@ use Rattle.compound_run.specs.Realm.{Realm}
 use Rattle.compound_run.specs.Context.{Context, Handles}
 use Rattle.compound_run.specs.Sight.{whole, view, gives, child}
 use Rattle.compound_run.specs.Faults.{first_fault}
-use Rattle.compound_run.specs.Questions.{Question, Holds, Valid, Row, Suffices, failure, trace, lines_unless, all_granted, demand_lines, told}
+use Rattle.compound_run.specs.Questions.{Question, Holds, Valid, Row, Suffices, failure, trace, lines_unless, all_granted, demand_lines, result_unless}
 use Rattle.compound_run.specs.Rows.{object_of}
 use Rattle.compound_run.specs.Meaning.{Meaning, number_in}
 use Rattle.compound_run.specs.Operations.{meaning}
-use Rattle.compound_laws.specs.Disclosure.{shown, DisclosesNothing}
+use Rattle.compound_laws.specs.Disclosure.{observed, DisclosesNothing}
 
 -- ---- questions that are the same in a view
 
--- As far as they are put, the questions are the same in the whole as in the view; and so is the end.
+-- As far as they are evaluated, the questions are the same in the whole realm and in the view; and so is the end.
 abbrev pub Agree : Realm → Identity → List Question → Type 0 → Type 0
 Agree w caller [] end = end
 Agree w caller (Holds test status is ∷ questions) end = (test (whole w) ≡ test (view w caller)) × (test (whole w) ≡ true → Agree w caller questions end)
@@ -34,28 +34,28 @@ Agree w caller (Row demands ∷ questions) end =
 Agree w caller (Suffices test ∷ questions) end =
     (test (whole w) ≡ test (view w caller)) × (test (whole w) ≡ true → end) × (test (whole w) ≡ false → Agree w caller questions end)
 
-told_alike : (w : Realm) (caller : Identity) (r s : Outcome) (questions : List Question) → Agree w caller questions (r ≡ s)
-    → told (failure caller (whole w) questions) r ≡ told (failure caller (view w caller) questions) s
-told_alike w caller r s [] agree = ap Ok agree
-told_alike w caller r s (Holds test status is ∷ questions) agree =
-    rw (sym agree.0) (elim (test (whole w)) as (λ b. (b ≡ true → Agree w caller questions (r ≡ s)) → told (cond b (failure caller (whole w) questions) (Some status)) r ≡ told (cond b (failure caller (view w caller) questions) (Some status)) s) [
-      | true ↦ λ h. told_alike w caller r s questions (h refl)
+results_alike : (w : Realm) (caller : Identity) (r s : Outcome) (questions : List Question) → Agree w caller questions (r ≡ s)
+    → result_unless (failure caller (whole w) questions) r ≡ result_unless (failure caller (view w caller) questions) s
+results_alike w caller r s [] agree = ap Ok agree
+results_alike w caller r s (Holds test status is ∷ questions) agree =
+    rw (sym agree.0) (elim (test (whole w)) as (λ b. (b ≡ true → Agree w caller questions (r ≡ s)) → result_unless (cond b (failure caller (whole w) questions) (Some status)) r ≡ result_unless (cond b (failure caller (view w caller) questions) (Some status)) s) [
+      | true ↦ λ h. results_alike w caller r s questions (h refl)
       | false ↦ λ h. refl
     ] agree.1)
-told_alike w caller r s (Valid fault may ∷ questions) agree =
-    rw (sym agree.0) (elim (fault (whole w)) as (λ f. (f ≡ None → Agree w caller questions (r ≡ s)) → told (first_fault f (failure caller (whole w) questions)) r ≡ told (first_fault f (failure caller (view w caller) questions)) s) [
-      | None ↦ λ h. told_alike w caller r s questions (h refl)
+results_alike w caller r s (Valid fault may ∷ questions) agree =
+    rw (sym agree.0) (elim (fault (whole w)) as (λ f. (f ≡ None → Agree w caller questions (r ≡ s)) → result_unless (first_fault f (failure caller (whole w) questions)) r ≡ result_unless (first_fault f (failure caller (view w caller) questions)) s) [
+      | None ↦ λ h. results_alike w caller r s questions (h refl)
       | Some status ↦ λ h. refl
     ] agree.1)
-told_alike w caller r s (Row demands ∷ questions) agree =
-    rw (sym agree.0) (elim (all_granted (judged_of w.world) caller (demands (whole w))) as (λ b. (b ≡ true → Agree w caller questions (r ≡ s)) → told (cond b (failure caller (whole w) questions) (Some statuses.Access)) r ≡ told (cond b (failure caller (view w caller) questions) (Some statuses.Access)) s) [
-      | true ↦ λ h. told_alike w caller r s questions (h refl)
+results_alike w caller r s (Row demands ∷ questions) agree =
+    rw (sym agree.0) (elim (all_granted (judged_of w.world) caller (demands (whole w))) as (λ b. (b ≡ true → Agree w caller questions (r ≡ s)) → result_unless (cond b (failure caller (whole w) questions) (Some statuses.Access)) r ≡ result_unless (cond b (failure caller (view w caller) questions) (Some statuses.Access)) s) [
+      | true ↦ λ h. results_alike w caller r s questions (h refl)
       | false ↦ λ h. refl
     ] agree.1)
-told_alike w caller r s (Suffices test ∷ questions) agree =
-    rw (sym agree.0) (elim (test (whole w)) as (λ b. (b ≡ true → r ≡ s) → (b ≡ false → Agree w caller questions (r ≡ s)) → told (cond b None (failure caller (whole w) questions)) r ≡ told (cond b None (failure caller (view w caller) questions)) s) [
+results_alike w caller r s (Suffices test ∷ questions) agree =
+    rw (sym agree.0) (elim (test (whole w)) as (λ b. (b ≡ true → r ≡ s) → (b ≡ false → Agree w caller questions (r ≡ s)) → result_unless (cond b None (failure caller (whole w) questions)) r ≡ result_unless (cond b None (failure caller (view w caller) questions)) s) [
       | true ↦ λ e h. ap Ok (e refl)
-      | false ↦ λ e h. told_alike w caller r s questions (h refl)
+      | false ↦ λ e h. results_alike w caller r s questions (h refl)
     ] agree.1 agree.2)
 
 traced_alike : (w : Realm) (caller : Identity) (op : ℕ) (end : Type 0) (questions : List Question) → Agree w caller questions end
@@ -86,16 +86,16 @@ traced_alike w caller op end (Suffices test ∷ questions) agree =
 abbrev pub IsSeen : Meaning → Type 0
 IsSeen m = (w : Realm) → Agree w m.caller m.questions (m.answer (whole w) ≡ m.answer (view w m.caller))
 
-in_view : (m : Meaning) → IsSeen m → (w : Realm) → shown m (whole w) ≡ shown m (view w m.caller)
+in_view : (m : Meaning) → IsSeen m → (w : Realm) → observed m (whole w) ≡ observed m (view w m.caller)
 in_view m seen w =
-    let t = told_alike w m.caller (m.answer (whole w)) (m.answer (view w m.caller)) m.questions (seen w) in
+    let t = results_alike w m.caller (m.answer (whole w)) (m.answer (view w m.caller)) m.questions (seen w) in
     let l = traced_alike w m.caller m.number (m.answer (whole w) ≡ m.answer (view w m.caller)) m.questions (seen w) in
     λ i. (t i, l i)
 
 pub discloses_nothing : (m : Meaning) → IsSeen m → DisclosesNothing m
-discloses_nothing m seen v w same = in_view m seen v ∙ ap (shown m) same ∙ sym (in_view m seen w)
+discloses_nothing m seen v w same = in_view m seen v ∙ ap (observed m) same ∙ sym (in_view m seen w)
 
--- ---- a name in a directory that EXECUTE is granted of
+-- ---- a name in a directory on which EXECUTE is granted
 
 -- a row of EXECUTE on the object of a filehandle
 abbrev Executes : Realm → Identity → Option ℕ → Type 0

@@ -1,5 +1,5 @@
--- A call that is kept, run again from a state that covers the present one, has the same reply, and
--- leaves a state that covers. One that isn't kept leaves what covers.
+-- A logged call, replayed from a state that covers the current one, has the same reply, and its end state covers too.
+-- After one that isn't logged, a covering state still covers.
 use Rattle.std.proofs.Common.{◌≡◌, ◌<◌, ◌≤◌, ◌-◌, ◌^◌, ◌||◌, ℕ, Bool, true, false, List, [], inl, inr, refl, sym, ap, subst, ◌∙◌}
 use Rattle.std.specs.Prelude.{◌⊎◌, ◌/◌, ◌==◌, not, Option, Some, None, slice_get}
 use Rattle.std.specs.Map.{lookup}
@@ -22,9 +22,9 @@ use Rattle.session_slots.specs.Covering.{IsLater, PlacesCover, SessionsCover, la
 use Rattle.session_slots.specs.Keeping.{last_at, last_of, passes}
 use Rattle.session_slots.specs.Limits.{MOST_AHEAD}
 use Rattle.session_slots.specs.Registry.{Session, Registry, changed_place, session_at, with_place}
-use Rattle.session_slots.specs.Repeating.{Fate, Runs}
+use Rattle.session_slots.specs.Retrying.{Fate, Runs}
 use Rattle.session_slots.specs.Sequencing.{Asked, session_begun}
-use Rattle.session_slots.specs.Slots.{Kept, Place, finished, number_of}
+use Rattle.session_slots.specs.Slots.{Cached, Place, finished, number_of}
 use Rattle.session_slots.proofs.Covering.{PlaceFound, changed, place_found}
 use Rattle.session_slots.proofs.OnSlot.{Found, found, begins_there, ended_there, idle_there, lookup_after, place_after}
 use Rattle.compound_run.specs.Realm.{Realm}
@@ -34,11 +34,12 @@ use Rattle.compound_run.specs.Sessions.{session_of, with_registry}
 use Rattle.compound_run.specs.Settings.{Settings}
 use Rattle.compound_run.specs.Sequence.{keeping}
 use Rattle.compound_run.specs.Beginning.{Beginning, Ends, Refuses, Acts, Follows, beginning}
-use Rattle.compound_run.specs.InSession.{Reply, RunsAlone, RunsBegun, RunsBy, RunsCall, RunsOf, RunsOnSlot, Sequenced, asked_in, begin_in, begun_in, context_behind, fate, fate_alone, fate_begun, fate_by, fate_of, in_registry, sequenced}
+use Rattle.compound_run.specs.InSession.{Reply, RunsAlone, RunsBegun, RunsBy, RunsCall, RunsOf, RunsOnSlot, Sequenced, asked_in, begin_in, begun_in, call_context_after_sequence, fate, fate_alone, fate_begun, fate_by, fate_of, in_registry, sequenced}
 use Rattle.compound_run.specs.Runs.{Point}
 use Rattle.compound_run.specs.Covering.{Covers, with_sessions}
 use Rattle.compound_run.specs.Keeping.{is_change, keeps, keeps as keeps_there, keeps_begun, keeps_by, keeps_of, keeps_on_slot, keeps_only}
-use Rattle.compound_run.specs.Delayed.{delayed, delayed as delayed_there, delayed_begun, delayed_by, delayed_of, delayed_on_slot, delayed_only}
+use Rattle.compound_run.specs.Delayed.{delayed_begun, delayed_by, delayed_on_slot, delayed_only}
+use Rattle.compound_run.specs.Delayed.{delayed, delayed as delayed_there, delayed_of}
 use Rattle.compound_run.specs.Replaying.{Replays, IsNumbered, IsNumberedFor, IsNumberedOf, ready, ready_for, ready_of}
 use Rattle.compound_run.proofs.Staying.{runs_stay}
 use Rattle.compound_laws.proofs.Alone.{alone_over, alone_idle}
@@ -53,7 +54,7 @@ state_over sessions like s = record {
   settings = record { capacity = like.settings.capacity; book = s.settings.book; epoch = like.settings.epoch };
 }
 
--- a state that covers is such a one
+-- a state that covers has this form
 is_over : (q s : State) → Covers q s → q ≡ state_over q.realm.registry.sessions q s
 is_over q s c = λ i. record {
   realm = c.realm.others i;
@@ -64,9 +65,9 @@ is_over q s c = λ i. record {
 
 -- ---- on a slot
 
--- the last number of a slot that lags is in the same span of 2^20
+-- the last sequence ID of a slot that lags is in the same span of 2^20
 span_of : (q p : Place) → (q.kept ≡ p.kept) ⊎ IsLater p q.kept → last_of (Some q) / MOST_AHEAD ≡ last_of (Some p) / MOST_AHEAD
-span_of q p (inl same) = ap (λ (k : Option Kept). last_number number_of k / MOST_AHEAD) same
+span_of q p (inl same) = ap (λ (k : Option Cached). last_number number_of k / MOST_AHEAD) same
 span_of q p (inr later) = later.near
 
 span_in : (slot : ℕ) (qs ps : List Place) (p : Place) → PlacesCover qs ps → slice_get ps slot ≡ Some p
@@ -77,7 +78,7 @@ span_in slot qs ps p c there = of (slice_get qs slot) refl (subst (λ y. PlaceFo
     of None is covers = absurd covers
     of (Some q) is covers = ap (λ (o : Option Place). last_of o / MOST_AHEAD) (place_after slot lagging qs q is) ∙ span_of q p covers.kept
 
--- the last number of a slot among these sessions, if there is one
+-- the last sequence ID of a slot among these sessions, if there is one
 abbrev last_in : (ℕ → Bool) → ℕ → List (ℕ × Session) → ℕ
 last_in test slot sessions = last_of (option_and_then (λ (s : Session). slice_get s.slots slot) (lookup test sessions))
 
@@ -101,14 +102,14 @@ slot_over : (call : Call) (tag : List ℕ) (count : ℕ) (v : Value sequence_arg
     → begin_in old.realm call count v operations ≡ begins.New granted → (runs : RunsOnSlot old (sequenced call tag count v operations) granted bytes new)
     → RunsThere call tag count v operations granted bytes (ready_for (Follows v operations) (state_over sessions like old)) new
     (keeps_on_slot old (sequenced call tag count v operations) granted bytes new runs) (delayed_on_slot old (sequenced call tag count v operations) granted bytes new runs)
-slot_over call tag count v operations sessions like old granted bytes new c epoch fits begins (end, (results, runs, told), is, few) =
+slot_over call tag count v operations sessions like old granted bytes new c epoch fits begins (end, (results, runs, result), is, few) =
     let a = asked_in old.realm.lasting call count v operations in
     let test : ℕ → Bool = is_at (nat_cmp (session_of (sequence_session v))) in
     let f = found test sessions old.realm.registry.sessions a granted c begins in
     let q = ready_for (Follows v operations) (state_over sessions like old) in
     let begun = changed test (λ s. session_begun s a) (changed test (with_place (sequence_slot v) lagging) sessions) in
     let first : Log = record { held = []; trail = like.trail; total = like.total } in
-    let cx = context_behind old call tag count v granted in
+    let cx = call_context_after_sequence old call tag count v granted in
     let from = start (in_registry (begun_in old.realm call count v operations) old) in
     let there = runs_over begun first q.settings cx (cx.count - cx.position) operations from results end runs in
     let last = over begun there.0 q.settings end in
@@ -117,7 +118,7 @@ slot_over call tag count v operations sessions like old granted bytes new c epoc
     let stays = runs_stay cx (cx.count - cx.position) operations from results end runs in (
       begins_there test sessions old.realm.registry.sessions a granted f,
       after,
-      (last, (results, there.1, told), refl, few),
+      (last, (results, there.1, result), refl, few),
       subst (λ (x : State). Covers after x) (sym is) (record {
         realm = record {
           others = refl;
@@ -141,13 +142,13 @@ slot_idle : (call : Call) (tag : List ℕ) (count : ℕ) (v : Value sequence_arg
     → Covers q old → sequence_number v < 2 ^ 32 → begin_in old.realm call count v operations ≡ begins.New granted
     → (runs : RunsOnSlot old (sequenced call tag count v operations) granted bytes new)
     → keeps_on_slot old (sequenced call tag count v operations) granted bytes new runs ≡ false → Covers q new
-slot_idle call tag count v operations q old granted bytes new c fits begins (end, (results, runs, told), is, few) none =
+slot_idle call tag count v operations q old granted bytes new c fits begins (end, (results, runs, result), is, few) none =
     let a = asked_in old.realm.lasting call count v operations in
     let session = session_of (sequence_session v) in
     let test : ℕ → Bool = is_at (nat_cmp session) in
     let qs = q.realm.registry.sessions in
     let f = found test qs old.realm.registry.sessions a granted c.realm.sessions begins in
-    let cx = context_behind old call tag count v granted in
+    let cx = call_context_after_sequence old call tag count v granted in
     let from = start (in_registry (begun_in old.realm call count v operations) old) in
     let nothing = none_of (list_any is_change results) (passes (last_at old.realm.registry session (sequence_slot v)) (sequence_number v)) none in
     let place : last_at old.realm.registry session (sequence_slot v) ≡ last_of (Some f.is_new.place) =
@@ -172,7 +173,7 @@ fate_over : (tag : List ℕ) (op : Operation) (sessions : List (ℕ × Session))
 fate_over tag (Known kinds.CreateSession v) sessions r = refl
 fate_over tag _ sessions r = refl
 
--- an operation that is the only one of its COMPOUND is done there; its record has the same facts
+-- an operation that is the only one of its COMPOUND runs there; its record has the same facts
 abbrev OnlyThere : Call → List ℕ → Operation → List ℕ → State → State → Bool → Option ℕ → Type 0
 OnlyThere call tag op bytes q new kept place =
     (after : State) × (runs : RunsAlone call tag op q bytes after) × Covers after new × (keeps_only call tag op q bytes after runs ≡ kept)
@@ -181,12 +182,12 @@ OnlyThere call tag op bytes q new kept place =
 only_over : (call : Call) (tag : List ℕ) (op : Operation) (sessions : List (ℕ × Session)) (like old : State) (bytes : List ℕ) (new : State)
     → SessionsCover sessions old.realm.registry.sessions → like.settings.epoch ≤ old.settings.epoch → (runs : RunsAlone call tag op old bytes new)
     → OnlyThere call tag op bytes (state_over sessions like old) new (keeps_only call tag op old bytes new runs) (delayed_only call tag op old bytes new runs)
-only_over call tag op sessions like old bytes new c epoch ((outcome, acts, told), rest) =
+only_over call tag op sessions like old bytes new c epoch ((outcome, acts, result), rest) =
     let there = alone_over call.caller op sessions old.realm outcome new.realm c acts in
     let after = record (state_over sessions like old) { realm = with_sessions there.0 new.realm } in
     let settled = ap (λ (s : State). s.settings) rest in (
       after,
-      ((outcome, there.1, told), refl),
+      ((outcome, there.1, result), refl),
       record {
         realm = record { others = refl; sessions = there.2 };
         book = ap (λ (s : Settings). s.book) (sym settled);
@@ -198,7 +199,7 @@ only_over call tag op sessions like old bytes new c epoch ((outcome, acts, told)
 
 only_idle : (call : Call) (tag : List ℕ) (op : Operation) (q old : State) (bytes : List ℕ) (new : State) → Covers q old → (runs : RunsAlone call tag op old bytes new)
     → keeps_only call tag op old bytes new runs ≡ false → Covers q new
-only_idle call tag op q old bytes new c ((outcome, acts, told), rest) none =
+only_idle call tag op q old bytes new c ((outcome, acts, result), rest) none =
     let same : new ≡ old = rest ∙ ap (λ (r : Realm). record old { realm = r }) (alone_idle call.caller op old.realm outcome new.realm acts none) in
     subst (λ (x : State). Covers q x) (sym same) c
 
@@ -210,9 +211,9 @@ BegunThere call tag count b bytes q new kept place =
     (fate_begun q call tag count b ≡ Runs) × (after : State) × (runs : RunsBegun call tag count b q bytes after) × Covers after new
     × (keeps_begun call tag count b q bytes after runs ≡ kept) × (delayed_begun call tag count b q bytes after runs ≡ place)
 
--- a call that has begun so runs with this reply
-abbrev BySo : Begin → Sequenced → State → List ℕ → State → Bool → Option ℕ → Type 0
-BySo b c old bytes new kept place = (runs : RunsBy b c old bytes new) × (keeps_by b c old bytes new runs ≡ kept) × (delayed_by b c old bytes new runs ≡ place)
+-- a call with this beginning runs with this reply
+abbrev BegunRuns : Begin → Sequenced → State → List ℕ → State → Bool → Option ℕ → Type 0
+BegunRuns b c old bytes new kept place = (runs : RunsBy b c old bytes new) × (keeps_by b c old bytes new runs ≡ kept) × (delayed_by b c old bytes new runs ≡ place)
 
 follows_over : (b : Begin) (call : Call) (tag : List ℕ) (count : ℕ) (v : Value sequence_args) (operations : List ℕ) (sessions : List (ℕ × Session)) (like old : State) (bytes : List ℕ) (new : State)
     → SessionsCover sessions old.realm.registry.sessions → like.settings.epoch ≤ old.settings.epoch → sequence_number v < 2 ^ 32
@@ -223,8 +224,8 @@ follows_over (begins.New granted) call tag count v operations sessions like old 
     let q = ready_for (Follows v operations) (state_over sessions like old) in
     let s = sequenced call tag count v operations in
     let there = slot_over call tag count v operations sessions like old granted bytes new c epoch fits begins runs in
-    let so = subst (λ (x : Begin). BySo x s q bytes there.1 (keeps_on_slot old s granted bytes new runs) (delayed_on_slot old s granted bytes new runs)) (sym there.0) (there.2, there.4, there.5) in
-    (ap (fate_by tag v q.realm.registry) there.0, there.1, so.0, there.3, so.1, so.2)
+    let holds = subst (λ (x : Begin). BegunRuns x s q bytes there.1 (keeps_on_slot old s granted bytes new runs) (delayed_on_slot old s granted bytes new runs)) (sym there.0) (there.2, there.4, there.5) in
+    (ap (fate_by tag v q.realm.registry) there.0, there.1, holds.0, there.3, holds.1, holds.2)
 follows_over begins.Repeat call tag count v operations sessions like old bytes new c epoch fits begins runs = absurd runs
 follows_over (begins.Refused status) call tag count v operations sessions like old bytes new c epoch fits begins runs = absurd runs
 
@@ -240,7 +241,7 @@ begun_over (Acts op) call tag count sessions like old bytes new c epoch fits is 
 begun_over (Follows v operations) call tag count sessions like old bytes new c epoch fits is runs =
     follows_over (begin_in old.realm call count v operations) call tag count v operations sessions like old bytes new c epoch fits refl runs
 
--- a call of these arguments is run again; its record has the same facts
+-- a call of these arguments is replayed; its record has the same facts
 record ReadThere (call : Call) (a : Option (Value args_form × List ℕ)) (reply : Reply) (q new : State) (keeps : Bool) (place : Option ℕ) : Type 0 where
   is : fate_of (ready_of a q) call a ≡ Runs
   after : State
@@ -265,8 +266,7 @@ call_over q s call reply new c fits is runs =
     subst (λ (x : State). ReadThere call (args_in (read_at args_form call.arguments)) reply x new (keeps call s reply new runs) (delayed call s reply new runs)) (sym (is_over q s c))
     (read_over (args_in (read_at args_form call.arguments)) call q.realm.registry.sessions q s reply new c.realm.sessions c.epoch fits is runs)
 
--- A call is run again with this reply, from a state that covers, and leaves one that covers. Its record
--- has these facts.
+-- A call is replayed with this reply, from a state that covers, and its end state covers. Its record has these facts.
 pub record Simulates (call : Call) (reply : Reply) (q new : State) (keeps : Bool) (place : Option ℕ) : Type 0 where
   pub after : State
   pub replays : Replays call q reply after
@@ -281,7 +281,7 @@ simulates q s call reply new c fits is runs =
     let there = call_over q s call reply new c fits is runs in
     record { after = there.after; replays = record { fate = there.is; runs = there.runs }; covers = there.covers; kept = there.kept; delayed = there.delayed }
 
--- ---- one that isn't kept
+-- ---- a call that isn't logged
 
 by_idle : (b : Begin) (call : Call) (tag : List ℕ) (count : ℕ) (v : Value sequence_args) (operations : List ℕ) (q old : State) (bytes : List ℕ) (new : State)
     → Covers q old → sequence_number v < 2 ^ 32 → begin_in old.realm call count v operations ≡ b

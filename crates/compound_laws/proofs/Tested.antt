@@ -1,4 +1,4 @@
--- What a test says of each number of a list.
+-- A test of each number of a list.
 use Rattle.std.proofs.Common.{◌≡◌, ◌⊎◌, ◌∙◌, ℕ, Bool, true, false, not, ◌||◌, nat_eq, List, refl, sym, ap, inl, inr}
 use Rattle.std.specs.Prelude.{[], ◌∷◌}
 use Rattle.std.specs.List.{AllByRecursion, list_all, list_any}
@@ -8,7 +8,7 @@ not_true : (b : Bool) → not b ≡ true → b ≡ false
 not_true true is = sym is
 not_true false is = refl
 
--- each passes, or none does
+-- if the test of the whole list passes, each number passes, or none does
 pub all_pass : (p : ℕ → Bool) (ns : List ℕ) → list_all p ns ≡ true → AllByRecursion (λ n. p n ≡ true) ns
 all_pass p [] h = tt
 all_pass p (n ∷ ns) h = let parts = and_parts (p n) (list_all p ns) h in (parts.0, all_pass p ns parts.1)
@@ -23,7 +23,7 @@ neither : (a b : Bool) → a || b ≡ false → (a ≡ false) × (b ≡ false)
 neither true b is = cc
 neither false b is = (refl, is)
 
--- a number of a list of which none passes
+-- if no number of a list passes, a number of it doesn't
 pub fails : (p : ℕ → Bool) (ns : List ℕ) (n : ℕ) → list_any p ns ≡ false → list_any (λ m. nat_eq m n) ns ≡ true → p n ≡ false
 fails p [] n none there = cc
 fails p (m ∷ ns) n none there =

@@ -8,7 +8,7 @@ use Rattle.compound_run.specs.Context.{Context, Handles}
 use Rattle.compound_run.specs.Sight.{Sight}
 use Rattle.compound_laws.specs.Lines.{Step, Tests, Checks, Asks, Ends, line_of, steps_of}
 use Rattle.compound_laws.specs.RowsAsked.{rows_of, table_rows}
-use Rattle.compound_laws.specs.WrongRows.{reading_lookup, asking_getfh, telling_remove}
+use Rattle.compound_laws.specs.WrongRows.{reading_lookup, asking_getfh, disclosing_remove}
 
 two_isnt_one : ◌≡◌ {A = ℕ} 2 1 → ⊥
 two_isnt_one same = cc
@@ -40,5 +40,5 @@ false_isnt_true : false ≡ true → ⊥
 false_isnt_true same = cc
 
 pub of_remove : (c : Context) (h : Handles) (name : List ℕ)
-    → steps_of (telling_remove name c h) ≡ line_of c h (Known kinds.Remove name) → ⊥
+    → steps_of (disclosing_remove name c h) ≡ line_of c h (Known kinds.Remove name) → ⊥
 of_remove c h name same = false_isnt_true (ap asks_eighth same)

@@ -11,7 +11,7 @@ use Rattle.nfs_ops.specs.Forms.{entry, readdir_args}
 use Rattle.nfs_ops.specs.Given.{readdir_outcome}
 use Rattle.nfs_ops.specs.Listing.{Listing, listing_size, readdir_limit}
 use Rattle.nfs_ops.specs.Operations.{Known}
-use Rattle.nfs_ops.specs.Parts.{entry_cookie, entry_name, entry_attributes, set_of, listed_behind, listed_at_most}
+use Rattle.nfs_ops.specs.Parts.{entry_cookie, entry_name, entry_attributes, set_of, listed_after, listed_at_most}
 use Rattle.nfs_ops.specs.Parts.{listed_attributes}
 use Rattle.nfs_ops.specs.Results.{Outcome}
 use Rattle.nfs_ops.specs.declared.OpKind.TheVariants as kinds
@@ -37,10 +37,10 @@ attributes_in e = set_of (entry_attributes e)
 abbrev pub ungoverned : List ℕ
 ungoverned = numbers_read_by 0
 
--- The entry is of this name. An attribute that READ_ATTRIBUTES governs is in it exactly where it is
--- requested and the list of the name's object grants READ_ATTRIBUTES. Each of acl, dacl and sacl is
--- in it exactly where requested and the list grants READ_ACL. One that everyone can read is in it
--- exactly where it is requested.
+-- The entry is of this name. The access control list (ACL) of the name's object decides its attributes. One that
+-- READ_ATTRIBUTES governs is present if and only if it is requested and READ_ATTRIBUTES is granted. Each of acl, dacl
+-- and sacl is present if and only if it is requested and READ_ACL is granted. One that everyone can read is present if
+-- and only if it is requested.
 pub record IsExact (lists : Lists) (caller : Identity) (asked : List ℕ) (n : Name) (e : Value entry) : Type 0 where
   pub cookie : entry_cookie e ≡ n.cookie
   pub name : entry_name e ≡ n.name
@@ -51,7 +51,7 @@ pub record IsExact (lists : Lists) (caller : Identity) (asked : List ℕ) (n : N
       (λ a. has_number (attributes_in e) a ≡ has_number asked a && allows lists caller n.child READ_ACL) list_giving
   pub others : AllByRecursion (λ a. has_number (attributes_in e) a ≡ has_number asked a) ungoverned
 
--- the entries are those of the first of these names, in their order
+-- the entries are those of a prefix of these names, in order
 abbrev pub AreExact : Lists → Identity → List ℕ → List Name → List (Value entry) → Type 0
 AreExact lists caller asked names [] = Unit {0}
 AreExact lists caller asked [] (e ∷ entries) = ⊥
@@ -62,7 +62,7 @@ AreExact lists caller asked (n ∷ names) (e ∷ entries) =
 pub record GivesExactly (c : Context) (h : Handles) (v : Value readdir_args) (s : Sight) (o : Outcome) : Type 0 where
   pub given : Listing
   pub is : o ≡ readdir_outcome given
-  pub exact : AreExact s.lists c.caller (listed_attributes v) (names_above s (here h) (listed_behind v)) given.entries
+  pub exact : AreExact s.lists c.caller (listed_attributes v) (names_above s (here h) (listed_after v)) given.entries
 
 -- ---- a READDIR that is refused
 
@@ -70,23 +70,22 @@ pub record GivesExactly (c : Context) (h : Handles) (v : Value readdir_args) (s 
 abbrev pub before_row : Context → Handles → Value readdir_args → List Question
 before_row c h v =
     is_valid (entry_fault c (Known kinds.ReadDir v)) (entry_may c (Known kinds.ReadDir v))
-    ∷ with_handle h.current (is_directory (here h) ∷ is_cookie (listed_behind v) ∷ [])
+    ∷ with_handle h.current (is_directory (here h) ∷ is_cookie (listed_after v) ∷ [])
 
 -- LIST_DIRECTORY is demanded, and isn't granted
 pub record IsUnlisted (c : Context) (h : Handles) (v : Value readdir_args) (s : Sight) : Type 0 where
   pub passed : ArePassed c.caller s (before_row c h v)
   pub refused : all_granted s.lists c.caller (first_demands (Known kinds.ReadDir v) (first_facts s h)) ≡ false
 
--- A refused entry is met, without rdattr_error (11) requested: the list of its object refuses an
--- attribute that is requested. The entries before it, if there are any, are returned and within the
--- limit.
+-- A refused entry is reached without rdattr_error (11) requested: the ACL of its object refuses a requested attribute.
+-- The entries before it, if there are any, are returned and within the limit.
 pub record MeetsRefused (c : Context) (h : Handles) (v : Value readdir_args) (s : Sight) : Type 0 where
   pub passed : ArePassed c.caller s (before_row c h v)
   pub granted : all_granted s.lists c.caller (first_demands (Known kinds.ReadDir v) (first_facts s h)) ≡ true
   pub before : List Name
   pub name : Name
-  pub behind : List Name
-  pub parts : names_above s (here h) (listed_behind v) ≡ before ++ name ∷ behind
+  pub later : List Name
+  pub parts : names_above s (here h) (listed_after v) ≡ before ++ name ∷ later
   pub entries : List (Value entry)
   pub given : map (judged_entry c (listed_attributes v) s) before ≡ map Ok entries
   pub within : (entries ≡ []) ⊎ (listing_size entries ≤ readdir_limit (listed_at_most v) c.room)

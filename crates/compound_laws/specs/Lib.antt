@@ -5,6 +5,6 @@ pub mod LiveOpens
 pub mod Replays
 pub mod RowsAsked
 pub mod Lines
-pub mod Stepping
 pub mod WrongLookup
 pub mod WrongRows
+pub mod internal

@@ -1,6 +1,6 @@
--- The line of each operation: its checks in order, each with the status by which it fails, and the
--- places of its rows among them (RFC 8881, sections 15 and 18).
-use Rattle.std.specs.Prelude.{◌≡◌, ℕ, Bool, true, List, [], ◌∷◌, map, Option, Some, None, if◌then◌else◌}
+-- The line of each operation: its checks in order, each with the status with which it fails, and the places of its rows
+-- among them (RFC 8881, sections 15 and 18).
+use Rattle.std.specs.Prelude.{ℕ, Bool, true, List, [], ◌∷◌, map, Option, Some, None, if◌then◌else◌}
 use Rattle.std.specs.Option.{option_map}
 use Rattle.xdr_wire.specs.Xdr.{Value}
 use Rattle.nfs_types.specs.Forms.{stateid}
@@ -26,18 +26,18 @@ use Rattle.compound_run.specs.Operations.Create as creations
 use Rattle.compound_run.specs.Operations.Open as opens
 use Rattle.compound_run.specs.Operations.Setattr as settings
 use Rattle.compound_run.specs.Operations.Verify.{set_fault}
-use Rattle.compound_laws.specs.RowsAsked.{first_of, second_of, rows_of, table_rows}
+use Rattle.compound_laws.specs.RowsAsked.{first_of, second_of}
 
 -- ---- steps
 
 pub data Step : Type 0 where
-  -- a test; where it fails the answer is this status
+  -- a test; if it fails, the answer is this status
   Tests : Status → Step
   -- a check that has several statuses; the answer is its fault, if there is one
   Checks : (Sight → Option Status) → Step
-  -- a row of demands; where it isn't granted the answer is ACCESS
+  -- a row of demands; if it isn't granted, the answer is ACCESS
   Asks : (Sight → Demands) → Step
-  -- a test; where it holds the answer is OK, and nothing more is asked
+  -- a test; if it holds, the answer is OK, and nothing more is evaluated
   Ends : Step
 
 abbrev pub step_of : Question → Step
@@ -51,7 +51,7 @@ steps_of questions = map step_of questions
 
 -- ---- checks
 
--- there is a filehandle, the current or the saved one, and its object is there
+-- there is a filehandle, the current or the saved one, and its object exists
 abbrev pub with_object : List Step → List Step
 with_object steps = Tests statuses.NoFileHandle ∷ Tests statuses.Stale ∷ steps
 
@@ -59,13 +59,13 @@ with_object steps = Tests statuses.NoFileHandle ∷ Tests statuses.Stale ∷ ste
 abbrev pub names : List ℕ → Step
 names name = Checks (λ s. name_fault name)
 
--- The stateid is special, or that of an open of the current file for such an access: BAD_STATEID,
--- OLD_STATEID, OPENMODE. Where it is special this is the fault.
+-- The stateid is special, or that of an open of the current file with a sufficient access: BAD_STATEID, OLD_STATEID,
+-- OPENMODE. The fault of a special stateid is given.
 abbrev pub stateids : Option Status → (ℕ → Bool) → Context → Handles → Value stateid → Step
 stateids special serves c h id =
     Checks (λ s. if is_special id then special else opened_fault serves c (here h) id s)
 
--- the answer is this status, whatever there is
+-- the answer is this status in any realm
 abbrev pub refuses : Status → List Step
 refuses status = Checks (λ s. Some status) ∷ []
 
@@ -88,7 +88,7 @@ line_with first second c h (Known kinds.Create v) =
     -- BADTYPE
     ∷ Checks (λ s. creations.type_fault (creations.draft_of (created_type v)))
     ∷ names (created_name v)
-    -- of the text of a link: INVAL, NAMETOOLONG
+    -- of the text of a symbolic link: INVAL, NAMETOOLONG
     ∷ Checks (λ s. creations.text_fault (creations.draft v))
     -- of the attributes
     ∷ Checks (λ s. fault_in (creations.sent c v))
@@ -170,7 +170,7 @@ line_with first second c h (Known kinds.Rename v) =
     ∷ names (new_name v)
     ∷ first
     ∷ Tests statuses.NoEnt
-    -- both names are those of one object
+    -- both names belong to one object
     ∷ Ends
     ∷ Tests statuses.Inval
     ∷ Tests statuses.Exist
@@ -183,7 +183,7 @@ line_with first second c h (Known kinds.SetAttr v) =
     with_object
     -- of the attributes
     (Checks (settings.attributes_fault c v (here h))
-    -- of a size: INVAL on what is no file, else of the stateid
+    -- of a size: INVAL if the object isn't a file, else of the stateid
     ∷ Checks (λ s. settings.size_fault (settings.wanted_on c v (here h) s).size c (here h) (set_stateid v) s)
     ∷ first
     ∷ Tests statuses.FBig
@@ -211,7 +211,3 @@ line_with first second c h (Bad n) = refuses statuses.BadXdr
 
 abbrev pub line_of : Context → Handles → Operation → List Step
 line_of c h op = enters c op ∷ line_with (Asks (first_of c h op)) (Asks (second_of c h op)) c h op
-
--- the questions are those of the line, with the rows of the operation and no others
-abbrev pub AreExactly : Context → Handles → Operation → List Question → Type 0
-AreExactly c h op questions = (rows_of questions ≡ table_rows c h op) × (steps_of questions ≡ line_of c h op)

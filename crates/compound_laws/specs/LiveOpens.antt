@@ -1,5 +1,5 @@
--- The open files of a realm: each is a file that is there, within the limit of open files
--- (RFC 8881, sections 18.2, 18.16 and 18.25).
+-- The open files of a realm: each is an existing file, within the limit of open files (RFC 8881, sections 18.2, 18.16
+-- and 18.25).
 use Rattle.std.specs.Prelude.{◌≡◌, ◌≤◌, ◌<◌, ℕ, length, Some, IsSome}
 use Rattle.std.specs.List.{AllByRecursion}
 use Rattle.acl_list.specs.declared.entry.Kind.TheVariants.{File}
@@ -7,13 +7,13 @@ use Rattle.node_tree.specs.World.{World, kind_of}
 use Rattle.compound_run.specs.Limits.{MAX_OPENS}
 use Rattle.compound_run.specs.Realm.{Realm}
 
--- Each name leads to an object that is there, and no object has the next number or a higher one. So
--- the object of a name can be opened, and a new object takes no open file's number.
+-- Each name has an existing object, and no object has the next number or a higher one. So the object of a name can be
+-- opened, and a new object never gets the number of an open file.
 pub record IsKept (w : World) : Type 0 where
-  pub led : AllByRecursion (λ n. IsSome (kind_of w n.child)) w.names
+  pub children_exist : AllByRecursion (λ n. IsSome (kind_of w n.child)) w.names
   pub numbered : (number : ℕ) → IsSome (kind_of w number) → number < w.next_number
 
--- No open outlives its object: each is of a file that is there. The number of opens is within the limit.
+-- No open outlives its object: each is of an existing file. The number of opens is within the limit.
 pub record OpensHold (r : Realm) : Type 0 where
   pub live : AllByRecursion (λ o. kind_of r.world o.object ≡ Some File) r.opens
   pub few : length r.opens ≤ MAX_OPENS

@@ -1,5 +1,5 @@
--- The rows of each operation, and that its questions ask these and no others (RFC 8881, sections
--- 6.2.1.3 and 18). They are those of the table of demands, at the facts of the operation's place.
+-- The rows of each operation: its questions evaluate these and no others (RFC 8881, sections 6.2.1.3 and 18). They are
+-- those of the table of demands, given the facts at the operation's place.
 use Rattle.std.specs.Prelude.{◌≡◌, ◌⊎◌, List, [], ◌∷◌, Some, None, true}
 use Rattle.nfs_ops.specs.Operations.{Operation, Known}
 use Rattle.nfs_ops.specs.declared.OpKind.{OpKind}
@@ -38,7 +38,7 @@ second_of c h (Known kinds.Rename v) s =
     second_demands (Known kinds.Rename v) (second_facts s h (renames.moved h v s) (renames.replaced h v s))
 second_of c h op s = second_demands op (second_facts s h None None)
 
--- the rows that an operation of this kind has, of its two, in order; all others have none
+-- the rows of an operation by its number, of its two, in order; all others have none
 abbrev pub rows_at : OpKind → (first second : Sight → Demands) → List (Sight → Demands)
 rows_at kinds.Create first second = first ∷ []
 rows_at kinds.GetAttr first second = first ∷ []
@@ -89,7 +89,7 @@ abbrev pub IsAmong : (Sight → Demands) → List (Sight → Demands) → Type 0
 IsAmong row [] = ⊥
 IsAmong row (r ∷ rows) = (r ≡ row) ⊎ IsAmong row rows
 
--- one of the questions suffices: those after it aren't put
+-- one of the questions suffices: those after it aren't evaluated
 abbrev pub SomeSuffices : Sight → List Question → Type 0
 SomeSuffices s [] = ⊥
 SomeSuffices s (Suffices test ∷ questions) = (test s ≡ true) ⊎ SomeSuffices s questions
@@ -97,7 +97,7 @@ SomeSuffices s (Holds test status is ∷ questions) = SomeSuffices s questions
 SomeSuffices s (Valid fault may ∷ questions) = SomeSuffices s questions
 SomeSuffices s (Row demands ∷ questions) = SomeSuffices s questions
 
--- a RENAME whose two names are those of one object
+-- a RENAME whose two names belong to one object
 abbrev pub IsOntoItself : Handles → Operation → Sight → Type 0
 IsOntoItself h (Known kinds.Rename v) s = renames.is_same h v s ≡ true
 IsOntoItself h op s = ⊥

@@ -1,5 +1,5 @@
--- Three operations that the law on rows refuses: two ask more than their rows, and one asks a row too
--- late (RFC 8881, sections 6.2.1.3, 18.8, 18.13 and 18.25).
+-- Three operations that the law on rows refuses: two demand more than their rows, and one evaluates a row too late (RFC
+-- 8881, sections 6.2.1.3, 18.8, 18.13 and 18.25).
 use Rattle.std.specs.Prelude.{ℕ, not, List, [], ◌∷◌, None}
 use Rattle.acl_list.specs.declared.mask.TheConstants.{READ_ATTRIBUTES, READ_DATA}
 use Rattle.nfs_types.specs.declared.status.Status.TheVariants as statuses
@@ -18,11 +18,11 @@ use Rattle.compound_run.specs.Operations.{entry_fault, entry_may}
 abbrev pub entered_with : Context → Handles → Operation → List Question → List Question
 entered_with c h op questions = is_valid (entry_fault c op) (entry_may c op) ∷ with_handle h.current questions
 
--- these bits of the current object
+-- a demand of these mask bits of the current object
 abbrev pub asks_also : Handles → ℕ → Question
 asks_also h mask = Row (λ s. bits (object_of s h.current) mask ∷ [])
 
--- LOOKUP, which asks READ_DATA too
+-- LOOKUP, which also demands READ_DATA
 abbrev pub reading_lookup : List ℕ → Context → Handles → List Question
 reading_lookup name c h =
     entered_with c h (Known kinds.Lookup name)
@@ -34,13 +34,13 @@ reading_lookup name c h =
     ∷ has_child (here h) name
     ∷ [])
 
--- GETFH, which asks READ_ATTRIBUTES
+-- GETFH, which demands READ_ATTRIBUTES
 abbrev pub asking_getfh : Context → Handles → List Question
 asking_getfh c h = entered_with c h (Known kinds.GetFh tt) (asks_also h READ_ATTRIBUTES ∷ [])
 
--- REMOVE, which says that a directory isn't empty before its second row is asked
-abbrev pub telling_remove : List ℕ → Context → Handles → List Question
-telling_remove name c h =
+-- REMOVE, which reveals that a directory isn't empty before its second row is evaluated
+abbrev pub disclosing_remove : List ℕ → Context → Handles → List Question
+disclosing_remove name c h =
     entered_with c h (Known kinds.Remove name)
     (is_directory (here h)
     ∷ is_name name

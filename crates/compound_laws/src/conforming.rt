@@ -1,4 +1,4 @@
-//! What a server answers has the values that its clients ask of it (RFC 8881, section 18).
+//! The answers of a server have the values that its clients expect (RFC 8881, section 18).
 ghost use Rattle.std.specs.Prelude.{◌≡◌, ℕ, true};
 ghost use Rattle.xdr_wire.specs.Xdr.{Value};
 ghost use Rattle.nfs_ops.specs.Forms.{close_args, sequence_args};
@@ -12,9 +12,8 @@ ghost use Rattle.compound_run.specs.ExchangeId.{exchanged};
 ghost use Rattle.compound_run.specs.Sequence.{sequence_given};
 ghost use Rattle.compound_run.specs.Sight.{Sight};
 
-/// The stateid that a CLOSE gives is the one that `read_result` of `nfs_ops` takes (`close`). So
-/// are the server owner and the scope of an EXCHANGE_ID (`exchange_id`), and the target of a
-/// SEQUENCE (`sequence`).
+/// The stateid that a CLOSE returns is the one that `read_result` of `nfs_ops` accepts (`close`). So are the server
+/// owner and the scope of an EXCHANGE_ID (`exchange_id`), and the target of a SEQUENCE (`sequence`).
 pub fn what_is_answered_conforms()
     ensures close { (v : Value close_args) (c : Context) (h : Handles) (s : Sight) →
         outcome_conforms ((close v c h).answer s) ≡ true }

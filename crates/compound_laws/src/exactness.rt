@@ -25,38 +25,38 @@ ghost use Rattle.compound_laws.specs.EntriesExact.{GivesExactly, IsUnlisted, Mee
 ghost use Rattle.compound_laws.specs.RowsAsked.{first_of, second_of, HasNoFirst, HasNoSecond, IsAmong, IsOntoItself};
 ghost use Rattle.compound_laws.specs.RowsAsked.{SomeSuffices, rows_of, table_rows};
 ghost use Rattle.compound_laws.specs.Lines.{steps_of, line_of};
-ghost use Rattle.compound_laws.specs.WrongRows.{reading_lookup, asking_getfh, telling_remove};
+ghost use Rattle.compound_laws.specs.WrongRows.{reading_lookup, asking_getfh, disclosing_remove};
 
-/// An outcome after a row of demands comes only where the lists grant each of them; else the
-/// outcome is ACCESS.
+/// Questions after a row of demands decide the outcome only if the access control lists (ACLs) grant each of its
+/// demands. Otherwise the outcome is ACCESS.
 pub fn rows_decide()
-    ensures { (caller : Identity) (s : Sight) (before behind : List Question) (demands : Sight → List (Option Demand))
+    ensures { (caller : Identity) (s : Sight) (before rest : List Question) (demands : Sight → List (Option Demand))
         → ArePassed caller s before →
-        failure caller s (before ++ Row demands ∷ behind)
-        ≡ (if all_granted s.lists caller (demands s) then failure caller s behind else Some statuses.Access) }
+        failure caller s (before ++ Row demands ∷ rest)
+        ≡ (if all_granted s.lists caller (demands s) then failure caller s rest else Some statuses.Access) }
 {}
 
-/// An operation is OK exactly where each of its questions is passed, up to a question that suffices.
+/// An operation is OK if and only if each of its questions passes, up to a question that suffices.
 pub fn ok_is_exact()
     ensures { (caller : Identity) (s : Sight) (questions : List Question) →
         (failure caller s questions ≡ None) ↔ ArePassedOrSuffice caller s questions }
 {}
 
-/// An operation answers ACCESS exactly where a row of demands is its first question that fails
-/// (`exact`). Its last line is then the DENY line of the first demand of that row that isn't
-/// granted. It names the first denying entry, else the lowest bit that none allows (`told`). By a
-/// step's definition nothing changes where the outcome isn't OK.
+/// An operation answers ACCESS if and only if a row of demands is its first question that fails (`exact`). Its last
+/// line is then the DENY line of the first demand of that row that isn't granted. It names the first access control
+/// entry (ACE) that denies it, else the lowest bit that no ACE allows (`access`). By the definition of a step, nothing
+/// changes if the outcome isn't OK.
 pub fn access_is_exact()
     ensures exact { (m : Meaning) (r : Realm) →
         (outcome m r ≡ Err statuses.Access) ↔ IsRefusedByRow m.caller (whole r) m.questions }
-    ensures told { (m : Meaning) (r : Realm) → outcome m r ≡ Err statuses.Access →
+    ensures access { (m : Meaning) (r : Realm) → outcome m r ≡ Err statuses.Access →
         (row : IsRefusedByRow m.caller (whole r) m.questions)
         × EndsInRefusal m.caller m.number (judged_of r.world) (row.demands (whole r)) (traced m r) }
 {}
 
-/// The rows that an operation asks are those of the table of demands, in order, and no others
-/// (`rows`). Its questions are its line: the same statuses and faults in the same order, with each
-/// row at its place (`line`). Neither an unsupported operation nor a refused entry asks a row.
+/// The rows that an operation evaluates are those of the table of demands, in order, and no others (`rows`). Its
+/// questions are its line: the same statuses and faults in the same order, with each row at its place (`line`). An
+/// operation that isn't supported, is illegal or can't be decoded has no row.
 pub fn rows_are_asked_exactly()
     ensures rows { (c : Context) (h : Handles) (op : Operation) →
         rows_of (meaning c h op).questions ≡ table_rows c h op }
@@ -64,21 +64,20 @@ pub fn rows_are_asked_exactly()
         steps_of (meaning c h op).questions ≡ line_of c h op }
 {}
 
-/// Of three wrong lists of questions this is false. LOOKUP asks READ_DATA too (`lookup`), GETFH
-/// asks a row (`getfh`), or REMOVE says that a directory isn't empty before its second row is asked
-/// (`remove`).
+/// This is false of three wrong lists of questions. LOOKUP also demands READ_DATA (`lookup`), GETFH has a row
+/// (`getfh`), or REMOVE reveals that a directory isn't empty before its second row is evaluated (`remove`).
 pub fn wrong_rows_are_refused()
     ensures lookup { (c : Context) (h : Handles) (name : List ℕ) →
         rows_of (reading_lookup name c h) ≡ table_rows c h (Known kinds.Lookup name) → ⊥ }
     ensures getfh { (c : Context) (h : Handles) →
         rows_of (asking_getfh c h) ≡ table_rows c h (Known kinds.GetFh tt) → ⊥ }
     ensures remove { (c : Context) (h : Handles) (name : List ℕ) →
-        steps_of (telling_remove name c h) ≡ line_of c h (Known kinds.Remove name) → ⊥ }
+        steps_of (disclosing_remove name c h) ≡ line_of c h (Known kinds.Remove name) → ⊥ }
 {}
 
-/// Each row that the table of demands has for an operation is among those that it asks. This holds
-/// of the first row, and of the second, which depends on the objects of the operation's names. Else
-/// the table has no such row for it, whatever the facts are.
+/// Each row that the table of demands has for an operation is among those that it evaluates. This holds of the first
+/// row, and of the second, which depends on the objects of the operation's names. Otherwise the table has no row for
+/// it, whatever the facts are.
 pub fn each_row_is_asked()
     ensures first { (c : Context) (h : Handles) (op : Operation) →
         IsAmong (first_of c h op) (rows_of (meaning c h op).questions) ⊎ HasNoFirst op }
@@ -86,8 +85,8 @@ pub fn each_row_is_asked()
         IsAmong (second_of c h op) (rows_of (meaning c h op).questions) ⊎ HasNoSecond op }
 {}
 
-/// So an operation that is OK was granted each demand of its rows. One row is left out: the second
-/// of a RENAME whose names are those of one object, which changes nothing.
+/// So an operation that is OK was granted each demand of its rows. One row is excepted: the second of a RENAME whose
+/// names belong to one object, which changes nothing.
 pub fn ok_is_granted()
     ensures first { (c : Context) (h : Handles) (op : Operation) (r : Realm) (o : Outcome) →
         outcome (meaning c h op) r ≡ Ok o →
@@ -97,7 +96,7 @@ pub fn ok_is_granted()
         (all_granted (judged_of r.world) c.caller (second_of c h op (whole r)) ≡ true) ⊎ IsOntoItself h op (whole r) }
 {}
 
-/// Where a row isn't granted the answer is the fault of a question before it, else ACCESS; unless a question before it
+/// If a row isn't granted, the answer is the fault of a question before it, else ACCESS; unless a question before it
 /// suffices.
 pub fn refused_is_access()
     ensures { (m : Meaning) (r : Realm) (before after : List Question) (row : Sight → Demands) →
@@ -106,23 +105,23 @@ pub fn refused_is_access()
         ⊎ SomeSuffices (whole r) before }
 {}
 
-/// An operation that takes no memory never answers DELAY. These are all but CREATE, LINK, NVERIFY,
-/// OPEN, RENAME, SETATTR, VERIFY and WRITE. Nor does an operation without place or room.
+/// An operation that allocates no memory never answers DELAY. These are all but CREATE, LINK, NVERIFY, OPEN, RENAME,
+/// SETATTR, VERIFY and WRITE. Nor does an operation without place or room.
 pub fn others_never_delay()
     ensures { (c : Context) (op : Operation) (old new : Point) (result : Result Outcome Status) →
         may_delay c op ≡ false → Steps c op old result new → result ≢ Err statuses.Delay }
 {}
 
-/// In each entry that READDIR returns an attribute that a bit governs is there exactly where it is
-/// requested, and the list of the entry's object grants that bit. Every other supported attribute
-/// is there exactly where it is requested.
+/// Each entry that READDIR returns has exactly its attributes. One that a permission governs is present if and only if
+/// it is requested and the ACL of the entry's object grants that permission. Every other supported one is present if
+/// and only if it is requested.
 pub fn readdir_gives_exactly()
     ensures { (c : Context) (h : Handles) (v : Value readdir_args) (r : Realm) (o : Outcome) → IsSound r.world →
         outcome (meaning c h (Known kinds.ReadDir v)) r ≡ Ok o → GivesExactly c h v (whole r) o }
 {}
 
-/// READDIR answers ACCESS exactly where LIST_DIRECTORY is demanded and isn't granted, or where a
-/// refused entry is met without rdattr_error requested.
+/// READDIR answers ACCESS if and only if LIST_DIRECTORY is demanded and isn't granted, or a refused entry is reached
+/// without rdattr_error requested.
 pub fn readdir_is_refused_exactly()
     ensures { (c : Context) (h : Handles) (v : Value readdir_args) (r : Realm) →
         (outcome (meaning c h (Known kinds.ReadDir v)) r ≡ Err statuses.Access) ↔

@@ -1,4 +1,4 @@
-//! Laws of a COMPOUND over a tree that access control lists guard, which follow from its definitions alone.
+//! Laws of a COMPOUND over a tree with access control lists, which follow from its definitions alone.
 //!
 //! Each is the contract of a function that does nothing, so that a program or a reader can cite it by name.
 #![tactic(auto)]
@@ -7,14 +7,14 @@ mod conforming;
 mod disclosure;
 mod exactness;
 mod lasting;
-mod noted;
 mod opens;
-mod repeats;
 mod replaying;
+mod retries;
 
 pub use conforming::what_is_answered_conforms;
 pub use disclosure::{
-    a_lookup_that_tells_names_discloses, operations_disclose_nothing, sessions_disclose_nothing,
+    a_lookup_that_discloses_names_is_refused, operations_disclose_nothing,
+    sessions_disclose_nothing,
 };
 pub use exactness::{
     access_is_exact, each_row_is_asked, ok_is_exact, ok_is_granted, others_never_delay,
@@ -22,11 +22,8 @@ pub use exactness::{
     rows_decide, wrong_rows_are_refused,
 };
 pub use lasting::{calls_leave_lasting, operations_leave_lasting};
-pub use noted::{
-    calls_are_noted, calls_change_by_steps, operations_are_noted, operations_change_by_steps,
-};
 pub use opens::{calls_keep_opens, opens_hold_at_first, operations_keep_opens};
-pub use repeats::repeats_change_nothing;
 pub use replaying::{
     kept_calls_run_again, operations_are_determined, operations_see_no_session, other_events_cover,
 };
+pub use retries::retries_change_nothing;

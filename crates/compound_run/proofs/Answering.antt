@@ -13,23 +13,24 @@ use Rattle.compound_run.specs.Runs.{Point, Runs, results_bytes}
 use Rattle.compound_run.specs.Compound.{args_form, args_in, head, opening_fault, series}
 use Rattle.compound_run.specs.State.{State, Call, Answers, AnswersBy, fate, fate_of, fate_unless, bare_context, start, left}
 use Rattle.compound_run.specs.Views.{point_at, realm_of, settings_of, state_of, stage}
-use Rattle.compound_run.specs.Written.{RunGives, Opens, OpensTo, OpensBehind}
+use Rattle.compound_run.specs.Written.{RunGives, Opens, OpensTo}
+use Rattle.compound_run.specs.internal.Written.{AppendsOpened}
 
 -- ---- operations after a head
 
 none_run : {A : Type 0} (status : Status) (tag : List ℕ) (c : Context) (operations : List ℕ) (e : realms.Realm A) (out : Buffer)
-    → OpensBehind (Some status) (series tag c operations) (stage e out) (record { status = status; ran = 0; changed = false; delayed = None }) (stage e out)
+    → AppendsOpened (Some status) (series tag c operations) (stage e out) (record { status = status; ran = 0; changed = false; delayed = None }) (stage e out)
 none_run status tag c operations e out =
-    ([], (no_handles, (append-nil (head status tag 0), refl)), record { behind = sym (append-nil out.bytes); less_room = omega arith }, omega arith)
+    ([], (no_handles, (append-nil (head status tag 0), refl)), record { appended = sym (append-nil out.bytes); less_room = omega arith }, omega arith)
 
--- no operation is run
-pub refused_behind : {A : Type 0} (fault : Option Status) (status : Status) (tag : List ℕ) (c : Context) (operations : List ℕ) (e : realms.Realm A) (out : Buffer) → fault ≡ Some status
-    → OpensBehind fault (series tag c operations) (stage e out) (record { status = status; ran = 0; changed = false; delayed = None }) (stage e out)
-refused_behind fault status tag c operations e out is =
-    subst (λ f. OpensBehind f (series tag c operations) (stage e out) (record { status = status; ran = 0; changed = false; delayed = None }) (stage e out)) (sym is) (none_run status tag c operations e out)
+-- no operation runs
+pub operations_refused : {A : Type 0} (fault : Option Status) (status : Status) (tag : List ℕ) (c : Context) (operations : List ℕ) (e : realms.Realm A) (out : Buffer) → fault ≡ Some status
+    → AppendsOpened fault (series tag c operations) (stage e out) (record { status = status; ran = 0; changed = false; delayed = None }) (stage e out)
+operations_refused fault status tag c operations e out is =
+    subst (λ f. AppendsOpened f (series tag c operations) (stage e out) (record { status = status; ran = 0; changed = false; delayed = None }) (stage e out)) (sym is) (none_run status tag c operations e out)
 
 all_run : {A : Type 0} (tag : List ℕ) (c : Context) (operations : List ℕ) (old new : realms.Realm A) (before after : Buffer) (end : Ended) → c.position ≡ 0
-    → RunGives None c operations (stage old before) end (stage new after) → OpensBehind None (series tag c operations) (stage old before) end (stage new after)
+    → RunGives None c operations (stage old before) end (stage new after) → AppendsOpened None (series tag c operations) (stage old before) end (stage new after)
 all_run tag c operations old new before after end first r =
     let all : c.count - c.position ≡ c.count = omega (arith, first) in
     let ran : end.ran ≡ length r.results = omega (arith, first, r.ran) in (
@@ -39,14 +40,14 @@ all_run tag c operations old new before after end first r =
       r.within,
     )
 
--- operations are run
-pub run_behind : {A : Type 0} (fault : Option Status) (tag : List ℕ) (c : Context) (room : ℕ) (operations : List ℕ) (old new : realms.Realm A) (before after : Buffer) (end : Ended) → fault ≡ None → c.position ≡ 0
-    → c.room ≡ room → RunGives None c operations (stage old before) end (stage new after) → OpensBehind fault (series tag (record c { room = room }) operations) (stage old before) end (stage new after)
-run_behind fault tag c room operations old new before after end none first is r =
-    subst (λ x. OpensBehind fault (series tag (record c { room = x }) operations) (stage old before) end (stage new after)) is
-    (subst (λ f. OpensBehind f (series tag c operations) (stage old before) end (stage new after)) (sym none) (all_run tag c operations old new before after end first r))
+-- the operations run
+pub operations_run : {A : Type 0} (fault : Option Status) (tag : List ℕ) (c : Context) (room : ℕ) (operations : List ℕ) (old new : realms.Realm A) (before after : Buffer) (end : Ended) → fault ≡ None → c.position ≡ 0
+    → c.room ≡ room → RunGives None c operations (stage old before) end (stage new after) → AppendsOpened fault (series tag (record c { room = room }) operations) (stage old before) end (stage new after)
+operations_run fault tag c room operations old new before after end none first is r =
+    subst (λ x. AppendsOpened fault (series tag (record c { room = x }) operations) (stage old before) end (stage new after)) is
+    (subst (λ f. AppendsOpened f (series tag c operations) (stage old before) end (stage new after)) (sym none) (all_run tag c operations old new before after end first r))
 
--- ---- the state that is kept
+-- ---- the state at the end
 
 -- the beginning of a COMPOUND
 begins : {A : Type 0} (e : realms.Realm A) → e.tree.log.held ≡ [] → start (state_of e) ≡ point_at e no_handles

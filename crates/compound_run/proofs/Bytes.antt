@@ -12,7 +12,7 @@ pub none_written : (w : World) (file offset : ℕ) (more : List ℕ) (at : At) �
 none_written w file offset [] at none = refl
 none_written w file offset (byte ∷ more) at none = cc
 
--- The end of a file is reached where no more bytes are left than are requested.
+-- The end of a file is reached if no more bytes are left than are requested.
 pub end_is : (bytes : List ℕ) (offset most : ℕ) → nat_le (length bytes - offset) most ≡ nat_le (length bytes) (offset + length (take most (drop offset bytes)))
 end_is bytes offset most = of (nat_le (length bytes - offset) most) refl
   where

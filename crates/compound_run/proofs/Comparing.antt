@@ -1,4 +1,4 @@
--- The values that GETATTR returns, compared with those that were sent.
+-- The values that GETATTR returns, compared with the values as sent.
 use Rattle.std.proofs.Common.{◌≡◌, ◌≢◌, ℕ, ◌+◌, ◌<◌, ◌≤◌, Bool, true, false, List, refl, sym, ap, ◌∙◌, subst, length, append-nil, arith}
 use Rattle.std.specs.Prelude.{[], ◌∷◌, ◌++◌, ◌==◌, nat_eq, if◌then◌else◌, Result, Ok, Err, Some, OnOk, is_err}
 use Rattle.std.specs.Cmp.Lexicographic.{pointwise, same_text}
@@ -10,7 +10,7 @@ use Rattle.xdr_wire.specs.declared.fault.XdrFault.{XdrFault}
 use Rattle.xdr_wire.proofs.Spelling.{again, spelled}
 use Rattle.nfs_types.specs.Attributes.{supported_words}
 use Rattle.nfs_types.specs.Common.{common}
-use Rattle.nfs_types.specs.Forms.{attributes, front_word, trimmed, trimmed_set}
+use Rattle.nfs_types.specs.Forms.{attributes, cons_trimmed, trimmed, trimmed_set}
 use Rattle.nfs_types.specs.Given.{given_set}
 use Rattle.nfs_types.specs.Views.{attributes_value}
 use Rattle.nfs_types.specs.declared.attributes.Attributes.{Attributes}
@@ -18,17 +18,17 @@ use Rattle.nfs_ops.specs.Forms.{getattr_size}
 
 -- ---- the number of words of the set of returned attributes
 
-front_short : (w : ℕ) (ws : List ℕ) (n : ℕ) → length ws ≤ n → length (front_word w ws) ≤ 1 + n
-front_short w [] n short = of (w == 0)
+cons_trimmed_short : (w : ℕ) (ws : List ℕ) (n : ℕ) → length ws ≤ n → length (cons_trimmed w ws) ≤ 1 + n
+cons_trimmed_short w [] n short = of (w == 0)
   where
     of : (b : Bool) → length (if b then [] else w ∷ []) ≤ 1 + n
     of true = omega arith
     of false = omega arith
-front_short w (v ∷ ws) n short = omega (arith, short)
+cons_trimmed_short w (v ∷ ws) n short = omega (arith, short)
 
 trimmed_short : (ws : List ℕ) → length (trimmed ws) ≤ length ws
 trimmed_short [] = omega arith
-trimmed_short (w ∷ ws) = let more = front_short w (trimmed ws) (length ws) (trimmed_short ws) in omega (arith, more)
+trimmed_short (w ∷ ws) = let more = cons_trimmed_short w (trimmed ws) (length ws) (trimmed_short ws) in omega (arith, more)
 
 common_short : (vs ws : List ℕ) → length (common vs ws) ≤ length ws
 common_short [] ws = omega arith
@@ -41,7 +41,7 @@ set_short asked =
     let second = common_short asked supported_words in
     omega (arith, first, second)
 
--- ---- values that don't fit differ
+-- ---- values that don't fit differ from those that were sent
 
 other_length : (values sent : List ℕ) → length values ≢ length sent → false ≡ pointwise nat_eq values sent
 other_length values sent apart = of (pointwise nat_eq values sent) refl
@@ -64,13 +64,13 @@ too_long r before after asked values sent is room size puts =
 
 -- ---- the values that are written are read back
 
--- the values that were written, where they fitted
+-- the values that were written, if they fitted
 pub on_ok : {E : Type 0} (r : Result (Unit {0}) E) (A : Type 0) → is_err r ≡ false → OnOk r A → A
 on_ok (Ok done) A is h = h
 on_ok (Err e) A is h = cc
 
 pub written_is : {E : Type 0} (r : Result (Unit {0}) E) (before after : Buffer) (item : List ℕ) → is_err r ≡ false → before.bytes ≡ [] → Puts before after item r → after.bytes ≡ item
-written_is (Ok done) before after item is empty puts = puts.behind ∙ ap (λ bytes. bytes ++ item) empty
+written_is (Ok done) before after item is empty puts = puts.appended ∙ ap (λ bytes. bytes ++ item) empty
 written_is (Err e) before after item is empty puts = cc
 
 read_is : (v : Value attributes) (old : List ℕ) → HasSpelling attributes v → trimmed_set v ≡ v → old ≡ spelling attributes v

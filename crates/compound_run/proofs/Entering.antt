@@ -14,7 +14,9 @@ use Rattle.compound_run.specs.Limits.{MIN_ROOM, REFUSAL_ROOM}
 use Rattle.compound_run.specs.Faults.{IsFault, MayFault, first_fault}
 use Rattle.compound_run.specs.Meaning.{Meaning, too_big_for}
 use Rattle.compound_run.specs.Operations.{entered, entry_fault_in, place_fault_in, room_fault_in, is_run}
-use Rattle.compound_run.specs.Views.{GivesSo, HasRoom, handles_after, IfRun, point_at, realm_of, told_as, stage, sense}
+use Rattle.compound_run.specs.Views.{OperationGives, HasRoom, handles_after, point_at, realm_of, outcome_as, stage}
+use Rattle.compound_run.specs.Views.{sense}
+use Rattle.compound_run.specs.internal.Views.{IfRun}
 use Rattle.compound_run.specs.Runs.{Point, Answered, waits}
 
 entered_freely : (takes : Bool) (may : MayFault None) (m : Meaning) (old : Point) (r : Result Outcome Status) (new : Point)
@@ -31,7 +33,7 @@ entered_freely takes may m old r new a = record {
   settings = a.settings;
 }
 
--- no fault of the place or the room
+-- there is no fault of the place or the room
 enters : (takes : Bool) (fault : Option Status) (may : MayFault fault) (m : Meaning) (old : Point) (r : Result Outcome Status) (new : Point) → fault ≡ None
     → Answered takes m waits old r new → Answered (takes && is_none fault) (entered fault may m) waits old r new
 enters true None may m old r new is a = entered_freely true may m old r new a
@@ -51,12 +53,12 @@ stopped status is m old = record {
   settings = refl;
 }
 
--- memory is refused to an operation that takes it
+-- the allocation of an operation that allocates memory fails
 delays : (takes : Bool) (fault : Option Status) (may : MayFault fault) (m : Meaning) (old : Point) → fault ≡ None → takes ≡ true
     → Answered (takes && is_none fault) (entered fault may m) waits old (Err statuses.Delay) old
 delays true None may m old is taken = record {
-  outcome = λ told. absurd (told refl);
-  log = λ told. absurd (told refl);
+  outcome = λ outcome. absurd (outcome refl);
+  log = λ outcome. absurd (outcome refl);
   trail_stays = λ d. refl;
   total_stays = λ d. refl;
   realm = tt;
@@ -71,7 +73,7 @@ delays false fault may m old is taken = cc
 some_same : (a b : Status) → Some a ≡ Some b → a ≡ b
 some_same a b e = cc
 
--- a fault of the place or the room
+-- there is a fault of the place or the room
 stops : (takes : Bool) (fault : Option Status) (may : MayFault fault) (m : Meaning) (old : Point) (status : Status) → fault ≡ Some status
     → Answered (takes && is_none fault) (entered fault may m) waits old (Err status) old
 stops takes None may m old status is = cc
@@ -80,29 +82,29 @@ stops false (Some other) may m old status is = subst (λ s. Answered false (ente
 
 -- ---- the result of the code
 
-pub enters_so : {A : Type 0} (takes : Bool) (fault : Option Status) (may : MayFault fault) (room : ℕ) (m : Meaning) (e : realms.Realm A) (h : FileHandles) (before : Buffer) (r : Result FileHandles Status) (e' : realms.Realm A) (after : Buffer) → fault ≡ None
-    → GivesSo (sense takes m waits) room h (stage e before) r (stage e' after) → GivesSo (sense (takes && is_none fault) (entered fault may m) waits) room h (stage e before) r (stage e' after)
-enters_so takes fault may room m e h before r e' after is gives = record {
-  answered = enters takes fault may m (point_at e h) (told_as m (realm_of e) r) (point_at e' (handles_after h r)) is gives.answered;
+pub enters_body : {A : Type 0} (takes : Bool) (fault : Option Status) (may : MayFault fault) (room : ℕ) (m : Meaning) (e : realms.Realm A) (h : FileHandles) (before : Buffer) (r : Result FileHandles Status) (e' : realms.Realm A) (after : Buffer) → fault ≡ None
+    → OperationGives (sense takes m waits) room h (stage e before) r (stage e' after) → OperationGives (sense (takes && is_none fault) (entered fault may m) waits) room h (stage e before) r (stage e' after)
+enters_body takes fault may room m e h before r e' after is gives = record {
+  answered = enters takes fault may m (point_at e h) (outcome_as m (realm_of e) r) (point_at e' (handles_after h r)) is gives.answered;
   written = gives.written;
   within = gives.within;
   unwritten = gives.unwritten;
 }
 
-pub stops_so : {A : Type 0} (takes : Bool) (fault : Option Status) (may : MayFault fault) (room : ℕ) (m : Meaning) (e : realms.Realm A) (h : FileHandles) (before : Buffer) (status : Status) → fault ≡ Some status
-    → GivesSo (sense (takes && is_none fault) (entered fault may m) waits) room h (stage e before) (Err status) (stage e before)
-stops_so takes fault may room m e h before status is = record { answered = stops takes fault may m (point_at e h) status is; written = tt; within = tt; unwritten = refl }
+pub stops_at_entry : {A : Type 0} (takes : Bool) (fault : Option Status) (may : MayFault fault) (room : ℕ) (m : Meaning) (e : realms.Realm A) (h : FileHandles) (before : Buffer) (status : Status) → fault ≡ Some status
+    → OperationGives (sense (takes && is_none fault) (entered fault may m) waits) room h (stage e before) (Err status) (stage e before)
+stops_at_entry takes fault may room m e h before status is = record { answered = stops takes fault may m (point_at e h) status is; written = tt; within = tt; unwritten = refl }
 
 both : (refused takes : Bool) → (refused && takes) ≡ true → (refused ≡ true) × (takes ≡ true)
 both true takes is = (refl, is)
 both false takes is = cc
 
-pub delays_so : {A : Type 0} (refused takes : Bool) (fault : Option Status) (may : MayFault fault) (room : ℕ) (m : Meaning) (e : realms.Realm A) (h : FileHandles) (before : Buffer) → fault ≡ None → (refused && takes) ≡ true
-    → GivesSo (sense (takes && is_none fault) (entered fault may m) waits) room h (stage e before) (Err statuses.Delay) (stage e before)
-delays_so refused takes fault may room m e h before is taken =
+pub delays_body : {A : Type 0} (refused takes : Bool) (fault : Option Status) (may : MayFault fault) (room : ℕ) (m : Meaning) (e : realms.Realm A) (h : FileHandles) (before : Buffer) → fault ≡ None → (refused && takes) ≡ true
+    → OperationGives (sense (takes && is_none fault) (entered fault may m) waits) room h (stage e before) (Err statuses.Delay) (stage e before)
+delays_body refused takes fault may room m e h before is taken =
     record { answered = delays takes fault may m (point_at e h) is (both refused takes taken).1; written = tt; within = tt; unwritten = refl }
 
--- memory isn't refused to an operation, or it takes none, or it has a fault
+-- the operation isn't made to fail its allocation, or it allocates none, or it has a fault
 pub never_refused : (refused takes : Bool) (fault : Option Status) → (refused && takes) ≡ false → refused ≡ true → (takes && is_none fault) ≡ true → ⊥
 never_refused true true fault none is may = cc
 never_refused true false fault none is may = cc
@@ -113,7 +115,7 @@ never_faulty true (Some other) status is may = cc
 never_faulty true None status is may = cc
 never_faulty false fault status is may = cc
 
--- an operation that is run has room for its result
+-- an operation that runs has room for its result
 pub roomy : (c : code.Context) (op : Operation) (out : Buffer) → entry_fault_in c.calling c.room op ≡ None → c.room + REFUSAL_ROOM ≤ out.room → IfRun (is_run op) (HasRoom c out)
 roomy c op out none room = of (is_run op) (nat_lt c.room MIN_ROOM) refl (second (place_fault_in c.calling op) (room_fault_in c.calling c.room op) none)
   where

@@ -20,25 +20,25 @@ use Rattle.compound_run.specs.Exact.{Passes, Fails, ArePassed, FailsFirst, IsRef
 
 -- ---- rows
 
-pub rows_decide : (caller : Identity) (s : Sight) (before behind : List Question) (demands : Sight → List (Option Demand)) → ArePassed caller s before
-    → failure caller s (before ++ Row demands ∷ behind) ≡ (if all_granted s.lists caller (demands s) then failure caller s behind else Some statuses.Access)
-rows_decide caller s [] behind demands passed = refl
-rows_decide caller s (Holds test status is ∷ before) behind demands passed = rw passed.0 (rows_decide caller s before behind demands passed.1)
-rows_decide caller s (Valid fault may ∷ before) behind demands passed = rw passed.0 (rows_decide caller s before behind demands passed.1)
-rows_decide caller s (Row others ∷ before) behind demands passed = rw passed.0 (rows_decide caller s before behind demands passed.1)
-rows_decide caller s (Suffices test ∷ before) behind demands passed = rw passed.0 (rows_decide caller s before behind demands passed.1)
+pub rows_decide : (caller : Identity) (s : Sight) (before rest_exact : List Question) (demands : Sight → List (Option Demand)) → ArePassed caller s before
+    → failure caller s (before ++ Row demands ∷ rest_exact) ≡ (if all_granted s.lists caller (demands s) then failure caller s rest_exact else Some statuses.Access)
+rows_decide caller s [] rest_exact demands passed = refl
+rows_decide caller s (Holds test status is ∷ before) rest_exact demands passed = rw passed.0 (rows_decide caller s before rest_exact demands passed.1)
+rows_decide caller s (Valid fault may ∷ before) rest_exact demands passed = rw passed.0 (rows_decide caller s before rest_exact demands passed.1)
+rows_decide caller s (Row others ∷ before) rest_exact demands passed = rw passed.0 (rows_decide caller s before rest_exact demands passed.1)
+rows_decide caller s (Suffices test ∷ before) rest_exact demands passed = rw passed.0 (rows_decide caller s before rest_exact demands passed.1)
 
 -- ---- operations that are OK
 
 some_apart : (status : Status) → Some status ≢ None
 some_apart status h = cc
 
--- a choice between more questions and a status
+-- if a choice between more questions and a status gives no status, the questions are chosen and pass
 both : (b : Bool) (more : Option Status) (status : Status) → cond b more (Some status) ≡ None → (b ≡ true) × (more ≡ None)
 both true more status h = (refl, h)
 both false more status h = absurd (some_apart status h)
 
--- neither a fault, nor another
+-- if there is no first of two faults, there is neither
 neither : (fault more : Option Status) → first_fault fault more ≡ None → (fault ≡ None) × (more ≡ None)
 neither None more h = (refl, h)
 neither (Some status) more h = absurd (some_apart status h)
@@ -78,12 +78,12 @@ no_access status is e = subst IsFault e is
 some_same : (status other : Status) → Some status ≡ Some other → status ≡ other
 some_same status other h = cc
 
--- a fault, or the fault after it
+-- if the first of two faults is ACCESS, it is the second one
 fault_or : (fault more : Option Status) → MayFault fault → first_fault fault more ≡ Some statuses.Access → (fault ≡ None) × (more ≡ Some statuses.Access)
 fault_or None more may h = (refl, h)
 fault_or (Some status) more may h = absurd (no_access status may (some_same status statuses.Access h))
 
--- one of two faults
+-- if a choice between more questions and a fault gives ACCESS, the questions are chosen and give it
 either : (b : Bool) (more : Option Status) (status : Status) → IsFault status → cond b more (Some status) ≡ Some statuses.Access → (b ≡ true) × (more ≡ Some statuses.Access)
 either true more status is h = (refl, h)
 either false more status is h = absurd (no_access status is (some_same status statuses.Access h))
@@ -99,21 +99,21 @@ not_enough : (b : Bool) (more : Option Status) → cond b None more ≡ Some sta
 not_enough true more h = absurd (none_apart h)
 not_enough false more h = (refl, h)
 
-abbrev behind : (caller : Identity) (s : Sight) (q : Question) (questions : List Question) → Passes caller s q → IsRefusedByRow caller s questions → IsRefusedByRow caller s (q ∷ questions)
-behind caller s q questions passes r = record { demands = r.demands; first = inr (passes, r.first) }
+abbrev rest_exact : (caller : Identity) (s : Sight) (q : Question) (questions : List Question) → Passes caller s q → IsRefusedByRow caller s questions → IsRefusedByRow caller s (q ∷ questions)
+rest_exact caller s q questions passes r = record { demands = r.demands; first = inr (passes, r.first) }
 
 pub refused_by_row : (caller : Identity) (s : Sight) (questions : List Question) → failure caller s questions ≡ Some statuses.Access → IsRefusedByRow caller s questions
 refused_by_row caller s [] h = absurd (none_apart h)
 refused_by_row caller s (Holds test status is ∷ questions) h =
-    let x = either (test s) (failure caller s questions) status is h in behind caller s (Holds test status is) questions x.0 (refused_by_row caller s questions x.1)
+    let x = either (test s) (failure caller s questions) status is h in rest_exact caller s (Holds test status is) questions x.0 (refused_by_row caller s questions x.1)
 refused_by_row caller s (Valid fault may ∷ questions) h =
-    let x = fault_or (fault s) (failure caller s questions) (may s) h in behind caller s (Valid fault may) questions x.0 (refused_by_row caller s questions x.1)
+    let x = fault_or (fault s) (failure caller s questions) (may s) h in rest_exact caller s (Valid fault may) questions x.0 (refused_by_row caller s questions x.1)
 refused_by_row caller s (Row demands ∷ questions) h =
     row_or (all_granted s.lists caller (demands s)) (failure caller s questions) (IsRefusedByRow caller s (Row demands ∷ questions))
     (λ refused. record { demands = demands; first = inl (refl, refused) })
-    (λ granted more. behind caller s (Row demands) questions granted (refused_by_row caller s questions more)) h
+    (λ granted more. rest_exact caller s (Row demands) questions granted (refused_by_row caller s questions more)) h
 refused_by_row caller s (Suffices test ∷ questions) h =
-    let x = not_enough (test s) (failure caller s questions) h in behind caller s (Suffices test) questions x.0 (refused_by_row caller s questions x.1)
+    let x = not_enough (test s) (failure caller s questions) h in rest_exact caller s (Suffices test) questions x.0 (refused_by_row caller s questions x.1)
 
 pub by_row : (caller : Identity) (s : Sight) (questions : List Question) (demands : Sight → List (Option Demand)) → FailsFirst caller s questions (Row demands) → failure caller s questions ≡ Some statuses.Access
 by_row caller s [] demands first = absurd first
@@ -135,11 +135,11 @@ more_before caller op lists demands first last e = record {
   cause = e.cause;
   before = first ++ e.before;
   refused = e.refused;
-  told = ap (λ x. first ++ x) e.told ∙ sym (append_assoc first e.before _);
+  lines_are = ap (λ x. first ++ x) e.lines_are ∙ sym (append_assoc first e.before _);
 }
 
-nothing_behind : (caller : Identity) (op : ℕ) (lists : Lists) (demands : List (Option Demand)) (all : List Line) → EndsInRefusal caller op lists demands all → EndsInRefusal caller op lists demands (all ++ [])
-nothing_behind caller op lists demands all e = subst (EndsInRefusal caller op lists demands) (sym (append-nil all)) e
+nothing_after : (caller : Identity) (op : ℕ) (lists : Lists) (demands : List (Option Demand)) (all : List Line) → EndsInRefusal caller op lists demands all → EndsInRefusal caller op lists demands (all ++ [])
+nothing_after caller op lists demands all e = subst (EndsInRefusal caller op lists demands) (sym (append-nil all)) e
 
 one_demand_more : (caller : Identity) (op : ℕ) (lists : Lists) (d : Demand) (demands : List (Option Demand)) (all : List Line) → decision lists caller d ≡ decisions.Granted → EndsInRefusal caller op lists demands all → EndsInRefusal caller op lists (Some d ∷ demands) all
 one_demand_more caller op lists d demands all granted e = record {
@@ -150,7 +150,7 @@ one_demand_more caller op lists d demands all granted e = record {
   cause = e.cause;
   before = e.before;
   refused = e.refused;
-  told = e.told;
+  lines_are = e.lines_are;
 }
 
 none_more : (caller : Identity) (op : ℕ) (lists : Lists) (demands : List (Option Demand)) (all : List Line) → EndsInRefusal caller op lists demands all → EndsInRefusal caller op lists (None ∷ demands) all
@@ -162,7 +162,7 @@ none_more caller op lists demands all e = record {
   cause = e.cause;
   before = e.before;
   refused = e.refused;
-  told = e.told;
+  lines_are = e.lines_are;
 }
 
 demands_end : (caller : Identity) (op : ℕ) (lists : Lists) (demands : List (Option Demand)) → all_granted lists caller demands ≡ false → EndsInRefusal caller op lists demands (demand_lines lists caller op demands)
@@ -178,7 +178,7 @@ demands_end caller op lists (Some d ∷ demands) h = of (decision lists caller d
         → EndsInRefusal caller op lists (Some d ∷ demands) ((watching lists caller op (is_granted x) d ++ deny_lines caller op x) ++ cond (is_granted x) (demand_lines lists caller op demands) [])
     of decisions.Granted is goes h =
         one_demand_more caller op lists d demands _ is (more_before caller op lists demands (watching lists caller op true d ++ []) (demand_lines lists caller op demands) (goes h))
-    of (decisions.Refused object mask cause) is goes h = nothing_behind caller op lists (Some d ∷ demands) _ (record {
+    of (decisions.Refused object mask cause) is goes h = nothing_after caller op lists (Some d ∷ demands) _ (record {
       demand = d;
       reached = inl refl;
       object = object;
@@ -186,32 +186,32 @@ demands_end caller op lists (Some d ∷ demands) h = of (decision lists caller d
       cause = cause;
       before = watching lists caller op false d;
       refused = is;
-      told = refl;
+      lines_are = refl;
     })
 
--- a row refuses, and the lines end in its refusal
-pub record EndsSo (caller : Identity) (op : ℕ) (s : Sight) (questions : List Question) (lines : List Line) : Type 0 where
+-- a row refuses, and the lines end with the line of its refusal
+pub record RowRefuses (caller : Identity) (op : ℕ) (s : Sight) (questions : List Question) (lines : List Line) : Type 0 where
   pub row : IsRefusedByRow caller s questions
   pub ends : EndsInRefusal caller op s.lists (row.demands s) lines
 
-passed_before : (caller : Identity) (op : ℕ) (s : Sight) (q : Question) (questions : List Question) (first last : List Line) → Passes caller s q → EndsSo caller op s questions last → EndsSo caller op s (q ∷ questions) (first ++ last)
-passed_before caller op s q questions first last passes e = record { row = behind caller s q questions passes e.row; ends = more_before caller op s.lists (e.row.demands s) first last e.ends }
+passed_before : (caller : Identity) (op : ℕ) (s : Sight) (q : Question) (questions : List Question) (first last : List Line) → Passes caller s q → RowRefuses caller op s questions last → RowRefuses caller op s (q ∷ questions) (first ++ last)
+passed_before caller op s q questions first last passes e = record { row = rest_exact caller s q questions passes e.row; ends = more_before caller op s.lists (e.row.demands s) first last e.ends }
 
 pub ends_in_refusal : (caller : Identity) (op : ℕ) (s : Sight) (questions : List Question) → failure caller s questions ≡ Some statuses.Access
-    → EndsSo caller op s questions (trace caller op s questions)
+    → RowRefuses caller op s questions (trace caller op s questions)
 ends_in_refusal caller op s [] h = absurd (none_apart h)
 ends_in_refusal caller op s (Holds test status is ∷ questions) h =
     let x = either (test s) (failure caller s questions) status is h in
     rw x.0 (passed_before caller op s (Holds test status is) questions [] _ x.0 (ends_in_refusal caller op s questions x.1))
 ends_in_refusal caller op s (Valid fault may ∷ questions) h =
     let x = fault_or (fault s) (failure caller s questions) (may s) h in
-    subst (λ f. EndsSo caller op s (Valid fault may ∷ questions) (lines_unless f (trace caller op s questions))) (sym x.0)
+    subst (λ f. RowRefuses caller op s (Valid fault may ∷ questions) (lines_unless f (trace caller op s questions))) (sym x.0)
     (passed_before caller op s (Valid fault may) questions [] _ x.0 (ends_in_refusal caller op s questions x.1))
 ends_in_refusal caller op s (Row demands ∷ questions) h =
-    row_or (all_granted s.lists caller (demands s)) (failure caller s questions) (EndsSo caller op s (Row demands ∷ questions) (trace caller op s (Row demands ∷ questions)))
+    row_or (all_granted s.lists caller (demands s)) (failure caller s questions) (RowRefuses caller op s (Row demands ∷ questions) (trace caller op s (Row demands ∷ questions)))
     (λ refused. record {
       row = record { demands = demands; first = inl (refl, refused) };
-      ends = rw refused (nothing_behind caller op s.lists (demands s) _ (demands_end caller op s.lists (demands s) refused));
+      ends = rw refused (nothing_after caller op s.lists (demands s) _ (demands_end caller op s.lists (demands s) refused));
     })
     (λ granted more. rw granted (passed_before caller op s (Row demands) questions (demand_lines s.lists caller op (demands s)) _ granted (ends_in_refusal caller op s questions more))) h
 ends_in_refusal caller op s (Suffices test ∷ questions) h =
@@ -231,7 +231,7 @@ no_fault_delays : (fault more : Option Status) → MayFault fault → more ≢ S
 no_fault_delays None more may none = none
 no_fault_delays (Some status) more may none = λ e. no_delay status may (some_same status statuses.Delay e)
 
--- no question fails by DELAY
+-- no question fails with DELAY
 pub never_delays : (caller : Identity) (s : Sight) (questions : List Question) → failure caller s questions ≢ Some statuses.Delay
 never_delays caller s [] = λ e. cc
 never_delays caller s (Holds test status is ∷ questions) =

@@ -1,5 +1,5 @@
 pub mod Answering
-pub mod Behind
+pub mod AskedAfter
 pub mod Bytes
 pub mod Comparing
 pub mod Refused

@@ -20,7 +20,7 @@ use Rattle.nfs_types.specs.Sets.{has_number}
 use Rattle.nfs_types.specs.declared.status.Status.{Status}
 use Rattle.nfs_types.specs.declared.status.Status.TheVariants as statuses
 use Rattle.nfs_ops.specs.Forms.{entry, readdir_args}
-use Rattle.nfs_ops.specs.Parts.{listed_behind, listed_at_most, listed_attributes}
+use Rattle.nfs_ops.specs.Parts.{listed_after, listed_at_most, listed_attributes}
 use Rattle.nfs_ops.specs.Listing.{Judged, Listing, listing, listing_unless, first_refusal, judged_within, fitting, some_fit, those_fitting, readdir_limit}
 use Rattle.nfs_ops.specs.declared.listing.ListFault.{ListFault}
 use Rattle.nfs_ops.specs.declared.listing.ListFault.TheVariants.{Refused, TooSmall}
@@ -37,7 +37,10 @@ use Rattle.compound_run.specs.Context.{Context}
 use Rattle.compound_run.specs.Sight.{Sight}
 use Rattle.compound_run.specs.Rows.{object_of}
 use Rattle.compound_run.specs.Values.{facts_at}
-use Rattle.compound_run.specs.Operations.Readdir.{allows, first_refused, permitted, judgment, judgment_of, entry_of, entry_by, judged_entry, names_above, judged_above, listed, listing_of, refused_in, fits_some}
+use Rattle.compound_run.specs.Operations.Readdir.{allows, first_refused, permitted, judgment, judgment_of, entry_of}
+use Rattle.compound_run.specs.Operations.Readdir.{entry_by, judged_entry, names_above, judged_above, listed, refused_in}
+use Rattle.compound_run.specs.Operations.Readdir.{fits_some}
+use Rattle.compound_run.specs.internal.Readdir.{listing_of}
 use Rattle.compound_run.specs.declared.context.Context as code
 use Rattle.compound_run.specs.declared.realm.Realm as realms
 use Rattle.compound_run.specs.declared.filehandles.FileHandles.{FileHandles}
@@ -47,9 +50,9 @@ use Rattle.nfs_ops.specs.declared.OpKind.TheVariants as kinds
 use Rattle.compound_run.specs.Asking.{sight_of}
 use Rattle.compound_run.specs.Questions.{all_granted, demand_lines}
 use Rattle.compound_run.specs.Runs.{spelled, waits}
-use Rattle.compound_run.specs.Views.{GivesSo, context_at, holding, stage, sense}
-use Rattle.compound_run.specs.Listed.{IsNext, IsNextOf, PutsEntry, refused_of, written_entry}
-use Rattle.compound_run.proofs.Behind.{row_refuses_always}
+use Rattle.compound_run.specs.Views.{OperationGives, context_at, holding, stage, sense}
+use Rattle.compound_run.specs.internal.Listed.{IsNext, IsNextOf, PutsEntry, refused_of, written_entry}
+use Rattle.compound_run.proofs.AskedAfter.{row_refuses_always}
 
 -- ---- the next entry is the first of those above the cookie
 
@@ -94,7 +97,7 @@ found_in directory cookie (m ∷ all) n found = of (is_next directory cookie m) 
     of true more at = let same : n ≡ m = cc in inl same
     of false more at = inr (more at)
 
--- no name is too long to be sent
+-- no name is too long to be encoded
 pub short_name : (w : World) (directory cookie : ℕ) (n : Name) → IsSound w → name_after w directory cookie ≡ Some n → length n.name ≤ 0xffff_ffff
 short_name w directory cookie n sound found =
     let short : length n.name ≤ 255 = sound.limited.short n (found_in directory cookie w.names n found) in
@@ -124,31 +127,31 @@ next_above directory cookie low high (m ∷ all) n rises found =
     of true true test more at =
         let same : m ≡ n = cc in
         let below : cookie < m.cookie = grind (arith, nat_tests, test) in
-        let behind = all_above directory cookie (m.cookie + 1) high all (omega (arith, below)) rises.1 in
+        let rest = all_above directory cookie (m.cookie + 1) high all (omega (arith, below)) rises.1 in
         let beyond = all_above directory m.cookie (m.cookie + 1) high all (omega arith) rises.1 in
         subst (λ (x : Name). filter (is_above cookie) (m ∷ filter (in_directory directory) all) ≡ x ∷ filter (is_above x.cookie) (m ∷ filter (in_directory directory) all)) same
-        (rw test (rw self (ap (λ l. m ∷ l) (behind ∙ sym beyond))))
+        (rw test (rw self (ap (λ l. m ∷ l) (rest ∙ sym beyond))))
     of true false test more at =
         let over : cookie < n.cookie = found_above directory cookie all n at in
         let low : nat_lt n.cookie m.cookie ≡ false = grind (arith, nat_tests, test, over) in
         rw test (rw low (more at))
     of false b test more at = more at
 
--- ---- the bits that the entry's list grants
+-- ---- the mask bits that the access control list (ACL) of the entry's object grants
 
-tells : (number mask : ℕ) (v : Verdict) (b : Bool) → (v ≡ verdicts.Granted → b ≡ true) → (b ≡ true → v ≡ verdicts.Granted) → b ≡ is_granted (answer number mask v)
-tells number mask verdicts.Granted b granted true_is = granted refl
-tells number mask (verdicts.Denied index) true granted true_is = let is : verdicts.Denied index ≡ verdicts.Granted = true_is refl in cc
-tells number mask (verdicts.Denied index) false granted true_is = refl
-tells number mask (verdicts.Missing bit) true granted true_is = let is : verdicts.Missing bit ≡ verdicts.Granted = true_is refl in cc
-tells number mask (verdicts.Missing bit) false granted true_is = refl
+decides_alike : (number mask : ℕ) (v : Verdict) (b : Bool) → (v ≡ verdicts.Granted → b ≡ true) → (b ≡ true → v ≡ verdicts.Granted) → b ≡ is_granted (answer number mask v)
+decides_alike number mask verdicts.Granted b granted true_is = granted refl
+decides_alike number mask (verdicts.Denied index) true granted true_is = let is : verdicts.Denied index ≡ verdicts.Granted = true_is refl in cc
+decides_alike number mask (verdicts.Denied index) false granted true_is = refl
+decides_alike number mask (verdicts.Missing bit) true granted true_is = let is : verdicts.Missing bit ≡ verdicts.Granted = true_is refl in cc
+decides_alike number mask (verdicts.Missing bit) false granted true_is = refl
 
 grants_of : (o : Option world.Judged) (caller : Identity) (number mask : ℕ) → mask < 2 ^ 32 → bit_and mask 0 == mask ≡ false
     → (bit_and mask (option_map_or (λ j. (sum_of j caller).granted) o 0) == mask) ≡ is_granted (answer number mask (verdict_of o caller mask))
 grants_of None caller number mask fits some = some
 grants_of (Some j) caller number mask fits some =
     let iff = granted_iff_covered (names j caller) j.list mask fits in
-    tells number mask (verdict (names j caller) j.list mask) (bit_and mask (sum_of j caller).granted == mask)
+    decides_alike number mask (verdict (names j caller) j.list mask) (bit_and mask (sum_of j caller).granted == mask)
     (λ h. (Decides-eqb _ _).1 (iff.0 h)) (λ h. iff.1 ((Decides-eqb _ _).0 h))
 
 pub grants_attributes : (lists : Lists) (caller : Identity) (number : ℕ) → (bit_and READ_ATTRIBUTES (granted_at lists caller number) == READ_ATTRIBUTES) ≡ allows lists caller number READ_ATTRIBUTES
@@ -208,10 +211,10 @@ module _ (lists : Lists) (caller : Identity) (child : Object) (asked : List ℕ)
       → Ok (statuses.Ok, asked) ≡ judgment_of lists caller asked child.number (Some child)
   judged_all attributes list asks is none = ap (judgment lists caller asked child.number) (sym none ∙ first_found attributes list asks is)
 
-  refused_so : (d : Demand) → r ≡ Some d → r ≡ first_refused lists caller (entry_demands asked (Some child)) → judgment lists caller asked child.number (Some d) ≡ judgment_of lists caller asked child.number (Some child)
-  refused_so d some first = ap (judgment lists caller asked child.number) (sym some ∙ first)
+  refusal_gives : (d : Demand) → r ≡ Some d → r ≡ first_refused lists caller (entry_demands asked (Some child)) → judgment lists caller asked child.number (Some d) ≡ judgment_of lists caller asked child.number (Some child)
+  refusal_gives d some first = ap (judgment lists caller asked child.number) (sym some ∙ first)
 
--- where both rights are granted no demand is refused, whatever is requested
+-- if both permissions are granted, no demand is refused, whatever is requested
 pub judged_free : (lists : Lists) (caller : Identity) (child : Object) (asked : List ℕ) (a l : Bool) → a ≡ (bit_and READ_ATTRIBUTES (granted_at lists caller child.number) == READ_ATTRIBUTES)
     → l ≡ (bit_and READ_ACL (granted_at lists caller child.number) == READ_ACL) → a ≡ true → l ≡ true → Ok (statuses.Ok, asked) ≡ judgment_of lists caller asked child.number (Some child)
 judged_free lists caller child asked a l attributes list has_a has_l =
@@ -223,15 +226,15 @@ module _ (lists : Lists) (caller : Identity) (child : Object) (asked : List ℕ)
       → Err d ≡ judgment_of lists caller asked child.number (Some child)
   judged_refused attributes list asks is some never =
       let given : Err d ≡ judgment lists caller asked child.number (Some d) = rw never refl in
-      given ∙ refused_so lists caller child asked a l demands r d some (first_found lists caller child asked a l demands r attributes list asks is)
+      given ∙ refusal_gives lists caller child asked a l demands r d some (first_found lists caller child asked a l demands r attributes list asks is)
 
   pub judged_permitted : (set : List ℕ) → a ≡ (bit_and READ_ATTRIBUTES (granted_at lists caller child.number) == READ_ATTRIBUTES) → l ≡ (bit_and READ_ACL (granted_at lists caller child.number) == READ_ACL)
       → demands ≡ entry_demands asked (Some child) → r ≡ refused_of a l demands → r ≡ Some d → has_number asked 11 ≡ true → set ≡ trimmed (common asked (granted_words a l))
       → Ok (statuses.Access, set) ≡ judgment_of lists caller asked child.number (Some child)
   judged_permitted set attributes list asks is some error given =
       let words : set ≡ permitted lists caller child.number asked = given ∙ (λ i. trimmed (common asked (granted_words ((attributes ∙ grants_attributes lists caller child.number) i) ((list ∙ grants_list lists caller child.number) i)))) in
-      let so : Ok (statuses.Access, permitted lists caller child.number asked) ≡ judgment lists caller asked child.number (Some d) = rw error refl in
-      ap (λ x. Ok (statuses.Access, x)) words ∙ so ∙ refused_so lists caller child asked a l demands r d some (first_found lists caller child asked a l demands r attributes list asks is)
+      let holds : Ok (statuses.Access, permitted lists caller child.number asked) ≡ judgment lists caller asked child.number (Some d) = rw error refl in
+      ap (λ x. Ok (statuses.Access, x)) words ∙ holds ∙ refusal_gives lists caller child asked a l demands r d some (first_found lists caller child asked a l demands r attributes list asks is)
 
 -- ---- a demand that refuses an entry isn't granted
 
@@ -285,19 +288,19 @@ pub what_refuses : (c : Context) (v : Value readdir_args) (directory : ℕ) (s :
 unfolding listed listing
 what_refuses c v directory s d h =
     let limit = readdir_limit (listed_at_most v) c.room in
-    let all = judged_above c (listed_attributes v) directory (listed_behind v) s in
-    among c (listed_attributes v) s d (1 + fitting limit all) (names_above s directory (listed_behind v)) (listing_refuses limit all (first_refusal (judged_within limit all)) d h)
+    let all = judged_above c (listed_attributes v) directory (listed_after v) s in
+    among c (listed_attributes v) s d (1 + fitting limit all) (names_above s directory (listed_after v)) (listing_refuses limit all (first_refusal (judged_within limit all)) d h)
 
 -- ---- the bytes that the code writes
 
 -- the facts of the entry's object are those of the attributes requested
-pub next_told : (c : Context) (s : Sight) (m n : Name) (number : ℕ) (error : Status) (set : List ℕ) (f : Facts) (old new : Buffer) (result : Result (Unit {0}) Full) → m ≡ n → number ≡ m.child
+pub next_listed : (c : Context) (s : Sight) (m n : Name) (number : ℕ) (error : Status) (set : List ℕ) (f : Facts) (old new : Buffer) (result : Result (Unit {0}) Full) → m ≡ n → number ≡ m.child
     → f ≡ facts_at s number error set → PutsEntry (written_entry c.book f m set) old new result → PutsEntry (entry_of c s n error set) old new result
-next_told c s m n number error set f old new result same child tells puts =
+next_listed c s m n number error set f old new result same child decides_alike puts =
     subst (λ (x : Name). PutsEntry (entry_of c s x error set) old new result) same
-    (subst (λ (g : Facts). PutsEntry (written_entry c.book g m set) old new result) (tells ∙ ap (λ k. facts_at s k error set) child) puts)
+    (subst (λ (g : Facts). PutsEntry (written_entry c.book g m set) old new result) (decides_alike ∙ ap (λ k. facts_at s k error set) child) puts)
 
--- an object that is there, by its number
+-- an object that exists, by its number
 pub object_there : (s : Sight) (number : ℕ) → IsSome (s.kinds number) → (child : Object) × (object_of s (Some number) ≡ Some child)
 object_there s number some = of (s.kinds number) refl some
   where
@@ -312,7 +315,7 @@ object_is_numbered s n o is = of (s.kinds n) is
     of None is = cc
     of (Some kind) is = let same : record { number = n; kind = kind } ≡ o = cc in sym (ap (λ (x : Object). x.number) same)
 
--- in a sound world the names above it are those that are left
+-- in a sound world the names above its cookie are the remaining names
 pub entry_is_next : {A : Type 0} (e : realms.Realm A) (directory cookie next number : ℕ) (n : IsNextOf (sight_of e) directory cookie (name_after e.tree.world directory cookie) next number) → IsSound e.tree.world
     → IsNext (sight_of e) directory cookie (name_after e.tree.world directory cookie) next n.child
 entry_is_next e directory cookie next number n sound =
@@ -325,14 +328,14 @@ entry_is_next e directory cookie next number n sound =
       above = subst (λ (x : ℕ). names_above s directory cookie ≡ n.name ∷ names_above s directory x) (sym n.by) (next_above directory cookie 3 w.next_cookie w.names n.name sound.listed n.is);
     }
 
--- the next entry is the first of those that are left, as it is judged
+-- the next entry is the first of the remaining ones, as it is judged
 pub next_judged : (c : Context) (asked : List ℕ) (s : Sight) (directory cookie : ℕ) (found : Option Name) (next : ℕ) (child : Object) (j : Result (Status × List ℕ) Demand) (is : IsNext s directory cookie found next child)
     → j ≡ judgment_of s.lists c.caller asked child.number (Some child) → judged_above c asked directory cookie s ≡ entry_by c s is.name j ∷ judged_above c asked directory next s
 next_judged c asked s directory cookie found next child j is judged =
     let number : child.number ≡ is.name.child = object_is_numbered s is.name.child child is.object in
-    let so : j ≡ judgment_of s.lists c.caller asked is.name.child (object_of s (Some is.name.child)) =
+    let holds : j ≡ judgment_of s.lists c.caller asked is.name.child (object_of s (Some is.name.child)) =
     judged ∙ (λ i. judgment_of s.lists c.caller asked (number i) (sym is.object i)) in
-    ap (map (judged_entry c asked s)) is.above ∙ ap (λ x. entry_by c s is.name x ∷ judged_above c asked directory next s) (sym so)
+    ap (map (judged_entry c asked s)) is.above ∙ ap (λ x. entry_by c s is.name x ∷ judged_above c asked directory next s) (sym holds)
 
 -- the same of an entry by the number of its object, in a sound world
 pub next_entry_judged : {A : Type 0} (e : realms.Realm A) (c : code.Context) (asked : List ℕ) (directory cookie next number : ℕ) (n : IsNextOf (sight_of e) directory cookie (name_after e.tree.world directory cookie) next number)
@@ -350,12 +353,12 @@ moved_entry c old new n error set P same p = subst P (ap (λ e. entry_of (contex
 -- ---- the result
 
 module _ {A : Type 0} (room : ℕ) (c : Context) (h : FileHandles) (v : Value readdir_args) (directory : ℕ) (e : realms.Realm A) (before after : Buffer) where
-  abbrev told : Result Listing (ListFault Demand)
-  told = listed c v directory (sight_of e)
+  abbrev outcome : Result Listing (ListFault Demand)
+  outcome = listed c v directory (sight_of e)
 
-  given_so : steps.Lists told room before after → GivesSo (sense false (listing_of v directory c h) waits) room h (stage e before) (Ok h) (stage e after)
+  listing_gives : steps.Lists outcome room before after → OperationGives (sense false (listing_of v directory c h) waits) room h (stage e before) (Ok h) (stage e after)
   unfolding spelled
-  given_so lists = record {
+  listing_gives lists = record {
     answered = record {
       outcome = rw lists.is refl;
       log = rw lists.is (ap (λ l. record e.tree.log { held = l }) (sym (append-nil e.tree.log.held)));
@@ -372,8 +375,8 @@ module _ {A : Type 0} (room : ℕ) (c : Context) (h : FileHandles) (v : Value re
     unwritten = tt;
   }
 
-  small_so : told ≡ Err TooSmall → GivesSo (sense false (listing_of v directory c h) waits) room h (stage e before) (Err statuses.TooSmall) (stage e before)
-  small_so small = record {
+  too_small_gives : outcome ≡ Err TooSmall → OperationGives (sense false (listing_of v directory c h) waits) room h (stage e before) (Err statuses.TooSmall) (stage e before)
+  too_small_gives small = record {
     answered = record {
       outcome = rw small refl;
       log = rw small (ap (λ l. record e.tree.log { held = l }) (sym (append-nil e.tree.log.held)));
@@ -390,18 +393,18 @@ module _ {A : Type 0} (room : ℕ) (c : Context) (h : FileHandles) (v : Value re
     unwritten = refl;
   }
 
-  pub list_given : (new : realms.Realm A) → new ≡ e → steps.Lists told room before after → GivesSo (sense false (listing_of v directory c h) waits) room h (stage e before) (Ok h) (stage new after)
-  list_given new same lists = subst (λ (x : realms.Realm A). GivesSo (sense false (listing_of v directory c h) waits) room h (stage e before) (Ok h) (stage x after)) (sym same) (given_so lists)
+  pub list_given : (new : realms.Realm A) → new ≡ e → steps.Lists outcome room before after → OperationGives (sense false (listing_of v directory c h) waits) room h (stage e before) (Ok h) (stage new after)
+  list_given new same lists = subst (λ (x : realms.Realm A). OperationGives (sense false (listing_of v directory c h) waits) room h (stage e before) (Ok h) (stage x after)) (sym same) (listing_gives lists)
 
-  pub list_small : (new : realms.Realm A) → new ≡ e → told ≡ Err TooSmall → after ≡ before → GivesSo (sense false (listing_of v directory c h) waits) room h (stage e before) (Err statuses.TooSmall) (stage new after)
+  pub list_small : (new : realms.Realm A) → new ≡ e → outcome ≡ Err TooSmall → after ≡ before → OperationGives (sense false (listing_of v directory c h) waits) room h (stage e before) (Err statuses.TooSmall) (stage new after)
   list_small new same small stays =
-      subst (λ (x : realms.Realm A). GivesSo (sense false (listing_of v directory c h) waits) room h (stage e before) (Err statuses.TooSmall) (stage x after)) (sym same)
-      (subst (λ (b : Buffer). GivesSo (sense false (listing_of v directory c h) waits) room h (stage e before) (Err statuses.TooSmall) (stage e b)) (sym stays) (small_so small))
+      subst (λ (x : realms.Realm A). OperationGives (sense false (listing_of v directory c h) waits) room h (stage e before) (Err statuses.TooSmall) (stage x after)) (sym same)
+      (subst (λ (b : Buffer). OperationGives (sense false (listing_of v directory c h) waits) room h (stage e before) (Err statuses.TooSmall) (stage e b)) (sym stays) (too_small_gives small))
 
-  pub list_refused : (d : Demand) (new : realms.Realm A) → told ≡ Err (Refused d) → after ≡ before → new ≡ holding (demand_lines (world.judged_of e.tree.world) c.caller (row kinds.ReadDir).number (Some d ∷ [])) e → GivesSo (sense false (listing_of v directory c h) waits) room h (stage e before) (Err statuses.Access) (stage new after)
-  list_refused d new refused stays is =
+  pub acl_refused : (d : Demand) (new : realms.Realm A) → outcome ≡ Err (Refused d) → after ≡ before → new ≡ holding (demand_lines (world.judged_of e.tree.world) c.caller (row kinds.ReadDir).number (Some d ∷ [])) e → OperationGives (sense false (listing_of v directory c h) waits) room h (stage e before) (Err statuses.Access) (stage new after)
+  acl_refused d new refused stays is =
       let not : is_granted (decision (sight_of e).lists c.caller d) ≡ false = what_refuses c v directory (sight_of e) d refused in
-      subst (λ (b : Buffer). GivesSo (sense false (listing_of v directory c h) waits) room h (stage e before) (Err statuses.Access) (stage new b)) (sym stays)
+      subst (λ (b : Buffer). OperationGives (sense false (listing_of v directory c h) waits) room h (stage e before) (Err statuses.Access) (stage new b)) (sym stays)
       (row_refuses_always room (listing_of v directory c h) (λ s. refused_in (listed c v directory s) ∷ []) (fits_some c v directory ∷ []) e h before new refl
       (ap (λ t. all_granted (sight_of e).lists c.caller (refused_in t ∷ [])) refused ∙ ap (λ b. b && true) not)
       (is ∙ ap (λ t. holding (demand_lines (world.judged_of e.tree.world) c.caller (row kinds.ReadDir).number (refused_in t ∷ [])) e) (sym refused)))

@@ -1,4 +1,4 @@
--- The sequence ID in the bytes of a call is a number of 32 bits.
+-- The sequence ID that a call encodes is a number of 32 bits.
 use Rattle.std.proofs.Common.{◌≡◌, ℕ, List, sym, subst}
 use Rattle.std.specs.Prelude.{Option, Some}
 use Rattle.xdr_wire.specs.Reading.{read_at}

@@ -7,7 +7,8 @@ use Rattle.compound_run.specs.declared.opens.Place.TheVariants as places
 use Rattle.compound_run.specs.Realm.{Realm, Opened}
 use Rattle.compound_run.specs.Context.{Context}
 use Rattle.compound_run.specs.Operations.Open.{risen, reopened, with_reopened}
-use Rattle.compound_run.specs.Opening.{placed, reopened_by}
+use Rattle.compound_run.specs.Opening.{placed}
+use Rattle.compound_run.specs.internal.Opening.{reopened_by}
 use Rattle.compound_run.specs.Views.{open_view, opens_view}
 
 -- the first open that is found is the first in the view
@@ -20,7 +21,7 @@ found_in_view p (o ∷ opens) = of (p (open_view o)) (found_in_view p opens)
     of true rest = refl
     of false rest = rest
 
--- the opens that are kept are those that are kept in the view
+-- filtering the opens filters their views
 pub kept_in_view : {A : Type 0} (p : Opened → Bool) (opens : List (Open A)) → opens_view (filter (λ o. p (open_view o)) opens) ≡ filter p (opens_view opens)
 kept_in_view p [] = refl
 kept_in_view p (o ∷ opens) = of (p (open_view o)) (kept_in_view p opens)
@@ -30,7 +31,7 @@ kept_in_view p (o ∷ opens) = of (p (open_view o)) (kept_in_view p opens)
     of true rest = ap (λ others. open_view o ∷ others) rest
     of false rest = rest
 
--- ---- an open that is opened again
+-- ---- an open that is upgraded
 
 one_reopened : {A : Type 0} (number access : ℕ) (o : Open A) → open_view (reopened_by number access o) ≡ (if o.number == number then reopened access (open_view o) else open_view o)
 one_reopened number access o = of (o.number == number)

@@ -15,7 +15,7 @@ use Rattle.compound_run.specs.declared.filehandles.FileHandles.{FileHandles}
 use Rattle.compound_run.specs.Asking.{sight_of}
 use Rattle.compound_run.specs.Context.{Context}
 use Rattle.compound_run.specs.Sight.{Sight}
-use Rattle.compound_run.specs.Questions.{failure, trace, told}
+use Rattle.compound_run.specs.Questions.{failure, trace, result_unless}
 use Rattle.compound_run.specs.Meaning.{here}
 use Rattle.nfs_types.specs.Sent.{Wanted}
 use Rattle.nfs_types.specs.StateIds.{open_stateid}
@@ -34,7 +34,7 @@ use Rattle.compound_run.specs.Stateids.{client_of}
 use Rattle.compound_run.specs.Operations.Open.{access_of, file_in, file_of, name_in, wanted, risen, with_reopened, with_open, stateid_of, found, opening, is_permitted, is_within, has_space_for, last_questions, result_on, opened_on, change_of}
 use Rattle.compound_run.specs.Opening.{IsBefore, IsPlace, MakesFile, placed, placed_stateid}
 use Rattle.compound_run.specs.Runs.{spelled, waits}
-use Rattle.compound_run.specs.Views.{GivesSo, realm_of, settings_of, stage, sense}
+use Rattle.compound_run.specs.Views.{OperationGives, realm_of, settings_of, stage, sense}
 
 -- ---- the outcome of the last questions
 
@@ -61,10 +61,10 @@ module _ {A : Type 0} (room : ℕ) (v : Value open_args) (c : Context) (h : File
   -- OPEN is refused, or delayed, and nothing has changed
   pub refused : (status : Status) → realm_of new ≡ realm_of e → new.tree.log ≡ e.tree.log → settings_of new ≡ settings_of e
       → (status ≢ statuses.Delay → failure c.caller (sight_of e) (last_questions v c h) ≡ Some status)
-      → GivesSo (sense true (opening v c h) waits) room h (stage e before) (Err status) (stage new before)
+      → OperationGives (sense true (opening v c h) waits) room h (stage e before) (Err status) (stage new before)
   refused status realm log settings fails = record {
     answered = record {
-      outcome = λ other. ap (λ f. told f ((opening v c h).answer (sight_of e))) (sym (fails (λ same. other (ap (λ x. Err x) same))));
+      outcome = λ other. ap (λ f. result_unless f ((opening v c h).answer (sight_of e))) (sym (fails (λ same. other (ap (λ x. Err x) same))));
       log = λ other. log ∙ ap (λ l. record e.tree.log { held = l }) (sym (append-nil e.tree.log.held)) ∙ ap (λ l. record e.tree.log { held = e.tree.log.held ++ l }) (sym (quiet v c h (sight_of e)));
       trail_stays = λ d. ap (λ l. l.trail) log;
       total_stays = λ d. ap (λ l. l.total) log;
@@ -83,10 +83,10 @@ module _ {A : Type 0} (room : ℕ) (v : Value open_args) (c : Context) (h : File
   pub given : (t : Option ℕ) (after : Buffer) → found v h (sight_of e) ≡ t → is_permitted c v t ≡ true → is_within c v t ≡ true → has_space_for c v (here h) t (sight_of e) ≡ true
       → realm_of new ≡ opened_on c v (here h) t (realm_of e) → new.tree.log ≡ e.tree.log → settings_of new ≡ settings_of e
       → Appends before after (spelled (Done kinds.Open (result_on c v (here h) t (sight_of e)))) → length after.bytes ≤ length before.bytes + room
-      → GivesSo (sense true (opening v c h) waits) room h (stage e before) (Ok (record h { current = Some (unwrap_or t e.tree.world.next_number) })) (stage new after)
+      → OperationGives (sense true (opening v c h) waits) room h (stage e before) (Ok (record h { current = Some (unwrap_or t e.tree.world.next_number) })) (stage new after)
   given t after is permitted within space realm log settings written short = record {
     answered = record {
-      outcome = λ other. ap (λ f. told f ((opening v c h).answer (sight_of e))) (sym (fails_by v c h (sight_of e) t is true true true permitted within space));
+      outcome = λ other. ap (λ f. result_unless f ((opening v c h).answer (sight_of e))) (sym (fails_by v c h (sight_of e) t is true true true permitted within space));
       log = λ other. log ∙ ap (λ l. record e.tree.log { held = l }) (sym (append-nil e.tree.log.held)) ∙ ap (λ l. record e.tree.log { held = e.tree.log.held ++ l }) (sym (quiet v c h (sight_of e)));
       trail_stays = λ d. ap (λ l. l.trail) log;
       total_stays = λ d. ap (λ l. l.total) log;
@@ -104,22 +104,22 @@ module _ {A : Type 0} (room : ℕ) (v : Value open_args) (c : Context) (h : File
 -- ---- the place
 
 module _ {A : Type 0} (c : Context) (v : Value open_args) (file : ℕ) where
-  placed_so : (j : Option Opened) (place : Place A) (r : Realm) (w : World) → IsPlace (open_owner v) j place → placed c (access_of v) file place (record r { world = w }) ≡ record (with_open c v file j r) { world = w }
-  placed_so (Some o) (places.Again number seqid) r w is = ap (λ n. record r { world = w; opens = with_reopened n (access_of v) r.opens }) is.0
-  placed_so (Some o) (places.New bytes) r w is = absurd is
-  placed_so None (places.Again number seqid) r w is = absurd is
-  placed_so None (places.New bytes) r w is =
+  placed_is : (j : Option Opened) (place : Place A) (r : Realm) (w : World) → IsPlace (open_owner v) j place → placed c (access_of v) file place (record r { world = w }) ≡ record (with_open c v file j r) { world = w }
+  placed_is (Some o) (places.Again number seqid) r w is = ap (λ n. record r { world = w; opens = with_reopened n (access_of v) r.opens }) is.0
+  placed_is (Some o) (places.New bytes) r w is = absurd is
+  placed_is None (places.Again number seqid) r w is = absurd is
+  placed_is None (places.New bytes) r w is =
       ap (λ b. record r { world = w; opens = r.opens ++ record { number = r.next_open; client = client_of c; owner = b; object = file; access = access_of v; seqid = 1 } ∷ []; next_open = r.next_open + 1 }) is
 
-  pub placed_stateid_so : (j : Option Opened) (place : Place A) (next : ℕ) → IsPlace (open_owner v) j place → placed_stateid place next ≡ stateid_of j next
-  placed_stateid_so (Some o) (places.Again number seqid) next is = λ i. open_stateid (risen (is.1 i)) (is.0 i)
-  placed_stateid_so (Some o) (places.New bytes) next is = absurd is
-  placed_stateid_so None (places.Again number seqid) next is = absurd is
-  placed_stateid_so None (places.New bytes) next is = refl
+  pub placed_stateid_is : (j : Option Opened) (place : Place A) (next : ℕ) → IsPlace (open_owner v) j place → placed_stateid place next ≡ stateid_of j next
+  placed_stateid_is (Some o) (places.Again number seqid) next is = λ i. open_stateid (risen (is.1 i)) (is.0 i)
+  placed_stateid_is (Some o) (places.New bytes) next is = absurd is
+  placed_stateid_is None (places.Again number seqid) next is = absurd is
+  placed_stateid_is None (places.New bytes) next is = refl
 
   pub realm_placed : (j : Option Opened) (place : Place A) (r mid new : Realm) (w : World) → IsPlace (open_owner v) j place → new ≡ placed c (access_of v) file place mid → mid ≡ record r { world = w }
       → new ≡ record (with_open c v file j r) { world = w }
-  realm_placed j place r mid new w is put mids = put ∙ ap (placed c (access_of v) file place) mids ∙ placed_so j place r w is
+  realm_placed j place r mid new w is put mids = put ∙ ap (placed c (access_of v) file place) mids ∙ placed_is j place r w is
 
 -- ---- refusals
 
@@ -129,7 +129,7 @@ same_error a b r p q = let same = sym p ∙ q in cc
 delayed : {T : Type 0} (a b : Status) (r : Result T Status) → r ≡ Err a → IsOkUnless r b → a ≡ b
 delayed {T} a b r is unless = subst (λ (x : Result T Status). IsOkUnless x b) is unless
 
--- the refusal is for want of space, or else of memory
+-- the refusal is because there is no space, or because an allocation failed
 pub wanting : {T : Type 0} (space : Bool) (status : Status) (r : Result T Status) → r ≡ Err status → (space ≡ false → r ≡ Err statuses.NoSpc) → (space ≡ true → IsOkUnless r statuses.Delay)
     → status ≢ statuses.Delay → cond space None (Some statuses.NoSpc) ≡ Some status
 wanting true status r is full may other = absurd (other (delayed status statuses.Delay r is (may refl)))
@@ -152,7 +152,7 @@ file_made c v new want w d name a claims is_wanted when m =
 
 -- ---- the result
 
-pub change_kept : (claim : Claim) (h : FileHandles) (s : Sight) (before file : ℕ) → IsBefore claim s h before → (let told : Value change_info = (inl tt, (before, before)) in told) ≡ change_of claim (here h) (Some file) s
+pub change_kept : (claim : Claim) (h : FileHandles) (s : Sight) (before file : ℕ) → IsBefore claim s h before → (let result_unless : Value change_info = (inl tt, (before, before)) in result_unless) ≡ change_of claim (here h) (Some file) s
 change_kept (ByName name) h s before file is = λ i. (inl tt, (sym is i, sym is i))
 change_kept ByHandle h s before file is = λ i. (inl tt, (sym is i, sym is i))
 
@@ -167,13 +167,13 @@ space_new left fits false more l f m = rw l (rw f refl)
 pub no_space_new : (left fits can more : Bool) → left ≡ true → fits ≡ false → (left && (fits && can)) && more ≡ false
 no_space_new left fits can more l f = rw l (rw f refl)
 
--- there is no space for an open, whatever else there is space for
+-- there is no space for an open, so the space for other things doesn't matter
 pub no_open_more : (b more : Bool) (status : Status) → cond more None (Some statuses.NoSpc) ≡ Some status → cond (b && more) None (Some statuses.NoSpc) ≡ Some status
 no_open_more true more status h = h
 no_open_more false true status h = cc
 no_open_more false false status h = h
 
--- the list of the new file would not be within the bounds
+-- the access control list of the new file would exceed its bounds
 pub unfit : {T : Type 0} (fits : Bool) (status : Status) (r : Result T Status) → r ≡ Err status → IsFit fits r → status ≢ statuses.Delay → (statuses.NoSpc ≡ status) × (fits ≡ false)
 unfit {T} fits status r is fit other =
     let of : (status ≡ statuses.NoSpc) × (fits ≡ false) = subst (λ (x : Result T Status). IsFit fits x) is fit other in
@@ -184,6 +184,6 @@ some_is true x y h = let same : x ≡ y = cc in sym same
 some_is false x y h = cc
 
 pub change_made : (claim : Claim) (name : List ℕ) (directory : ℕ) (s : Sight) (before tick : ℕ) → claim ≡ ByName name → before ≡ s.changes directory → tick ≡ s.next_tick
-    → (let told : Value change_info = (inl tt, (before, tick)) in told) ≡ change_of claim directory None s
+    → (let result_unless : Value change_info = (inl tt, (before, tick)) in result_unless) ≡ change_of claim directory None s
 change_made claim name directory s before tick claims is when =
     (λ i. (inl tt, (is i, when i))) ∙ ap (λ x. change_of x directory None s) (sym claims)

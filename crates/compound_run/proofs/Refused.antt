@@ -19,7 +19,7 @@ pub refused_by : {A : Type 0} (refusal : Option TreeFault) (fault : TreeFault) (
     → MatchOption refusal (IsOkUnless result Memory) (λ f. result ≡ Err f) → result ≡ Err fault
 refused_by refusal fault result is answer = subst (λ o. MatchOption o (IsOkUnless result Memory) (λ f. result ≡ Err f)) is answer
 
--- a change isn't refused but for want of memory
+-- a change with no reason to refuse it fails only if an allocation fails
 pub done_unless : {A : Type 0} (refusal : Option TreeFault) (result : Result A TreeFault) → refusal ≡ None
     → MatchOption refusal (IsOkUnless result Memory) (λ f. result ≡ Err f) → IsOkUnless result Memory
 done_unless refusal result is answer = subst (λ o. MatchOption o (IsOkUnless result Memory) (λ f. result ≡ Err f)) is answer
@@ -35,6 +35,6 @@ pub link_is : (w : World) (directory : ℕ) (name : List ℕ) (number : ℕ) (ma
     → may_name (names_at (seen w) directory) w.next_cookie ≡ may → link_refusal w directory name number ≡ (if may then None else Some NoSpc)
 link_is w directory name number may free few is = rw free (rw (lt-ltb (link_count w.names number) MAX_LINKS few) (rw is refl))
 
--- two names of one object stay
+-- renaming one of two names of an object to the other changes nothing
 pub renamed_same : (w : World) (from : ℕ) (old : List ℕ) (to : ℕ) (new : List ℕ) (at : At) → is_one (child_named w from old) (child_named w to new) ≡ true → renamed w from old to new at ≡ w
 renamed_same w from old to new at same = rw same refl

@@ -1,6 +1,6 @@
--- A RENAME between its two rows: what is planned, and what is refused.
-use Rattle.std.proofs.Common.{◌≡◌, ◌≢◌, ℕ, Bool, true, false, not, cond, refl, append-nil, List, ap, sym, ◌∙◌, subst}
-use Rattle.std.specs.Prelude.{◌++◌, [], ◌∷◌, Option, Some, None, is_some, Result, Err, IsOk, IsOkUnless, IfSome, IsSome, MatchOption, ◌&&◌, ◌==◌, filter}
+-- A RENAME between its two rows: its plan, and its refusals.
+use Rattle.std.proofs.Common.{◌≡◌, ℕ, Bool, true, false, not, cond, refl, append-nil, List, ap, sym, ◌∙◌, subst}
+use Rattle.std.specs.Prelude.{[], ◌∷◌, Option, Some, None, is_some, Result, Err, IsOk, IsOkUnless, IfSome, IsSome, MatchOption, ◌&&◌, ◌==◌, filter}
 use Rattle.std.specs.Option.{option_map, option_map_or}
 use Rattle.rpc_record.specs.Identity.{Identity}
 use Rattle.xdr_wire.specs.Xdr.{Value}
@@ -24,12 +24,12 @@ use Rattle.compound_run.specs.declared.realm.Realm as realms
 use Rattle.compound_run.specs.Realm.{Realm, Opened, opens_left, with_loss}
 use Rattle.compound_run.proofs.Refused.{renamed_same}
 use Rattle.compound_run.specs.TreeFaults.{status_at}
-use Rattle.compound_run.specs.Sight.{Sight, whole, child}
+use Rattle.compound_run.specs.Sight.{whole, child}
 use Rattle.compound_run.specs.Questions.{Question, Holds, Suffices, failure, trace}
 use Rattle.compound_run.specs.Meaning.{Meaning, here, there, number_in, has_child}
 use Rattle.compound_run.specs.Operations.Rename.{moved, replaced, is_same, goes_below, can_replace, can_move, is_movable}
 use Rattle.compound_run.specs.Runs.{waits}
-use Rattle.compound_run.specs.Views.{GivesSo, realm_of, stage, sense}
+use Rattle.compound_run.specs.Views.{OperationGives, realm_of, stage, sense}
 
 -- the questions between the two rows, and those after them
 abbrev pub planning : FileHandles → Value rename_args → List Question → List Question
@@ -37,7 +37,7 @@ planning h v others =
     has_child (there h) (old_name v) ∷ Suffices (is_same h v) ∷ Holds (λ s. not (goes_below s (number_in (moved h v s)) (here h))) statuses.Inval tt
     ∷ Holds (λ s. can_replace s (number_in (moved h v s)) (replaced h v s)) statuses.Exist tt ∷ others
 
--- the refusal of a child and a target that are found, or not
+-- the refusal, given which of child and target exist
 abbrev refusal : World → ℕ → (child target : Option ℕ) → Option TreeFault
 refusal w to child target = option_map_or (λ child. move_refusal w child to target) child (Some faults.NoEnt)
 
@@ -63,7 +63,7 @@ module _ (caller : Identity) (op : ℕ) (r : Realm) (h : FileHandles) (v : Value
       found None target h = ap (option_map status_at) h
       found (Some child) target at = asked (is_one (Some child) target) (is_below (kind_of r.world) (parent_of r.world) r.world.next_number child (here h)) (may_replace (kind_of r.world) (has_entries r.world.names) child target) at
 
-  -- no row is asked
+  -- no row is evaluated
   pub trace_planned : trace caller op (whole r) (planning h v others) ≡ []
   trace_planned = found (child_named r.world (there h) (old_name v)) (child_named r.world (here h) (new_name v)) is
     where
@@ -86,25 +86,25 @@ module _ (caller : Identity) (op : ℕ) (r : Realm) (h : FileHandles) (v : Value
 pub record Fault (refusal : Option TreeFault) (status : Status) : Type 0 where
   pub fault : TreeFault
   pub is : refusal ≡ Some fault
-  pub told : status ≡ status_at fault
+  pub status_is : status ≡ status_at fault
 
-pub told_fault : (refusal : Option TreeFault) (result : Result Plan Status) (status : Status) → result ≡ Err status → MatchOption refusal (IsOk result) (λ fault. result ≡ Err (status_at fault)) → Fault refusal status
-told_fault None result status is done = let no : IsOk {T = Plan} {E = Status} (Err status) = subst IsOk is done in cc
-told_fault (Some fault) result status is refused = record { fault = fault; is = refl; told = let same : status ≡ status_at fault = cc in same }
+pub result_fault : (refusal : Option TreeFault) (result : Result Plan Status) (status : Status) → result ≡ Err status → MatchOption refusal (IsOk result) (λ fault. result ≡ Err (status_at fault)) → Fault refusal status
+result_fault None result status is done = let no : IsOk {T = Plan} {E = Status} (Err status) = subst IsOk is done in cc
+result_fault (Some fault) result status is refused = record { fault = fault; is = refl; status_is = let same : status ≡ status_at fault = cc in same }
 
--- two names of one object are names of an object
+-- if two names belong to one object, that object exists
 pub one_is_there : (child target : Option ℕ) → is_one child target ≡ true → is_some child ≡ true
 one_is_there None target is = cc
 one_is_there (Some child) target is = refl
 
--- The questions that are left refuse, and hold no line.
+-- The remaining questions refuse, and hold no line.
 pub questions_refuse : {A : Type 0} (room : ℕ) (m : Meaning) (rest : List Question) (e : realms.Realm A) (handles : FileHandles) (before : Buffer) (status : Status)
     → failure m.caller (whole (realm_of e)) rest ≡ Some status → trace m.caller m.number (whole (realm_of e)) rest ≡ []
-    → GivesSo (sense true (record m { questions = rest }) waits) room handles (stage e before) (Err status) (stage e before)
+    → OperationGives (sense true (record m { questions = rest }) waits) room handles (stage e before) (Err status) (stage e before)
 questions_refuse {A} room m rest e handles before status failed silent = record {
   answered = record {
-    outcome = λ told. rw failed refl;
-    log = λ told. rw silent (ap (λ l. record e.tree.log { held = l }) (sym (append-nil e.tree.log.held)));
+    outcome = λ outcome. rw failed refl;
+    log = λ outcome. rw silent (ap (λ l. record e.tree.log { held = l }) (sym (append-nil e.tree.log.held)));
     trail_stays = λ d. refl;
     total_stays = λ d. refl;
     realm = tt;
@@ -120,11 +120,11 @@ questions_refuse {A} room m rest e handles before status failed silent = record 
 
 -- an operation that may be delayed answers DELAY, and changes nothing
 pub delays : {A : Type 0} (room : ℕ) (m : Meaning) (e : realms.Realm A) (handles : FileHandles) (before : Buffer)
-    → GivesSo (sense true m waits) room handles (stage e before) (Err statuses.Delay) (stage e before)
+    → OperationGives (sense true m waits) room handles (stage e before) (Err statuses.Delay) (stage e before)
 delays {A} room m e handles before = record {
   answered = record {
-    outcome = λ told. absurd (told refl);
-    log = λ told. absurd (told refl);
+    outcome = λ outcome. absurd (outcome refl);
+    log = λ outcome. absurd (outcome refl);
     trail_stays = λ d. refl;
     total_stays = λ d. refl;
     realm = tt;
@@ -142,11 +142,11 @@ pub by_test : {P : Type 0} (b : Bool) → (b ≡ true → P) → (b ≡ false �
 by_test true f g = f refl
 by_test false f g = g refl
 
-pub told_delay : {T : Type 0} (result : Result T Status) (status : Status) → result ≡ Err status → IsOkUnless result statuses.Delay → status ≡ statuses.Delay
-told_delay {T} result status is unless = subst (λ (r : Result T Status). IsOkUnless r statuses.Delay) is unless
+pub result_delay : {T : Type 0} (result : Result T Status) (status : Status) → result ≡ Err status → IsOkUnless result statuses.Delay → status ≡ statuses.Delay
+result_delay {T} result status is unless = subst (λ (r : Result T Status). IsOkUnless r statuses.Delay) is unless
 
-pub told_space : {T : Type 0} (result : Result T Status) (status : Status) → result ≡ Err status → result ≡ Err statuses.NoSpc → status ≡ statuses.NoSpc
-told_space result status is full = let same : status ≡ statuses.NoSpc = cc in same
+pub result_space : {T : Type 0} (result : Result T Status) (status : Status) → result ≡ Err status → result ≡ Err statuses.NoSpc → status ≡ statuses.NoSpc
+result_space result status is full = let same : status ≡ statuses.NoSpc = cc in same
 
 -- there is no space for the name
 module _ (caller : Identity) (op : ℕ) (r : Realm) (from to : ℕ) (new : List ℕ) (full : can_move (whole r) from to (child (whole r) to new) ≡ false) where

@@ -1,4 +1,4 @@
--- The answers where attributes are set.
+-- The answers when attributes are set.
 use Rattle.std.proofs.Common.{◌≡◌, ℕ, Bool, List, cond, ◌≤◌, ◌+◌, true, false, refl, append-nil, length, ap, sym, ◌∙◌, subst}
 use Rattle.access_guard.specs.declared.line.Line.{Line}
 use Rattle.std.specs.Prelude.{[], ◌≢◌, if◌then◌else◌, is_some, Option, Some, None, Ok, Err, unwrap_or, IsSome, IfSome}
@@ -26,16 +26,16 @@ use Rattle.compound_run.specs.Asking.{sight_of}
 use Rattle.compound_run.specs.Context.{Context}
 use Rattle.compound_run.specs.Operations.Create.{list_at, wanted_in}
 use Rattle.compound_run.specs.Lists.{set_fits, set_list}
-use Rattle.compound_run.specs.Permits.{Permits, permitted, entitled}
+use Rattle.compound_run.specs.internal.Permits.{Permits, permitted, entitled}
 use Rattle.node_tree.specs.declared.at.At.{At}
 use Rattle.node_tree.specs.Changes.{with_list}
 use Rattle.compound_run.specs.Meaning.{at, here}
-use Rattle.compound_run.specs.Questions.{failure, trace, told, all_granted, demand_lines}
+use Rattle.compound_run.specs.Questions.{failure, trace, result_unless, all_granted, demand_lines}
 use Rattle.compound_run.specs.Rows.{sized_facts}
 use Rattle.compound_run.specs.Runs.{spelled, waits}
-use Rattle.compound_run.specs.Operations.Setattr.{setattr, sent, size_fault, size_fits, can_count, sets_list, sized, listed, set_on, setting, with_attributes}
+use Rattle.compound_run.specs.Operations.Setattr.{setattr, sent, size_fault, size_fits, can_count, sets_acl, sized, listed, set_on, setting, with_attributes}
 use Rattle.compound_run.specs.Sight.{kind_at}
-use Rattle.compound_run.specs.Views.{GivesSo, holding, realm_of, with_world, stage, sense}
+use Rattle.compound_run.specs.Views.{OperationGives, holding, realm_of, with_world, stage, sense}
 
 live : (o : Option Object) → IsSome o → is_some (option_map (λ o. o.kind) o) ≡ true
 live None is = cc
@@ -44,7 +44,7 @@ live (Some o) is = refl
 -- the attributes that are sent have a fault
 pub not_wanted : {A : Type 0} (room : ℕ) (c : Context) (h : FileHandles) (v : Value setattr_args) (e : realms.Realm A) (out : Buffer) (number : ℕ) (status : Status)
     → h.current ≡ Some number → IsSome (object e.tree.world number) → (status ≢ statuses.Delay → sent c v (kind_at (sight_of e) number) ≡ Err status)
-    → GivesSo (sense true (setattr v c h) waits) room h (stage e out) (Err status) (stage e out)
+    → OperationGives (sense true (setattr v c h) waits) room h (stage e out) (Err status) (stage e out)
 not_wanted room c h v e out number status is_here there wrong = record {
   answered = record {
     outcome = λ apart. rw is_here (rw (live (object e.tree.world number) there) (rw (wrong (λ is. apart (ap Err is))) refl));
@@ -62,10 +62,10 @@ not_wanted room c h v e out number status is_here there wrong = record {
   unwritten = refl;
 }
 
--- its size can't be set
+-- the size of the object can't be set
 pub not_sized : {A : Type 0} (room : ℕ) (c : Context) (h : FileHandles) (v : Value setattr_args) (e : realms.Realm A) (out : Buffer) (number : ℕ) (wanted : Wanted) (status : Status)
     → h.current ≡ Some number → IsSome (object e.tree.world number) → sent c v (kind_at (sight_of e) number) ≡ Ok wanted → size_fault wanted.size c number (set_stateid v) (sight_of e) ≡ Some status
-    → GivesSo (sense true (setattr v c h) waits) room h (stage e out) (Err status) (stage e out)
+    → OperationGives (sense true (setattr v c h) waits) room h (stage e out) (Err status) (stage e out)
 not_sized room c h v e out number wanted status is_here there is_wanted wrong = record {
   answered = record {
     outcome = λ apart. rw is_here (rw (live (object e.tree.world number) there) (rw is_wanted (rw wrong refl)));
@@ -83,7 +83,7 @@ not_sized room c h v e out number wanted status is_here there is_wanted wrong = 
   unwritten = refl;
 }
 
--- the demands on the list
+-- the demands on the access control list (ACL)
 abbrev pub demanded : {A : Type 0} → Value setattr_args → FileHandles → realms.Realm A → Wanted → Demands
 demanded v h e wanted = first_demands (Known kinds.SetAttr v) (sized_facts (sight_of e) h wanted.size)
 
@@ -115,14 +115,14 @@ module _ {A : Type 0} (c : Context) (h : FileHandles) (v : Value setattr_args) (
       → bounded ≡ true → mid ≡ holding (demand_lines (judged_of e.tree.world) c.caller (row kinds.SetAttr).number (demanded v h e wanted)) e
       → new ≡ with_world (setting (here h) wanted (at c mid.tree.world) mid.tree.world) mid
       → Appends out out' (spelled (Done kinds.SetAttr (set_of (set_attributes v)))) → length out'.bytes ≤ length out.bytes + room
-      → GivesSo (sense true (setattr v c h) waits) room h (stage e out) (Ok h) (stage new out')
+      → OperationGives (sense true (setattr v c h) waits) room h (stage e out) (Ok h) (stage new out')
   gives_set room mid new out out' within_bounds holds is_set written within =
       let lines = demand_lines (judged_of e.tree.world) c.caller (row kinds.SetAttr).number (demanded v h e wanted) in
       let end : realms.Realm A = with_world (setting (here h) wanted (at c e.tree.world) e.tree.world) (holding lines e) in
       let ends : new ≡ end = is_set ∙ (λ i. with_world (setting (here h) wanted (at c (holds i).tree.world) (holds i).tree.world) (holds i)) in
-      subst (λ (x : realms.Realm A). GivesSo (sense true (setattr v c h) waits) room h (stage e out) (Ok h) (stage x out')) (sym ends) (record {
+      subst (λ (x : realms.Realm A). OperationGives (sense true (setattr v c h) waits) room h (stage e out) (Ok h) (stage x out')) (sym ends) (record {
         answered = record {
-          outcome = λ apart. ap (λ f. told f (Done kinds.SetAttr (set_of (set_attributes v)))) (sym (fails ∙ ap (λ b. cond b None (Some statuses.NoSpc)) within_bounds));
+          outcome = λ apart. ap (λ f. result_unless f (Done kinds.SetAttr (set_of (set_attributes v)))) (sym (fails ∙ ap (λ b. cond b None (Some statuses.NoSpc)) within_bounds));
           log = λ apart. ap (λ l. held l e.tree.log) (sym its_lines);
           trail_stays = λ d. refl;
           total_stays = λ d. refl;
@@ -140,14 +140,14 @@ module _ {A : Type 0} (c : Context) (h : FileHandles) (v : Value setattr_args) (
   refuses_set : (room : ℕ) (mid new : realms.Realm A) (out : Buffer) (status : Status)
       → (status ≢ statuses.Delay → (status ≡ statuses.NoSpc) × (bounded ≡ false))
       → mid ≡ holding (demand_lines (judged_of e.tree.world) c.caller (row kinds.SetAttr).number (demanded v h e wanted)) e → new ≡ mid
-      → GivesSo (sense true (setattr v c h) waits) room h (stage e out) (Err status) (stage new out)
+      → OperationGives (sense true (setattr v c h) waits) room h (stage e out) (Err status) (stage new out)
   refuses_set room mid new out status unfit holds stays =
       let lines = demand_lines (judged_of e.tree.world) c.caller (row kinds.SetAttr).number (demanded v h e wanted) in
-      subst (λ (x : realms.Realm A). GivesSo (sense true (setattr v c h) waits) room h (stage e out) (Err status) (stage x out)) (sym (stays ∙ holds)) (record {
+      subst (λ (x : realms.Realm A). OperationGives (sense true (setattr v c h) waits) room h (stage e out) (Err status) (stage x out)) (sym (stays ∙ holds)) (record {
         answered = record {
           outcome = λ apart.
               let none = unfit (λ is. apart (ap Err is)) in
-              ap Err none.0 ∙ ap (λ f. told f (Done kinds.SetAttr (set_of (set_attributes v)))) (sym (fails ∙ ap (λ b. cond b None (Some statuses.NoSpc)) none.1));
+              ap Err none.0 ∙ ap (λ f. result_unless f (Done kinds.SetAttr (set_of (set_attributes v)))) (sym (fails ∙ ap (λ b. cond b None (Some statuses.NoSpc)) none.1));
           log = λ apart. ap (λ l. held l e.tree.log) (sym its_lines);
           trail_stays = λ d. refl;
           total_stays = λ d. refl;
@@ -174,7 +174,7 @@ pub attributes_set : {A : Type 0} (room : ℕ) (c : Context) (h : FileHandles) (
     → set_fits wanted (kind_at (sight_of mid) number) (list_at mid.tree.world number) ≡ true
     → new ≡ with_world (setting number wanted (at c mid.tree.world) mid.tree.world) mid
     → Appends out out' (spelled (Done kinds.SetAttr (set_of (set_attributes v)))) → length out'.bytes ≤ length out.bytes + room
-    → GivesSo (sense true (setattr v c h) waits) room h (stage e out) (Ok h) (stage new out')
+    → OperationGives (sense true (setattr v c h) waits) room h (stage e out) (Ok h) (stage new out')
 attributes_set room c h v e mid new out out' number wanted is_here there is_wanted size granted holds fits counts bounds is_set written within =
     let same : number ≡ here h = sym (ap (λ n. unwrap_or n 0) is_here) in
     gives_set c h v e wanted (ap is_some is_here)
@@ -188,7 +188,7 @@ attributes_set room c h v e mid new out out' number wanted is_here there is_want
     (subst (λ n. new ≡ with_world (setting n wanted (at c mid.tree.world) mid.tree.world) mid) same is_set)
     written within
 
--- the list would not be within the bounds, or there is no memory for the attributes
+-- the ACL would exceed its bounds, or an allocation for the attributes fails
 pub attributes_refused : {A : Type 0} (room : ℕ) (c : Context) (h : FileHandles) (v : Value setattr_args) (e mid new : realms.Realm A) (out : Buffer) (number : ℕ) (wanted : Wanted) (status : Status)
     → h.current ≡ Some number → IsSome (object e.tree.world number)
     → sent c v (kind_at (sight_of e) number) ≡ Ok wanted
@@ -199,7 +199,7 @@ pub attributes_refused : {A : Type 0} (room : ℕ) (c : Context) (h : FileHandle
     → can_count wanted (sight_of mid) ≡ true
     → (status ≢ statuses.Delay → (status ≡ statuses.NoSpc) × (set_fits wanted (kind_at (sight_of mid) number) (list_at mid.tree.world number) ≡ false))
     → new ≡ mid
-    → GivesSo (sense true (setattr v c h) waits) room h (stage e out) (Err status) (stage new out)
+    → OperationGives (sense true (setattr v c h) waits) room h (stage e out) (Err status) (stage new out)
 attributes_refused room c h v e mid new out number wanted status is_here there is_wanted size granted holds fits counts unfit stays =
     let same : number ≡ here h = sym (ap (λ n. unwrap_or n 0) is_here) in
     let bounds : set_fits wanted (kind_at (sight_of e) (here h)) (list_at e.tree.world (here h)) ≡ set_fits wanted (kind_at (sight_of mid) number) (list_at mid.tree.world number) =
@@ -213,10 +213,10 @@ attributes_refused room c h v e mid new out number wanted status is_here there i
     (set_fits wanted (kind_at (sight_of mid) number) (list_at mid.tree.world number)) bounds
     room mid new out status unfit holds stays
 
--- ---- the attributes that are set part by part
+-- ---- attributes are set part by part
 
 same_list : {A : Type 0} (number : ℕ) (o : Object) (wanted : Wanted) (a : At) (made : Option (Permissions A)) (before w : World)
-    → object before number ≡ Some o → is_some made ≡ sets_list wanted → IfSome made (Permits before number wanted)
+    → object before number ≡ Some o → is_some made ≡ sets_acl wanted → IfSome made (Permits before number wanted)
     → permitted number made a w ≡ listed number o wanted a w
 same_list number o wanted a None before w there some is =
     λ i. if some i then with_list w number (set_list wanted o.kind o.list) (changed_high o.high wanted.mode) a else w
@@ -226,10 +226,9 @@ same_list number o wanted a (Some p) before w there some is =
     (λ i. with_list w number (list i) (high i) a)
     ∙ (λ i. if some i then with_list w number (set_list wanted o.kind o.list) (changed_high o.high wanted.mode) a else w)
 
--- setting the size, the list, and the owner with the group, one after the other, sets all
--- attributes
+-- setting the size, the ACL, and the owner with the group, one after the other, sets all attributes
 pub set_by_parts : {A : Type 0} (number : ℕ) (o : Object) (wanted : Wanted) (a : At) (made : Option (Permissions A)) (w : World)
-    → object w number ≡ Some o → is_some made ≡ sets_list wanted → IfSome made (Permits w number wanted)
+    → object w number ≡ Some o → is_some made ≡ sets_acl wanted → IfSome made (Permits w number wanted)
     → entitled number wanted.owner wanted.group (o.owner, o.group) a (permitted number made a (sized number wanted.size a w)) ≡ setting number wanted a w
 unfolding setting
 set_by_parts number o wanted a made w there some is =

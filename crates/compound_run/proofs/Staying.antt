@@ -4,14 +4,14 @@ use Rattle.std.specs.Prelude.{[], ◌∷◌, unwrap_or, Option, Some, None, Resu
 use Rattle.xdr_wire.specs.Xdr.{Value}
 use Rattle.nfs_types.specs.declared.status.Status.{Status}
 use Rattle.nfs_ops.specs.Forms.{open_args}
-use Rattle.nfs_ops.specs.Operations.{Operation, Known, Unsupported, Illegal, Bad, next_at}
+use Rattle.nfs_ops.specs.Operations.{Operation, Known, next_at}
 use Rattle.nfs_ops.specs.Results.{Outcome}
 use Rattle.nfs_ops.specs.declared.OpKind.TheVariants as kinds
 use Rattle.session_slots.specs.Destroying.{with_reclaimed}
 use Rattle.session_slots.specs.Registry.{Session}
 use Rattle.compound_run.specs.declared.filehandles.FileHandles.{FileHandles}
 use Rattle.compound_run.specs.Realm.{Realm, Opened}
-use Rattle.compound_run.specs.Context.{Context, behind}
+use Rattle.compound_run.specs.Context.{Context, context_after}
 use Rattle.compound_run.specs.Sight.{whole}
 use Rattle.compound_run.specs.Operations.Open.{with_open, joined, found}
 use Rattle.compound_run.specs.Stateids.{client_of}
@@ -52,6 +52,6 @@ runs_stay c zero bytes old [] new runs = ap (λ (p : Point). sessions p.realm) r
 runs_stay c zero bytes old (given ∷ results) new runs = absurd runs
 runs_stay c (suc n) bytes old [] new runs = absurd runs
 runs_stay c (suc n) bytes old (given ∷ results) new runs =
-    let next = behind c (length (result_bytes given)) in
+    let next = context_after c (length (result_bytes given)) in
     more_stay runs.0 results new given.outcome (Runs next n (next_at bytes).1 runs.0 results new) (runs_stay next n (next_at bytes).1 runs.0 results new) runs.3
     ∙ step_stays c (next_at bytes).0 old given.outcome runs.0 runs.2

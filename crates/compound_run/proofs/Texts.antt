@@ -1,4 +1,4 @@
--- The text of a link is short.
+-- The text of a symbolic link is short.
 use Rattle.std.proofs.Common.{◌≡◌, ℕ, ◌≤◌, length, subst, arith}
 use Rattle.std.specs.Prelude.{Some}
 use Rattle.std.proofs.lemmas.List.{take_all}

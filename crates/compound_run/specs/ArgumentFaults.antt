@@ -27,7 +27,7 @@ use Rattle.nfs_types.specs.declared.status.Status.{Status}
 use Rattle.nfs_types.specs.Name.{name_fault, separates, is_dots}
 use Rattle.nfs_types.specs.Handles.{object_of}
 use Rattle.nfs_types.specs.Attributes.{ace, acl41, is_within, supported_words, settable_words}
-use Rattle.nfs_types.specs.Sent.{Sent, ◌>>◌, raw_of, unless, taken_list, taken_mode, taken_name, taken_plain}
+use Rattle.nfs_types.specs.Sent.{Sent, ◌>>◌, raw_of, unless, taken_acl, taken_mode, taken_name, taken_plain}
 use Rattle.nfs_types.specs.Sent.{taken_part, taken_parts, taken_each, taken, is_set_twice, known, spelled, whole}
 use Rattle.nfs_types.specs.Sent.{sent_at, wanted_of}
 use Rattle.compound_run.specs.Faults.{MayFault, IsValueOrFault}
@@ -60,7 +60,7 @@ bind : {A B : Type 0} (r : Result A Status) (f : A → Result B Status) → IsVa
 bind (Ok x) f may more = more x
 bind (Err status) f may more = may
 
--- no entry is refused for want of memory
+-- no access control entry (ACE) is refused because an allocation failed
 abbrev MayAdmit : Option AdmitFault → Type 0
 MayAdmit None = Unit {0}
 MayAdmit (Some faults.NoSpc) = Unit {0}
@@ -102,7 +102,7 @@ admit_may (Some faults.BadOwner) list may = tt
 admit_may (Some faults.Memory) list may = may
 
 acl_may : (book : Content) (kind : Kind) (entries : Option (List (Value ace)))
-    → IsValueOrFault (taken_list book kind entries)
+    → IsValueOrFault (taken_acl book kind entries)
 acl_may book kind None = tt
 acl_may book kind (Some entries) =
     admit_may (lists.first_fault (map (raw_of book) entries)) (admitted kind (map (raw_of book) entries))
@@ -152,7 +152,7 @@ parts_may book kind dacl sacl =
 
 each_may : (book : Content) (kind : Kind) (s : Sent) → IsValueOrFault (taken_each book kind s)
 each_may book kind s =
-    bind (taken_list book kind s.entries) _ (acl_may book kind s.entries)
+    bind (taken_acl book kind s.entries) _ (acl_may book kind s.entries)
     (λ list. bind (taken_plain book s.mode s.owner s.group) _ (plain_may book s.mode s.owner s.group)
     (λ plain. bind (taken_parts book kind s.dacl s.sacl) _ (parts_may book kind s.dacl s.sacl) (λ both. tt)))
 

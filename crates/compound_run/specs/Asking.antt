@@ -1,4 +1,4 @@
--- The demands on the lists that are served, and their answers.
+-- The demands on the realm's access control lists (ACLs), and their answers.
 use Rattle.std.specs.Prelude.{ℕ, Bool, Option}
 use Rattle.rpc_record.specs.Identity.{Identity}
 use Rattle.who_book.specs.Members.{member}
@@ -14,11 +14,11 @@ use Rattle.compound_run.specs.Questions.{all_granted, demand_lines}
 use Rattle.compound_run.specs.Rows.{first_facts, sized_facts, second_facts, opening_facts}
 use Rattle.compound_run.specs.Views.{holding, realm_of}
 
--- the whole realm that is served
+-- the whole realm
 abbrev pub sight_of : {A : Type 0} → realms.Realm A → Sight
 sight_of e = whole (realm_of e)
 
--- whether the lists grant these demands to the caller by the book
+-- whether the ACLs grant these demands to the caller by the book
 abbrev pub grants_all : {A : Type 0} → realms.Realm A → Identity → Demands → Bool
 grants_all e caller demands = all_granted (judged_of e.tree.world) (member e.tree.book caller) demands
 
@@ -33,14 +33,14 @@ op_number op = number_of (op_view op)
 abbrev pub first_of : {A : Type 0} → realms.Realm A → Op → FileHandles → Demands
 first_of e op h = first_demands (op_view op) (first_facts (sight_of e) h)
 
--- the first demands of an operation that depend on a size
+-- the first demands of an operation, which depend on a size
 abbrev pub sized_of : {A : Type 0} → realms.Realm A → Op → FileHandles → Option ℕ → Demands
 sized_of e op h new_size = first_demands (op_view op) (sized_facts (sight_of e) h new_size)
 
--- the demands of an operation once its names are looked up
+-- the demands of an operation after its names are looked up
 abbrev pub second_of : {A : Type 0} → realms.Realm A → Op → FileHandles → Option ℕ → Option ℕ → Demands
 second_of e op h child replaced = second_demands (op_view op) (second_facts (sight_of e) h child replaced)
 
--- the demands of OPEN once its name is looked up
+-- the demands of OPEN after its name is looked up
 abbrev pub opening_of : {A : Type 0} → realms.Realm A → Op → FileHandles → Option ℕ → Option ℕ → Demands
 opening_of e op h child new_size = second_demands (op_view op) (opening_facts (sight_of e) h child new_size)

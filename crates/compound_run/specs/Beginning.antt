@@ -1,5 +1,4 @@
--- The beginning of a COMPOUND where sessions are in use: its first operation (RFC 8881, sections
--- 2.10.6.2 to 2.10.6.4 and 16.2).
+-- The beginning of a COMPOUND with sessions: its first operation (RFC 8881, sections 2.10.6.2 to 2.10.6.4 and 16.2).
 use Rattle.std.specs.Prelude.{ℕ, ◌==◌, nat_lt, if◌then◌else◌, List}
 use Rattle.xdr_wire.specs.Xdr.{Value}
 use Rattle.nfs_types.specs.declared.status.Status.{Status}
@@ -11,7 +10,7 @@ use Rattle.nfs_ops.specs.declared.OpKind.TheVariants as kinds
 use Rattle.compound_run.specs.Limits.{MINOR_VERSION}
 
 pub data Beginning : Type 0 where
-  -- no operation is run, and the COMPOUND has this status
+  -- no operation is run, and this is the COMPOUND's status
   Ends : Status → Beginning
   -- the first operation, of this number, is refused
   Refuses : ℕ → Status → Beginning
@@ -20,11 +19,11 @@ pub data Beginning : Type 0 where
   -- SEQUENCE, and the bytes of the operations after it
   Follows : Value sequence_args → List ℕ → Beginning
 
--- an operation that is to be the only one
+-- an operation that must be the only one
 abbrev pub only : ℕ → Operation → Beginning
 only count op = if nat_lt 1 count then Refuses (number_of op) statuses.NotOnlyOp else Acts op
 
--- the beginning by the first of this many operations, with the bytes after it
+-- the beginning of a COMPOUND of `count` operations, from the first of them and the bytes after it
 abbrev pub beginning_with : ℕ → Operation → List ℕ → Beginning
 beginning_with count (Known kinds.Sequence v) rest = Follows v rest
 beginning_with count (Known kinds.ExchangeId v) rest = only count (Known kinds.ExchangeId v)

@@ -26,15 +26,15 @@ head_form = fields (uint ∷ opaque MAX_TAG ∷ uint ∷ [])
 abbrev pub head : Status → List ℕ → ℕ → List ℕ
 head s tag count = spelling head_form (status_number s, (tag, count))
 
--- the number of bytes that the header of a reply has, with the head
+-- the bytes of the header of a reply and of the head of its results
 abbrev pub before_results : List ℕ → ℕ
 before_results tag = REPLY_HEADER + 12 + length (padded tag)
 
--- the room of the first operation, in a reply of at most this many bytes
+-- the room of the first operation, in a reply of at most `limit` bytes
 abbrev pub first_room : ℕ → List ℕ → ℕ
 first_room limit tag = limit - before_results tag - REFUSAL_ROOM
 
--- the status of the last operation that was run
+-- the status of the last operation that ran
 abbrev pub last_status : List Given → Status
 last_status [] = statuses.Ok
 last_status (given ∷ []) = status_of given
@@ -44,7 +44,7 @@ last_status (given ∷ next ∷ results) = last_status (next ∷ results)
 abbrev pub together : List ℕ → List Given → List ℕ
 together tag results = head (last_status results) tag (length results) ++ results_bytes results
 
--- operations that are run in turn: the tag of their COMPOUND, the context of the first of them, and their bytes
+-- operations that run in turn: the tag of their COMPOUND, the context of the first of them, and their bytes
 pub record Series : Type 0 where
   pub tag : List ℕ
   pub context : Context
@@ -53,7 +53,8 @@ pub record Series : Type 0 where
 abbrev pub series : List ℕ → Context → List ℕ → Series
 series tag c operations = record { tag = tag; context = c; operations = operations }
 
--- Another minor version is refused before any operation, and then more operations than these.
+-- Another minor version is refused before any operation. So is a COMPOUND with more operations than the limit, if the
+-- minor version is right.
 abbrev pub opening_fault : ℕ → ℕ → ℕ → Option Status
 opening_fault most minor count =
     if minor == MINOR_VERSION then (if nat_lt most count then Some statuses.TooManyOps else None)

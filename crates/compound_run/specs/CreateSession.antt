@@ -13,11 +13,11 @@ use Rattle.session_slots.specs.declared.client.Created.{Created}
 use Rattle.session_slots.specs.declared.creating.Create.{Create}
 use Rattle.session_slots.specs.declared.creating.Made.{Made}
 use Rattle.session_slots.specs.Registry.{Client, client_at}
-use Rattle.session_slots.specs.Creating.{Creates, repeated}
+use Rattle.session_slots.specs.Creating.{Creates, cached_result}
 use Rattle.compound_run.specs.Realm.{Realm}
-use Rattle.compound_run.specs.Sessions.{session_id, opens_without, told_by}
+use Rattle.compound_run.specs.Sessions.{session_id, opens_without, outcome_from}
 
--- the attributes of a channel that is requested, RDMA apart
+-- the requested attributes of a channel, RDMA apart
 abbrev pub channel_of : Value channel → Channel
 channel_of c = record {
   padding = c.0;
@@ -32,7 +32,7 @@ channel_of c = record {
 abbrev pub PERSIST : ℕ
 PERSIST = 1
 
--- a server whose sessions outlive a restart, or don't, is asked for this
+-- the request to a server whose sessions are persistent, or aren't
 abbrev pub create_of : Bool → Identity → Value create_session_args → Create
 create_of lasting caller v = record {
   client = session_client v;
@@ -57,16 +57,16 @@ session_made c =
 
 abbrev pub kept_for : ℕ → Option Client → Option (Result Created Status)
 kept_for sequence None = None
-kept_for sequence (Some c) = repeated c.created sequence
+kept_for sequence (Some c) = cached_result c.created sequence
 
--- the kept result of the client's last CREATE_SESSION, where this one has its sequence ID
+-- the cached result of the client's last CREATE_SESSION, if this one has its sequence ID
 abbrev pub created_before : Value create_session_args → Realm → Option (Result Created Status)
 created_before v r = kept_for (session_sequence v) (client_at r.registry (session_client v))
 
--- The opens of a client whose record goes are closed.
+-- If a client's record is removed, its opens are closed.
 pub record CreatesSession (caller : Identity) (v : Value create_session_args) (old : Realm)
     (outcome : Result Outcome Status) (new : Realm) : Type 0 where
   pub made : Made
   pub creates : Creates old.registry (create_of old.lasting caller v) made new.registry
-  pub told : outcome ≡ told_by session_made made.result
-  pub others : new ≡ record old { registry = new.registry; opens = opens_without made.gone old.opens }
+  pub outcome_is : outcome ≡ outcome_from session_made made.result
+  pub others : new ≡ record old { registry = new.registry; opens = opens_without made.removed old.opens }

@@ -1,6 +1,6 @@
--- The operation of a call that found no memory, and was answered DELAY. Where the call is run again,
--- memory is refused to the same operation. So it has the same results.
-use Rattle.std.specs.Prelude.{ℕ, suc, Bool, if◌then◌else◌, List, [], ◌∷◌, Option, Some, None, Result}
+-- In a call, the operation whose allocation failed, and which was answered DELAY. When the call is replayed, the
+-- allocation of the same operation fails. So the results are the same.
+use Rattle.std.specs.Prelude.{ℕ, suc, if◌then◌else◌, List, [], ◌∷◌, Option, Some, None, Result}
 use Rattle.std.specs.Option.{option_map}
 use Rattle.xdr_wire.specs.Reading.{read_at}
 use Rattle.xdr_wire.specs.Xdr.{Value}
@@ -16,9 +16,9 @@ use Rattle.compound_run.specs.State.{State, Call}
 use Rattle.compound_run.specs.Beginning.{Beginning, Ends, Refuses, Acts, Follows, beginning}
 use Rattle.compound_run.specs.InSession.{Reply, RunsAlone, RunsBegun, RunsBy, RunsCall, RunsOf, RunsOnSlot, Sequenced}
 use Rattle.compound_run.specs.InSession.{begin_in, sequenced}
-use Rattle.compound_run.specs.Telling.{is_delay}
+use Rattle.compound_run.specs.AnswerOf.{is_delay}
 
--- the first of these results that is DELAY, by its place
+-- the place of the first of these results that is DELAY
 abbrev pub delayed_in : List Given → Option ℕ
 delayed_in [] = None
 delayed_in (given ∷ results) = if is_delay given.outcome then Some 0 else option_map suc (delayed_in results)
@@ -28,7 +28,7 @@ delayed_alone outcome = if is_delay outcome then Some 0 else None
 
 abbrev pub delayed_on_slot : (old : State) (c : Sequenced) (granted : NewCall) (bytes : List ℕ) (new : State)
     → RunsOnSlot old c granted bytes new → Option ℕ
-delayed_on_slot old c granted bytes new (end, (results, runs, told), left, few) = delayed_in results
+delayed_on_slot old c granted bytes new (end, (results, runs, answer), left, few) = delayed_in results
 
 abbrev pub delayed_by : (b : Begin) (c : Sequenced) (old : State) (bytes : List ℕ) (new : State)
     → RunsBy b c old bytes new → Option ℕ
@@ -38,7 +38,7 @@ delayed_by (begins.Refused status) c old bytes new runs = None
 
 abbrev pub delayed_only : (call : Call) (tag : List ℕ) (op : Operation) (old : State) (bytes : List ℕ) (new : State)
     → RunsAlone call tag op old bytes new → Option ℕ
-delayed_only call tag op old bytes new ((outcome, acts, told), others) = delayed_alone outcome
+delayed_only call tag op old bytes new ((outcome, acts, answer), others) = delayed_alone outcome
 
 abbrev pub delayed_begun : (call : Call) (tag : List ℕ) (count : ℕ) (b : Beginning) (old : State) (bytes : List ℕ)
     (new : State) → RunsBegun call tag count b old bytes new → Option ℕ
@@ -55,7 +55,7 @@ delayed_of call (Some ((tag, (minor, count)), operations)) old None new runs = N
 delayed_of call (Some ((tag, (minor, count)), operations)) old (Some bytes) new runs =
     delayed_begun call tag count (beginning minor count operations) old bytes new runs
 
--- the operation that found no memory in a call that is run so: its place after SEQUENCE
+-- the operation whose allocation failed in this run of a call: its place after SEQUENCE
 unfoldable pub delayed : (call : Call) (old : State) (reply : Reply) (new : State) → RunsCall call old reply new
     → Option ℕ
 unfolding RunsCall

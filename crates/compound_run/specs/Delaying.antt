@@ -1,5 +1,5 @@
--- A call that is run again is refused memory where its record says so: the operation at that place is
--- answered DELAY, and isn't run. An operation that may never be delayed is run there too.
+-- On replay, the operation at the place that the call's record names fails its allocation: it is answered DELAY, and
+-- isn't run. An operation that may never be delayed runs there too.
 use Rattle.std.specs.Prelude.{◌≡◌, ◌≤◌, ℕ, suc, ◌==◌, Bool, true, false, List, [], ◌∷◌, length, Option, Some, None}
 use Rattle.std.specs.Prelude.{Result, Err}
 use Rattle.xdr_wire.specs.Buffer.{Buffer, Appends}
@@ -11,35 +11,35 @@ use Rattle.nfs_ops.specs.Operations.{Operation, next_at}
 use Rattle.session_slots.specs.declared.session.Begin.{Begin}
 use Rattle.session_slots.specs.declared.session.Begin.TheVariants as begins
 use Rattle.session_slots.specs.declared.session.NewCall.{NewCall}
-use Rattle.session_slots.specs.Repeating.{Fate, Runs, Repeats, Fails}
+use Rattle.session_slots.specs.Retrying.{Fate, Runs, Retries, Fails}
 use Rattle.compound_run.specs.declared.kept.Ran.{Ran}
 use Rattle.compound_run.specs.Limits.{MAX_RESULTS}
-use Rattle.compound_run.specs.Context.{Context, behind}
+use Rattle.compound_run.specs.Context.{Context, context_after}
 use Rattle.compound_run.specs.Operations.{may_delay}
 use Rattle.compound_run.specs.Runs.{Given, result_bytes}
 use Rattle.compound_run.specs.Compound.{args_form, args_in}
 use Rattle.compound_run.specs.State.{State, Call}
 use Rattle.compound_run.specs.Beginning.{Beginning, Ends, Refuses, Acts, Follows, beginning}
 use Rattle.compound_run.specs.InSession.{Reply, RunsBegun, RunsBy, RunsCall, RunsOf, RunsOnSlot, Sequenced}
-use Rattle.compound_run.specs.InSession.{begin_in, context_behind, fate, sequenced}
-use Rattle.compound_run.specs.Recorded.{Answers, AnswersBy, RanBegun, RanBy}
+use Rattle.compound_run.specs.InSession.{begin_in, call_context_after_sequence, fate, sequenced}
+use Rattle.compound_run.specs.Recorded.{Answers, AnswersBy, RanBegun}
 
--- the operation that memory is refused to stands at this place
+-- the operation whose allocation fails is at this place
 abbrev pub is_place : Option ℕ → ℕ → Bool
 is_place None place = false
 is_place (Some refused) place = refused == place
 
--- an operation that memory is refused to is answered DELAY, where it may be delayed
+-- an operation whose allocation fails is answered DELAY, if it may be delayed
 abbrev pub DelaysIf : {A : Type 0} → Bool → Context → Operation → Result A Status → Type 0
 DelaysIf refused c op result = refused ≡ true → may_delay c op ≡ true → result ≡ Err statuses.Delay
 
--- These are the results of the operations in these bytes, the first of which stands at this place.
--- Memory is refused to one of them, if it is reached.
+-- These are the results of the operations in these bytes, the first of which is at this place. One of them fails its
+-- allocation, if it is reached.
 abbrev pub DelaysFrom : ℕ → Option ℕ → Context → List ℕ → List Given → Type 0
 DelaysFrom place refused c bytes [] = Unit {0}
 DelaysFrom place refused c bytes (given ∷ results) =
     DelaysIf (is_place refused place) c (next_at bytes).0 given.outcome
-    × DelaysFrom (suc place) refused (behind c (length (result_bytes given))) (next_at bytes).1 results
+    × DelaysFrom (suc place) refused (context_after c (length (result_bytes given))) (next_at bytes).1 results
 
 -- places are counted as `delayed_in` counts them
 abbrev pub DelaysIn : Option ℕ → Context → List ℕ → List Given → Type 0
@@ -49,8 +49,8 @@ DelaysIn refused c bytes results = DelaysFrom 0 refused c bytes results
 
 abbrev pub DelaysOnSlot : Option ℕ → (old : State) (c : Sequenced) (granted : NewCall) (bytes : List ℕ) (new : State)
     → RunsOnSlot old c granted bytes new → Type 0
-DelaysOnSlot refused old c granted bytes new (end, (results, runs, told), left, few) =
-    DelaysIn refused (context_behind old c.call c.tag c.count c.sequence granted) c.operations results
+DelaysOnSlot refused old c granted bytes new (end, (results, runs, outcome), left, few) =
+    DelaysIn refused (call_context_after_sequence old c.call c.tag c.count c.sequence granted) c.operations results
 
 abbrev pub DelaysBy : Option ℕ → (b : Begin) (c : Sequenced) (old : State) (bytes : List ℕ) (new : State)
     → RunsBy b c old bytes new → Type 0
@@ -58,8 +58,8 @@ DelaysBy refused (begins.New granted) c old bytes new runs = DelaysOnSlot refuse
 DelaysBy refused begins.Repeat c old bytes new runs = Unit {0}
 DelaysBy refused (begins.Refused status) c old bytes new runs = Unit {0}
 
--- Memory is refused to no operation that is the only one of its COMPOUND: where it is answered DELAY
--- the call isn't kept.
+-- No operation that is the only one of its COMPOUND is made to fail its allocation. If one is answered DELAY, the call
+-- isn't logged.
 abbrev pub DelaysBegun : Option ℕ → (call : Call) (tag : List ℕ) (count : ℕ) (b : Beginning) (old : State)
     (bytes : List ℕ) (new : State) → RunsBegun call tag count b old bytes new → Type 0
 DelaysBegun refused call tag count (Ends status) old bytes new runs = Unit {0}
@@ -76,7 +76,7 @@ DelaysOf refused call (Some ((tag, (minor, count)), operations)) old None new ru
 DelaysOf refused call (Some ((tag, (minor, count)), operations)) old (Some bytes) new runs =
     DelaysBegun refused call tag count (beginning minor count operations) old bytes new runs
 
--- memory is refused to the operation at this place after SEQUENCE of a call that is run so
+-- in this run of a call, the operation at this place after SEQUENCE fails its allocation
 unfoldable pub Delays : Option ℕ → (call : Call) (old : State) (reply : Reply) (new : State)
     → RunsCall call old reply new → Type 0
 unfolding RunsCall
@@ -85,29 +85,25 @@ Delays refused call old reply new runs =
 
 -- ---- a call that is answered, with the facts that its record needs
 
-abbrev pub RanByDelaying : Option ℕ → Begin → Sequenced → State → List ℕ → Ran → State → Type 0
-RanByDelaying refused b c old bytes ran new =
-    (told : RanBy b c old bytes ran new) × DelaysBy refused b c old bytes new told.0
-
--- a call with this tag, this many operations and this beginning
+-- a call with this tag, operation count and beginning
 module _ (call : Call) (tag : List ℕ) (count : ℕ) (b : Beginning) where
   abbrev pub RanBegunDelaying : Option ℕ → State → List ℕ → Ran → State → Type 0
   RanBegunDelaying refused old bytes ran new =
-      (told : RanBegun call tag count b old bytes ran new) × DelaysBegun refused call tag count b old bytes new told.0
+      (outcome : RanBegun call tag count b old bytes ran new) × DelaysBegun refused call tag count b old bytes new outcome.0
 
 abbrev pub DelaysAnswer : Option ℕ → (f : Fate Reply) (call : Call) (old : State) (reply : Reply) (ran : Ran)
     (new : State) → AnswersBy f call old reply ran new → Type 0
-DelaysAnswer refused Runs call old reply ran new (runs, told) = Delays refused call old reply new runs
-DelaysAnswer refused (Repeats kept) call old reply ran new answers = Unit {0}
+DelaysAnswer refused Runs call old reply ran new (runs, outcome) = Delays refused call old reply new runs
+DelaysAnswer refused (Retries kept) call old reply ran new answers = Unit {0}
 DelaysAnswer refused (Fails refusal) call old reply ran new answers = Unit {0}
 
--- A call is answered so, with these facts. Memory is refused to the operation at this place after
--- SEQUENCE, if there is one.
+-- A call has this reply, and its record these facts. The operation at this place after SEQUENCE fails its allocation,
+-- if there is one.
 abbrev pub AnswersDelaying : Option ℕ → State → Call → Reply → Ran → State → Type 0
 AnswersDelaying refused old call reply ran new =
     (answers : Answers old call reply ran new) × DelaysAnswer refused (fate old call) call old reply ran new answers
 
--- the same, with the results where `RunsRecorded` has them
+-- the same, with the results appended as in `RunsRecorded`
 abbrev pub RunsDelaying : Option ℕ → State → Call → Option Ran → Buffer → Buffer → State → Type 0
 RunsDelaying refused old call (Some ran) before after new =
     (results : List ℕ) × AnswersDelaying refused old call (Some results) ran new × Appends before after results

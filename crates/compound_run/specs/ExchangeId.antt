@@ -1,4 +1,4 @@
--- EXCHANGE_ID (RFC 8881, section 18.35): a client is made known.
+-- EXCHANGE_ID (RFC 8881, section 18.35): a client gets a record.
 use Rattle.std.specs.Prelude.{◌≡◌, ℕ, Bool, false, List, codes, Result}
 use Rattle.std.proofs.Common.{inl}
 use Rattle.std.specs.Int.{w64, from_be_bytes}
@@ -14,7 +14,7 @@ use Rattle.session_slots.specs.declared.exchanging.Exchanged.{Exchanged}
 use Rattle.session_slots.specs.Registry.{confirmed_entry}
 use Rattle.session_slots.specs.Exchanging.{Exchanging, Exchanges, answered_flags}
 use Rattle.compound_run.specs.Realm.{Realm}
-use Rattle.compound_run.specs.Sessions.{has_opens, told_by, with_registry}
+use Rattle.compound_run.specs.Sessions.{has_opens, outcome_from, with_registry}
 
 -- the owner's confirmed record has opens
 abbrev pub owner_has_opens : List ℕ → Realm → Bool
@@ -38,10 +38,10 @@ exchanged e =
     Done kinds.ExchangeId
     (e.client, (e.sequence, (answered_flags e, (inl tt, ((inl tt, inl tt), (SERVER, (SERVER, inl tt)))))))
 
--- A client whose record goes has no opens.
+-- A client whose record is removed has no opens.
 pub record ExchangesId (caller : Identity) (v : Value exchange_id_args) (old : Realm)
     (outcome : Result Outcome Status) (new : Realm) : Type 0 where
   pub given : Result Exchanged Status
   pub exchanges : Exchanges old.registry (exchanging caller v old) given new.registry
-  pub told : outcome ≡ told_by exchanged given
+  pub outcome_is : outcome ≡ outcome_from exchanged given
   pub others : new ≡ with_registry new.registry old

@@ -1,5 +1,5 @@
--- The statuses by which a question of an operation may fail. They aren't OK, nor ACCESS, by which
--- rows fail alone, nor DELAY, which means that memory was refused.
+-- The statuses with which a question of an operation may fail. They are neither OK nor ACCESS, with which rows alone
+-- fail. They aren't DELAY either, which means that an allocation failed.
 use Rattle.std.specs.Prelude.{Option, Some, None, Result, Ok, Err}
 use Rattle.nfs_types.specs.declared.status.Status.{Status}
 use Rattle.nfs_types.specs.declared.status.Status.TheVariants as statuses
@@ -10,7 +10,7 @@ IsFault statuses.Access = ⊥
 IsFault statuses.Delay = ⊥
 IsFault _ = Unit {0}
 
--- there is no fault, or it is one of these
+-- there is no fault, or it is one of these statuses
 abbrev pub MayFault : Option Status → Type 0
 MayFault None = Unit {0}
 MayFault (Some status) = IsFault status

@@ -1,4 +1,4 @@
--- A call where sessions are in use: it is refused, repeated or run (RFC 8881, sections 2.10.6 and 16.2).
+-- A call with sessions: it is refused, is a retry, or is run (RFC 8881, sections 2.10.6 and 16.2).
 use Rattle.std.specs.Prelude.{◌≡◌, ◌≤◌, ℕ, Bool, ◌-◌, List, [], ◌∷◌, length, Option, Some, None, Result, Err}
 use Rattle.xdr_wire.specs.Reading.{read_at}
 use Rattle.xdr_wire.specs.Xdr.{Value}
@@ -16,7 +16,7 @@ use Rattle.session_slots.specs.declared.session.Begin.{Begin}
 use Rattle.session_slots.specs.declared.session.Begin.TheVariants as begins
 use Rattle.session_slots.specs.declared.session.NewCall.{NewCall}
 use Rattle.session_slots.specs.Registry.{Registry, results_at}
-use Rattle.session_slots.specs.Repeating.{Fate, Runs, Repeats, Fails, AnswersBy}
+use Rattle.session_slots.specs.Retrying.{Fate, Runs, Retries, Fails, AnswersBy}
 use Rattle.session_slots.specs.Sequencing.{Asked, sequence_begin, sequence_begun}
 use Rattle.compound_run.specs.Limits.{REPLY_HEADER}
 use Rattle.compound_run.specs.Realm.{Realm}
@@ -25,15 +25,15 @@ use Rattle.compound_run.specs.Runs as runs
 use Rattle.compound_run.specs.Runs.{Point, Given}
 use Rattle.compound_run.specs.Compound.{Series, args_form, args_in, head, series, together}
 use Rattle.compound_run.specs.State.{State, Call, start, left}
-use Rattle.compound_run.specs.Sessions.{session_of, told_by, with_registry}
+use Rattle.compound_run.specs.Sessions.{session_of, outcome_from, with_registry}
 use Rattle.compound_run.specs.Beginning.{Beginning, Ends, Refuses, Acts, Follows, beginning}
 use Rattle.compound_run.specs.ExchangeId.{ExchangesId}
 use Rattle.compound_run.specs.CreateSession.{CreatesSession, created_before, session_made}
 use Rattle.compound_run.specs.DestroySession.{DestroysSession}
 use Rattle.compound_run.specs.DestroyClientid.{DestroysClient}
-use Rattle.compound_run.specs.Sequence.{asked_by, calling_by, compared, room_behind, sequence_done, keeping}
+use Rattle.compound_run.specs.Sequence.{asked_by, calling_by, compared, room_after_sequence, sequence_done, keeping}
 
--- the bytes of a reply; none: the arguments are garbage
+-- the bytes of a reply, or none if the arguments are garbage
 abbrev pub Reply : Type 0
 Reply = Option (List ℕ)
 
@@ -44,7 +44,7 @@ given_alone tag number outcome = together tag (record { number = number; outcome
 abbrev pub refused_alone : List ℕ → ℕ → Status → List ℕ
 refused_alone tag number status = given_alone tag number (Err status)
 
--- ---- operations that have to be the only one of their COMPOUND
+-- ---- operations that must be the only one of their COMPOUND
 
 abbrev pub ActsAlone : Identity → Operation → Realm → Result Outcome Status → Realm → Type 0
 ActsAlone caller (Known kinds.ExchangeId v) old outcome new = ExchangesId caller v old outcome new
@@ -61,7 +61,7 @@ ActsTo caller op tag old bytes new =
 
 -- ---- operations after a SEQUENCE
 
--- The operations are run in turn, and their results are put after that of SEQUENCE.
+-- The operations run in turn, and their results follow that of SEQUENCE.
 abbrev pub RunsTo : Series → Given → Point → List ℕ → Point → Type 0
 RunsTo s given old bytes new =
     (results : List Given)
@@ -72,7 +72,7 @@ RunsTo s given old bytes new =
 abbrev pub in_registry : Registry → State → State
 in_registry registry s = record s { realm = with_registry registry s.realm }
 
--- the arguments of this SEQUENCE, of a call of this many operations, with the bytes of those after it
+-- the request of this SEQUENCE, in a call with this operation count and these bytes after SEQUENCE
 abbrev pub asked_in : Bool → Call → ℕ → Value sequence_args → List ℕ → Asked
 asked_in lasting call count v operations =
     asked_by v count call.record_len call.caller (compared lasting call.arguments (length operations))
@@ -86,19 +86,19 @@ begun_in r call count v operations =
     sequence_begun r.registry (session_of (sequence_session v)) (asked_in r.lasting call count v operations)
 
 -- the context of the first operation after SEQUENCE
-abbrev pub context_behind : State → Call → List ℕ → ℕ → Value sequence_args → NewCall → Context
-context_behind s call tag count v new = record {
+abbrev pub call_context_after_sequence : State → Call → List ℕ → ℕ → Value sequence_args → NewCall → Context
+call_context_after_sequence s call tag count v new = record {
   caller = member s.settings.book call.caller;
   now = call.now;
   book = s.settings.book;
   calling = Some (calling_by v new);
   position = 1;
   count = count;
-  room = room_behind tag v new;
+  room = room_after_sequence tag v new;
 }
 
--- a call that begins with a SEQUENCE: its tag, how many operations it has, the arguments of SEQUENCE, and the bytes of
--- those after it
+-- a call that begins with a SEQUENCE: its tag, its operation count, the arguments of SEQUENCE, and the bytes of the
+-- operations after it
 pub record Sequenced : Type 0 where
   pub call : Call
   pub tag : List ℕ
@@ -110,35 +110,35 @@ abbrev pub sequenced : Call → List ℕ → ℕ → Value sequence_args → Lis
 sequenced call tag count v operations =
     record { call = call; tag = tag; count = count; sequence = v; operations = operations }
 
--- The operations are run in the realm after the beginning of the call, and at the end its slot
--- keeps all results. They are no more than a reply of the granted size may have.
+-- The operations run in the realm after SEQUENCE has begun the call. At the end its slot caches all results. They are
+-- no more than a reply of the granted size may have.
 abbrev pub RunsOnSlot : State → Sequenced → NewCall → List ℕ → State → Type 0
 RunsOnSlot old c granted bytes new =
     (end : Point)
-    × RunsTo (series c.tag (context_behind old c.call c.tag c.count c.sequence granted) c.operations)
+    × RunsTo (series c.tag (call_context_after_sequence old c.call c.tag c.count c.sequence granted) c.operations)
     (sequence_done c.sequence granted.highest_slot)
     (start (in_registry (begun_in old.realm c.call c.count c.sequence c.operations) old)) bytes end
     × (new ≡ in_registry (keeping c.sequence bytes end.realm.registry) (left old end))
     × (length bytes ≤ granted.reply_size - REPLY_HEADER)
 
--- ---- the fate of a call, which is known before any operation is run
+-- ---- the fate of a call, which is known before any operation runs
 
--- a CREATE_SESSION with the sequence ID of the last one gets the kept result
+-- a CREATE_SESSION with the sequence ID of the last one gets the cached result
 abbrev pub again : List ℕ → Option (Result Created Status) → Fate Reply
 again tag None = Runs
-again tag (Some kept) = Repeats (Some (given_alone tag (row kinds.CreateSession).number (told_by session_made kept)))
+again tag (Some kept) = Retries (Some (given_alone tag (row kinds.CreateSession).number (outcome_from session_made kept)))
 
 abbrev pub fate_alone : List ℕ → Operation → Realm → Fate Reply
 fate_alone tag (Known kinds.CreateSession v) r = again tag (created_before v r)
 fate_alone tag _ r = Runs
 
--- a call that repeats the last call of its slot gets the results that are kept
+-- a retry of the last call of its slot gets the cached reply
 abbrev pub fate_by : List ℕ → Value sequence_args → Registry → Begin → Fate Reply
 fate_by tag v r (begins.New new) = Runs
-fate_by tag v r begins.Repeat = Repeats (Some (results_at r (session_of (sequence_session v)) (sequence_slot v)))
+fate_by tag v r begins.Repeat = Retries (Some (results_at r (session_of (sequence_session v)) (sequence_slot v)))
 fate_by tag v r (begins.Refused status) = Fails (Some (refused_alone tag (row kinds.Sequence).number status))
 
--- a COMPOUND of no operation is answered without a result, as a COMPOUND that is refused before its first operation
+-- A COMPOUND without operations is answered without a result. So is one that is refused before its first operation.
 abbrev pub fate_begun : State → Call → List ℕ → ℕ → Beginning → Fate Reply
 fate_begun s call tag count (Ends status) = Fails (Some (head status tag 0))
 fate_begun s call tag count (Refuses number status) = Fails (Some (refused_alone tag number status))
@@ -183,6 +183,6 @@ RunsCall call old reply new = RunsOf call (args_in (read_at args_form call.argum
 
 -- ---- the answer
 
--- a call may have this reply, and leave the server so: a refusal and a repeat change nothing
+-- A call may have this reply and end in this state. A refusal and a retry change nothing.
 abbrev pub AnswersInSession : State → Call → Reply → State → Type 0
 AnswersInSession old call reply new = AnswersBy RunsCall (fate old call) call old reply new

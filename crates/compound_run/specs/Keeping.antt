@@ -1,7 +1,7 @@
--- The calls that a server keeps over a restart (RFC 8881, section 2.10.6.5). A call is kept where an
--- operation of it that changes anything was OK, where it made, changed or ended a client or a
--- session, and where the number of its slot passes a multiple of 2^20. A call that isn't kept has
--- changed nothing but its slot.
+-- The calls that a server logs, to replay them after a restart (RFC 8881, section 2.10.6.5). A call is logged in three
+-- cases. One of its operations that can change state was OK. It created, changed or removed a client or a session. Or
+-- it took the sequence ID of its slot past a multiple of 2^20. A call that isn't logged has changed nothing but its
+-- slot.
 use Rattle.std.specs.Prelude.{ℕ, ◌==◌, ◌&&◌, ◌||◌, Bool, true, false, List, [], ◌∷◌, Option, Some, None}
 use Rattle.std.specs.Prelude.{Result, Ok, Err}
 use Rattle.std.specs.List.{list_any}
@@ -18,7 +18,7 @@ use Rattle.session_slots.specs.declared.session.Begin.{Begin}
 use Rattle.session_slots.specs.declared.session.Begin.TheVariants as begins
 use Rattle.session_slots.specs.declared.session.NewCall.{NewCall}
 use Rattle.session_slots.specs.Keeping.{last_at, passes}
-use Rattle.session_slots.specs.Orderly.{is_kept_refusal}
+use Rattle.session_slots.specs.Orderly.{is_cached_refusal}
 use Rattle.compound_run.specs.Compound.{args_form, args_in}
 use Rattle.compound_run.specs.Runs.{Given}
 use Rattle.compound_run.specs.State.{State, Call}
@@ -29,7 +29,7 @@ use Rattle.compound_run.specs.InSession.{begin_in, sequenced}
 
 -- ---- operations after a SEQUENCE
 
--- the operations that change something where they are OK
+-- the operations that can change state when they are OK
 abbrev pub changing : List OpKind
 changing =
     kinds.Close ∷ kinds.Create ∷ kinds.Link ∷ kinds.Open ∷ kinds.Remove ∷ kinds.Rename ∷ kinds.SetAttr ∷ kinds.Write
@@ -47,7 +47,7 @@ is_change given = is_done given.outcome && is_changing given.number
 
 abbrev pub keeps_on_slot : (old : State) (c : Sequenced) (granted : NewCall) (bytes : List ℕ) (new : State)
     → RunsOnSlot old c granted bytes new → Bool
-keeps_on_slot old c granted bytes new (end, (results, runs, told), left, few) =
+keeps_on_slot old c granted bytes new (end, (results, runs, answer), left, few) =
     list_any is_change results
     || passes (last_at old.realm.registry (session_of (sequence_session c.sequence)) (sequence_slot c.sequence))
     (sequence_number c.sequence)
@@ -56,7 +56,7 @@ keeps_on_slot old c granted bytes new (end, (results, runs, told), left, few) =
 
 abbrev pub keeps_alone : Operation → Result Outcome Status → Bool
 keeps_alone op (Ok outcome) = true
-keeps_alone (Known kinds.CreateSession v) (Err status) = is_kept_refusal status
+keeps_alone (Known kinds.CreateSession v) (Err status) = is_cached_refusal status
 keeps_alone op (Err status) = false
 
 -- ---- a call that is run
@@ -69,7 +69,7 @@ keeps_by (begins.Refused status) c old bytes new runs = false
 
 abbrev pub keeps_only : (call : Call) (tag : List ℕ) (op : Operation) (old : State) (bytes : List ℕ) (new : State)
     → RunsAlone call tag op old bytes new → Bool
-keeps_only call tag op old bytes new ((outcome, acts, told), others) = keeps_alone op outcome
+keeps_only call tag op old bytes new ((outcome, acts, answer), others) = keeps_alone op outcome
 
 abbrev pub keeps_begun : (call : Call) (tag : List ℕ) (count : ℕ) (b : Beginning) (old : State) (bytes : List ℕ)
     (new : State) → RunsBegun call tag count b old bytes new → Bool
@@ -86,7 +86,7 @@ keeps_of call (Some ((tag, (minor, count)), operations)) old None new runs = fal
 keeps_of call (Some ((tag, (minor, count)), operations)) old (Some bytes) new runs =
     keeps_begun call tag count (beginning minor count operations) old bytes new runs
 
--- a call that is run so is kept
+-- whether this run of a call is logged
 unfoldable pub keeps : (call : Call) (old : State) (reply : Reply) (new : State) → RunsCall call old reply new → Bool
 unfolding RunsCall
 keeps call old reply new runs = keeps_of call (args_in (read_at args_form call.arguments)) old reply new runs

@@ -13,17 +13,14 @@ pub mod Rows
 pub mod Values
 pub mod Stateids
 pub mod Sessions
-pub mod Known
+pub mod ClientState
 pub mod Operations
 pub mod Runs
-pub mod Telling
+pub mod AnswerOf
 pub mod Compound
 pub mod State
 pub mod Views
-pub mod Permits
 pub mod Asking
-pub mod GivenViews
-pub mod Listed
 pub mod Opening
 pub mod Exact
 pub mod ExchangeId
@@ -41,3 +38,4 @@ pub mod Recorded
 pub mod Delaying
 pub mod Written
 pub mod SessionViews
+pub mod internal

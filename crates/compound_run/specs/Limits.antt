@@ -1,4 +1,4 @@
--- The limits of a COMPOUND (RFC 8881, sections 2.10.6 and 16.2), in bytes where no other unit is given.
+-- The limits of a COMPOUND (RFC 8881, sections 2.10.6 and 16.2), in bytes unless another unit is given.
 use Rattle.std.specs.Prelude.{ℕ, ◌-◌}
 
 -- the most bytes of a tag
@@ -9,11 +9,11 @@ MAX_TAG = 1024
 abbrev pub MINOR_VERSION : ℕ
 MINOR_VERSION = 1
 
--- the most operations that a COMPOUND may have where there is no session
+-- the most operations that a COMPOUND without a session may have
 abbrev pub MAX_OPERATIONS : ℕ
 MAX_OPERATIONS = 16
 
--- the most bytes of a reply where there is no session, its record's mark not counted
+-- the most bytes of a reply without a session, not counting its record mark
 abbrev pub MAX_REPLY : ℕ
 MAX_REPLY = 65536
 
@@ -29,7 +29,7 @@ MAX_RESULTS = MAX_REPLY - REPLY_HEADER
 abbrev pub MIN_ROOM : ℕ
 MIN_ROOM = 256
 
--- the room of each reply for the result of an operation that is refused
+-- the room that each reply reserves for the result of a refused operation
 abbrev pub REFUSAL_ROOM : ℕ
 REFUSAL_ROOM = 16
 

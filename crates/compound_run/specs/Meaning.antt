@@ -29,10 +29,10 @@ use Rattle.compound_run.specs.Questions.{Question, Holds, is_valid}
 pub record Meaning : Type 0 where
   -- the number of the operation, for its lines
   pub number : ℕ
-  -- the caller, for whom the lists decide
+  -- the caller, for whom access control lists (ACLs) are evaluated
   pub caller : Identity
   pub questions : List Question
-  -- the result where the operation is OK
+  -- the result if the operation is OK
   pub answer : Sight → Outcome
   -- the realm after it
   pub effect : Realm → Realm
@@ -41,7 +41,7 @@ pub record Meaning : Type 0 where
 
 -- ---- effects
 
--- the realm stays
+-- the realm is unchanged
 abbrev pub stays : Realm → Realm
 stays r = r
 
@@ -49,25 +49,25 @@ stays r = r
 abbrev pub in_world : (World → World) → Realm → Realm
 in_world f r = record r { world = f r.world }
 
--- a change that is made now takes the next tick
+-- a change at this moment takes the next tick
 abbrev pub at : Context → World → At
 at c w = record { tick = w.next_tick; moment = c.now }
 
--- the change of a directory before and after an operation that takes a tick
+-- the change attribute of a directory before and after an operation that takes a tick
 abbrev pub changed : Sight → ℕ → Value change_info
 changed s directory = (inl tt, (s.changes directory, s.next_tick))
 
--- the change of a directory that an operation without a tick leaves
+-- the change attribute of a directory before and after an operation that takes no tick
 abbrev pub unchanged : Sight → ℕ → Value change_info
 unchanged s directory = (inl tt, (s.changes directory, s.changes directory))
 
 -- ---- filehandles
 
--- the number of the object of a filehandle
+-- the object number of a filehandle
 abbrev pub number_in : Option ℕ → ℕ
 number_in handle = unwrap_or handle 0
 
--- the number of the object of the current filehandle, and of the saved one
+-- the object numbers of the current filehandle and of the saved one
 abbrev pub here : FileHandles → ℕ
 here h = number_in h.current
 
@@ -81,11 +81,11 @@ is_set handle = Holds (λ s. is_some handle) statuses.NoFileHandle tt
 abbrev pub is_live : Option ℕ → Question
 is_live handle = Holds (λ s. is_some (s.kinds (number_in handle))) statuses.Stale tt
 
--- these questions after those of a filehandle
+-- the questions of a filehandle, then these
 abbrev pub with_handle : Option ℕ → List Question → List Question
 with_handle handle questions = is_set handle ∷ is_live handle ∷ questions
 
--- ---- kinds
+-- ---- types of objects
 
 abbrev pub is_link : Kind → Bool
 is_link File = false
@@ -130,7 +130,7 @@ has_tick = Holds (λ s. has_left s.next_tick) statuses.NoSpc tt
 
 -- ---- room
 
--- a result for which there is no room is too big for the reply, or for a reply that is to be cached
+-- a result for which there is no room is too big for the reply, or too big for a reply that is to be cached
 abbrev pub too_big_for : Option Calling → Status
 too_big_for None = statuses.RepTooBig
 too_big_for (Some calling) = if calling.keeps_reply then statuses.RepTooBigToCache else statuses.RepTooBig
@@ -143,13 +143,13 @@ too_big_may (Some calling) = of calling.keeps_reply
     of true = tt
     of false = tt
 
--- there is room for a result of this many bytes
+-- there is room for a result of this size
 abbrev pub has_room : Context → (Sight → ℕ) → Question
 has_room c size = Holds (λ s. nat_le (size s) c.room) (too_big_for c.calling) (too_big_may c.calling)
 
 -- ---- meanings
 
--- an operation that is refused whatever the realm is
+-- an operation that is refused in any realm
 abbrev pub refusing : Context → FileHandles → ℕ → (status : Status) → IsFault status → Meaning
 refusing c h number status is = record {
   number = number;

@@ -1,5 +1,5 @@
--- The opening of a file by the code.
-use Rattle.std.specs.Prelude.{◌≡◌, ◌≤◌, ◌<◌, ◌+◌, ◌^◌, ℕ, ◌==◌, if◌then◌else◌, bit_or, List, [], ◌∷◌, ◌++◌, length}
+-- How the code opens a file.
+use Rattle.std.specs.Prelude.{◌≡◌, ◌≤◌, ◌<◌, ◌+◌, ◌^◌, ℕ, List, [], ◌∷◌, ◌++◌, length}
 use Rattle.std.specs.Prelude.{unwrap_or, Option, Some, None}
 use Rattle.xdr_wire.specs.Xdr.{Value}
 use Rattle.rpc_record.specs.Identity.{Identity}
@@ -18,7 +18,6 @@ use Rattle.compound_run.specs.Lists.{new_list}
 use Rattle.compound_run.specs.Meaning.{here}
 use Rattle.nfs_types.specs.Forms.{stateid}
 use Rattle.nfs_types.specs.StateIds.{open_stateid}
-use Rattle.compound_run.specs.declared.opens.Open.{Open}
 use Rattle.compound_run.specs.declared.opens.Place.{Place}
 use Rattle.compound_run.specs.declared.opens.Place.TheVariants as places
 use Rattle.compound_run.specs.Realm.{Realm, Opened}
@@ -26,19 +25,14 @@ use Rattle.compound_run.specs.Context.{Context}
 use Rattle.compound_run.specs.Stateids.{client_of}
 use Rattle.compound_run.specs.Operations.Open.{risen, with_reopened}
 
--- an open that is opened again, if it has this number
-abbrev pub reopened_by : {A : Type 0} → ℕ → ℕ → Open A → Open A
-reopened_by number access o =
-    if o.number == number then record o { access = bit_or o.access access; seqid = risen o.seqid } else o
-
--- the place of an open of these owner's bytes, which joins this open, or none
+-- the place of an open by the owner with these bytes: the open that it joins, or a new one
 abbrev pub IsPlace : {A : Type 0} → List ℕ → Option Opened → Place A → Type 0
 IsPlace owner (Some o) (places.Again number seqid) = (number ≡ o.number) × (seqid ≡ o.seqid)
 IsPlace owner (Some o) (places.New bytes) = ⊥
 IsPlace owner None (places.Again number seqid) = ⊥
 IsPlace owner None (places.New bytes) = bytes.items ≡ owner
 
--- there is room for the open, beside `len` opens in room for `capacity`, with this next number
+-- there is memory for the open, beside `len` opens and with a capacity of `capacity`, with this next number
 abbrev pub HasPlace : {A : Type 0} → (next len capacity : ℕ) → Place A → Type 0
 HasPlace next len capacity (places.Again number seqid) = Unit {0}
 HasPlace next len capacity (places.New bytes) = (next < 2 ^ 63) × (len + 1 ≤ capacity)
@@ -79,12 +73,7 @@ pub record MakesFile {A : Type 0} (caller : Identity) (parent : List Entry) (wan
   pub bounded : IsBounded new.list
   pub short : length new.bytes.items ≤ most_bytes File
 
--- by name the change is the directory's, by filehandle 0
+-- by name the change attribute is the directory's, by filehandle it is 0
 abbrev pub IsBefore : Claim → Sight → FileHandles → ℕ → Type 0
 IsBefore (ByName name) s h before = s.changes (here h) ≡ before
 IsBefore ByHandle s h before = 0 ≡ before
-
--- a condition for an OPEN by name alone
-abbrev pub IfByName : Claim → Type 0 → Type 0
-IfByName (ByName name) P = P
-IfByName ByHandle P = Unit {0}

@@ -1,7 +1,6 @@
--- The meaning of each operation at its place (RFC 8881, section 18): a line for each that is
--- supported, in the order of the standard. Others answer NOTSUPP once they are read, and so do the
--- operations of sessions where there is none. Of these RECLAIM_COMPLETE alone runs after a
--- SEQUENCE.
+-- The meaning of each operation at its place (RFC 8881, section 18): one line for each supported operation, in the
+-- order of the standard. The other operations answer NOTSUPP once they are decoded. So do the operations of sessions
+-- without a session. Of these RECLAIM_COMPLETE alone runs after a SEQUENCE.
 pub mod Access
 pub mod Close
 pub mod Commit
@@ -68,9 +67,8 @@ use Rattle.compound_run.specs.Operations.ReclaimComplete.{reclaim_complete}
 
 -- ---- place
 
--- The fault of an operation by its place. Where there is no session the operations of sessions
--- aren't supported. After a SEQUENCE there is no place for a further one, nor for an operation that
--- has to be the only one of its COMPOUND.
+-- The fault of an operation by its place. Without a session the operations of sessions aren't supported. After a
+-- SEQUENCE there is no place for another SEQUENCE, nor for an operation that must be the only one of its COMPOUND.
 abbrev pub refused_place : Option Calling → Placement → Option Status
 refused_place calling Anywhere = None
 refused_place None InSession = Some statuses.NotSupp
@@ -80,7 +78,7 @@ refused_place (Some calling) InSession = None
 refused_place (Some calling) First = Some statuses.SequencePos
 refused_place (Some calling) Alone = Some statuses.NotOnlyOp
 
--- an entry that is no operation has no place, and no fault of it
+-- an operation without a place has no fault of its place
 abbrev pub refused_at : Option Calling → Option Placement → Option Status
 refused_at calling None = None
 refused_at calling (Some placement) = refused_place calling placement
@@ -106,7 +104,7 @@ place_may c op = of c.calling (placement_of op)
 
 -- ---- room
 
--- whether an operation of this place is run among others
+-- whether an operation of this place runs among others
 abbrev pub runs_at : Option Placement → Bool
 runs_at None = false
 runs_at (Some Anywhere) = true
@@ -114,11 +112,11 @@ runs_at (Some InSession) = true
 runs_at (Some First) = false
 runs_at (Some Alone) = false
 
--- whether the operation is run among others: it needs room for its result
+-- whether the operation runs among others, and so needs room for its result
 abbrev pub is_run : Operation → Bool
 is_run op = runs_at (placement_of op)
 
--- An unsupported operation, or an entry that is no operation, is refused whatever the room.
+-- An operation that isn't supported, is illegal or can't be decoded is refused whatever the room is.
 abbrev pub room_fault_in : Option Calling → ℕ → Operation → Option Status
 room_fault_in calling room op = if is_run op && nat_lt room MIN_ROOM then Some (too_big_for calling) else None
 
@@ -184,15 +182,13 @@ meaning c h op = entered (entry_fault c op) (entry_may c op) (body c h op)
 
 -- ---- memory
 
--- Of the supported operations CREATE, LINK, NVERIFY, OPEN, RENAME, SETATTR, VERIFY and WRITE take
--- memory, which may be refused.
+-- Of the supported operations CREATE, LINK, NVERIFY, OPEN, RENAME, SETATTR, VERIFY and WRITE allocate memory, which may
+-- fail.
 abbrev pub takes_memory : Operation → Bool
 takes_memory (Known k v) = (row k).delays && is_run (Known k v)
 takes_memory _ = false
 
-abbrev pub takes_memory_in : Context → Operation → Bool
-takes_memory_in c op = takes_memory op
-
--- Once it has its place and its room an operation that takes memory may answer DELAY, and no other ever does.
+-- Once it has its place and its room, an operation that allocates memory may answer DELAY. No other operation ever
+-- does.
 abbrev pub may_delay : Context → Operation → Bool
 may_delay c op = takes_memory op && is_none (entry_fault c op)

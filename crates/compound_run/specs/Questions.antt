@@ -1,6 +1,6 @@
--- An operation puts its questions in order. Its outcome is the status of the first that fails, else
--- OK. The decisions of its rows write lines into the trail, up to and with the first that is
--- refused (RFC 8881, sections 6.2.1 and 18).
+-- An operation evaluates its questions in order. Its outcome is the status of the first question that fails, else OK.
+-- The decisions of its rows write lines into the trail, up to and including the first refusal (RFC 8881, sections 6.2.1
+-- and 18).
 use Rattle.std.specs.Prelude.{ℕ, Bool, true, ◌&&◌, if◌then◌else◌, List, [], ◌∷◌, ◌++◌, Option, Some, None, Result, Ok}
 use Rattle.std.specs.Prelude.{Err}
 use Rattle.rpc_record.specs.Identity.{Identity}
@@ -17,11 +17,11 @@ use Rattle.compound_run.specs.Sight.{Sight}
 pub data Question : Type 0 where
   -- the test holds, or the outcome is this status
   Holds : (Sight → Bool) → (status : Status) → IsFault status → Question
-  -- the arguments and the sight of them are without a fault, or the outcome is the fault
+  -- the arguments have no fault in this sight, or the outcome is the fault
   Valid : (fault : Sight → Option Status) → ((s : Sight) → MayFault (fault s)) → Question
-  -- the lists grant these demands, each where there is one, or the outcome is ACCESS
+  -- the access control lists (ACLs) grant each demand that is present, or the outcome is ACCESS
   Row : (Sight → List (Option Demand)) → Question
-  -- where the test holds no further question is put, and the outcome is OK
+  -- if the test holds, no further question is evaluated, and the outcome is OK
   Suffices : (Sight → Bool) → Question
 
 -- a fault of the arguments alone, of the place or of the room
@@ -42,7 +42,7 @@ failure caller s (Row demands ∷ questions) =
     if all_granted s.lists caller (demands s) then failure caller s questions else Some statuses.Access
 failure caller s (Suffices test ∷ questions) = if test s then None else failure caller s questions
 
--- the lines of demands, up to and with the first that is refused
+-- the lines of demands, up to and including the first refusal
 abbrev pub demand_lines : Lists → Identity → ℕ → List (Option Demand) → List Line
 demand_lines lists caller op [] = []
 demand_lines lists caller op (None ∷ demands) = demand_lines lists caller op demands
@@ -50,7 +50,7 @@ demand_lines lists caller op (Some d ∷ demands) =
     lines lists caller op d
     ++ (if is_granted (decision lists caller d) then demand_lines lists caller op demands else [])
 
--- lines where there is no fault
+-- these lines if there is no fault, else none
 abbrev pub lines_unless : Option Status → List Line → List Line
 lines_unless None lines = lines
 lines_unless (Some status) lines = []
@@ -66,6 +66,6 @@ trace caller op s (Row demands ∷ questions) =
 trace caller op s (Suffices test ∷ questions) = if test s then [] else trace caller op s questions
 
 -- the answer: the result, or the status of a refusal
-abbrev pub told : {R : Type 0} → Option Status → R → Result R Status
-told None result = Ok result
-told (Some status) result = Err status
+abbrev pub result_unless : {R : Type 0} → Option Status → R → Result R Status
+result_unless None result = Ok result
+result_unless (Some status) result = Err status

@@ -6,13 +6,13 @@ use Rattle.session_slots.specs.Registry.{Registry, nobody}
 -- an open file (RFC 8881, section 18.16)
 pub record Opened : Type 0 where
   pub number : ℕ
-  -- the number of the client that has it open
+  -- the client ID of the client that has it open
   pub client : ℕ
   -- the bytes of the open-owner
   pub owner : List ℕ
-  -- the number of the file
+  -- the object number of the file
   pub object : ℕ
-  -- to read 1, to write 2, for both 3
+  -- 1 to read, 2 to write, 3 for both
   pub access : ℕ
   pub seqid : ℕ
 
@@ -24,17 +24,17 @@ pub record Realm : Type 0 where
   pub next_open : ℕ
   -- the clients and their sessions
   pub registry : Registry
-  -- sessions outlive a restart of this server (RFC 8881, section 2.10.6.5)
+  -- sessions are persistent: they survive a restart of this server (RFC 8881, section 2.10.6.5)
   pub lasting : Bool
 
--- a world in which no file was ever open, and no client ever known, and nothing outlives a restart
+-- no file was ever open, no client ever had a record, and sessions aren't persistent
 abbrev pub unopened : World → Realm
 unopened w = record { world = w; opens = []; next_open = 1; registry = nobody; lasting = false }
 
 -- ---- opens end with their object
 
--- An object that has lost its last name is gone, and its opens are closed. These opens are left in
--- a world where this object has lost a name.
+-- An object that has lost its last name is gone, and its opens are closed. These opens remain in a world where this
+-- object has lost a name.
 abbrev pub opens_left : World → Option ℕ → List Opened → List Opened
 opens_left w None opens = opens
 opens_left w (Some number) opens =

@@ -1,11 +1,10 @@
--- A call that was kept is run again as a server starts (RFC 8881, section 2.10.6.5). Its slot may
--- have accepted calls before it that weren't kept. So it lags: the call is new where its number is 1
--- to 2^20 ahead.
+-- A logged call is replayed when a server starts (RFC 8881, section 2.10.6.5). Its slot may have accepted earlier calls
+-- that weren't logged, so it lags. The call is new if its sequence ID is 1 to 2^20 ahead.
 use Rattle.std.specs.Prelude.{◌≡◌, ◌<◌, ◌^◌, ℕ, List, Option, Some, None}
 use Rattle.xdr_wire.specs.Reading.{read_at}
 use Rattle.xdr_wire.specs.Xdr.{Value}
 use Rattle.nfs_ops.specs.Parts.{sequence_session, sequence_number, sequence_slot}
-use Rattle.session_slots.specs.Repeating.{Runs}
+use Rattle.session_slots.specs.Retrying.{Runs}
 use Rattle.session_slots.specs.Covering.{lagging_at}
 use Rattle.compound_run.specs.Compound.{args_form, args_in}
 use Rattle.compound_run.specs.State.{State, Call}
@@ -24,16 +23,16 @@ abbrev pub ready_of : Option (Value args_form × List ℕ) → State → State
 ready_of None s = s
 ready_of (Some ((tag, (minor, count)), operations)) s = ready_for (beginning minor count operations) s
 
--- the state in which a call is run again: the slot of its SEQUENCE lags
+-- the state in which a call is replayed: the slot of its SEQUENCE lags
 unfoldable pub ready : Call → State → State
 ready call s = ready_of (args_in (read_at args_form call.arguments)) s
 
--- a call is new in this state, and is run again
+-- a call is new in this state, and runs again
 pub record Replays (call : Call) (old : State) (reply : Reply) (new : State) : Type 0 where
   pub fate : fate (ready call old) call ≡ Runs
   pub runs : RunsCall call (ready call old) reply new
 
--- ---- a sequence ID is a number of 32 bits, as the bytes of a call have it
+-- ---- the sequence ID that a call encodes is a number of 32 bits
 
 abbrev pub IsNumberedFor : Beginning → Type 0
 IsNumberedFor (Ends status) = Unit {0}

@@ -1,5 +1,5 @@
--- The facts of the realm for the table of demands, and so the demands of an operation at its place
--- (RFC 8881, sections 6.2.1.3 and 18).
+-- The facts of the realm for the table of demands, and from them the demands of an operation at its place (RFC 8881,
+-- sections 6.2.1.3 and 18).
 use Rattle.std.specs.Prelude.{ℕ, ◌*◌, Option, Some, None}
 use Rattle.std.specs.Option.{option_map}
 use Rattle.acl_shape.specs.declared.bounds.TheConstants.{MAX_ENTRIES}
@@ -12,7 +12,7 @@ use Rattle.compound_run.specs.declared.filehandles.FileHandles.{FileHandles}
 use Rattle.compound_run.specs.Sight.{Sight}
 use Rattle.compound_run.specs.Questions.{Question, Row}
 
--- the object of a number, if it is there
+-- the object of a number, if it exists
 abbrev pub object_of : Sight → Option ℕ → Option Object
 object_of s None = None
 object_of s (Some number) = option_map (λ kind. record { number = number; kind = kind }) (s.kinds number)
@@ -25,8 +25,8 @@ first_facts s h = record { current = object_of s h.current; saved = object_of s 
 abbrev pub sized_facts : Sight → FileHandles → Option ℕ → First
 sized_facts s h new_size = record (first_facts s h) { size = option_map s.sizes h.current; new_size = new_size }
 
--- The facts that are known once the names are looked up: the child of the name, and the target of
--- the new name of a RENAME.
+-- The facts that are known after the names are looked up. They are the child of the name, and the target of the new
+-- name of a RENAME.
 abbrev pub second_facts : Sight → FileHandles → Option ℕ → Option ℕ → Second
 second_facts s h child replaced = record {
   current = object_of s h.current;
@@ -36,11 +36,11 @@ second_facts s h child replaced = record {
   new_size = None;
 }
 
--- the facts of OPEN: the existing file, if there is one, and the size that is to be set
+-- the facts of OPEN: the existing file, if there is one, and the size to be set
 abbrev pub opening_facts : Sight → FileHandles → Option ℕ → Option ℕ → Second
 opening_facts s h file new_size = record (second_facts s h file None) { new_size = new_size }
 
--- the first demands of an operation, and its demands once its names are looked up
+-- the first demands of an operation, and its demands after its names are looked up
 abbrev pub first_row : FileHandles → Operation → Question
 first_row h op = Row (λ s. first_demands op (first_facts s h))
 

@@ -17,7 +17,7 @@ use Rattle.compound_run.specs.Runs.{Given, result_bytes}
 use Rattle.compound_run.specs.Compound.{first_room}
 use Rattle.compound_run.specs.Sessions.{session_of}
 
--- the request on a slot: this many operations, in a record of this many bytes, and what its repeat has to have
+-- the request on a slot: its operation count, the bytes of its record, and the bytes that a retry must have
 abbrev pub asked_by : Value sequence_args → ℕ → ℕ → Identity → List ℕ → Asked
 asked_by v count record_len caller arguments = record {
   slot = sequence_slot v;
@@ -27,14 +27,13 @@ asked_by v count record_len caller arguments = record {
   call = record { number = sequence_number v; caller = caller; arguments = arguments };
 }
 
--- The bytes that a repeat of a call has to have, of those after its header: all. Where sessions
--- outlive a restart they are all but sa_highest_slotid, since a client may send a call again with
--- another one (RFC 8881, section 18.46.3). It stands before sa_cachethis and the bytes of the
--- operations after SEQUENCE, which are this many.
+-- The bytes that a retry of a call must have, of those after the header: all of them. With persistent sessions they are
+-- all but sa_highest_slotid, since a client may send a call again with another one (RFC 8881, section 18.46.3). That
+-- field is encoded before sa_cachethis and the operations after SEQUENCE, whose byte count is given.
 abbrev pub compared : Bool → List ℕ → ℕ → List ℕ
-compared false arguments behind = arguments
-compared true arguments behind =
-    take (length arguments - behind - 8) arguments ++ drop (length arguments - behind - 4) arguments
+compared false arguments rest = arguments
+compared true arguments rest =
+    take (length arguments - rest - 8) arguments ++ drop (length arguments - rest - 4) arguments
 
 -- The highest slot and the target highest slot are the same. No flag is ever set.
 abbrev pub sequence_given : Value sequence_args → ℕ → Value sequence_result
@@ -49,10 +48,10 @@ abbrev pub calling_by : Value sequence_args → NewCall → Calling
 calling_by v new = record { client = new.client; keeps_reply = keeps_reply v }
 
 -- the room of these operations, in a reply of the granted size
-abbrev pub room_behind : List ℕ → Value sequence_args → NewCall → ℕ
-room_behind tag v new = first_room new.reply_size tag - length (result_bytes (sequence_done v new.highest_slot))
+abbrev pub room_after_sequence : List ℕ → Value sequence_args → NewCall → ℕ
+room_after_sequence tag v new = first_room new.reply_size tag - length (result_bytes (sequence_done v new.highest_slot))
 
--- the results of the call are kept in its slot
+-- the results of the call are cached in its slot
 abbrev pub keeping : Value sequence_args → List ℕ → Registry → Registry
 keeping v results r =
     with_session (session_of (sequence_session v)) (with_place (sequence_slot v) (λ p. finished p results)) r

@@ -4,7 +4,7 @@ use Rattle.who_book.specs.Content.{Content}
 use Rattle.access_guard.specs.Epochs.{FIRST_EPOCH}
 
 pub record Settings : Type 0 where
-  -- the most summaries of lists that are remembered: no answer depends on it
+  -- the most summaries of access control lists that are remembered: no answer depends on it
   pub capacity : ℕ
   -- the book of names, and its epoch, counted from 1
   pub book : Content

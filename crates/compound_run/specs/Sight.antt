@@ -1,7 +1,7 @@
--- An operation's sight of the realm, part by part. The parts that lists govern are there as far as
--- they may be seen. The questions, result and lines of an operation are functions of a sight, so
--- they are defined once for the whole realm and for a caller's view. No operation after a SEQUENCE
--- sees sessions, their slots, or the numbers that the next client and session get.
+-- An operation's sight of the realm, part by part. The parts that access control lists (ACLs) govern are present as far
+-- as they may be seen. The questions, result and lines of an operation are functions of a sight. So they are defined
+-- once for the whole realm and for a caller's view. No operation after a SEQUENCE sees sessions, their slots, or the
+-- numbers of the next client and session.
 use Rattle.std.specs.Prelude.{ℕ, Bool, true, ◌||◌, if◌then◌else◌, List, [], length, unwrap_or, Option, None}
 use Rattle.std.specs.Option.{option_map, option_map_or}
 use Rattle.std.specs.Map.{lookup}
@@ -22,7 +22,7 @@ use Rattle.access_guard.specs.Decisions.{decision, is_granted}
 use Rattle.session_slots.specs.Registry.{Client}
 use Rattle.compound_run.specs.Realm.{Realm, Opened}
 
--- the parts that READ_ATTRIBUTES governs of an object that isn't a directory, and of a directory all but the change
+-- The parts that READ_ATTRIBUTES governs. Of a directory it governs all of them but the change attribute.
 pub record Details : Type 0 where
   pub high : ℕ
   pub change : ℕ
@@ -30,9 +30,9 @@ pub record Details : Type 0 where
   pub time_metadata : Moment
 
 pub record Sight : Type 0 where
-  -- these are seen by all: kinds; how many bytes a file or a link's text has; the list, owner and
-  -- group of an object; how many names an object has; whether a directory has names; the parent of
-  -- a directory; the change of a directory; how many objects there are; the counters;
+  -- Every caller sees these parts. Of an object: its type, its ACL, owner and group, and its name count. Of a file or a
+  -- link's text: the byte count. Of a directory: whether it has names, its parent, and its change attribute. Besides:
+  -- the object count and the counters.
   pub kinds : ℕ → Option Kind
   pub sizes : ℕ → ℕ
   pub lists : Lists
@@ -45,12 +45,12 @@ pub record Sight : Type 0 where
   pub next_tick : ℕ
   pub next_stamp : ℕ
   pub next_cookie : ℕ
-  -- the open files, the clients, and whether their sessions outlive a restart
+  -- the open files, the clients, and whether their sessions are persistent
   pub opens : List Opened
   pub next_open : ℕ
   pub clients : List (ℕ × Client)
   pub lasting : Bool
-  -- the bytes of a file, or the text of a link
+  -- the bytes of a file, or the text of a symbolic link
   pub bytes : ℕ → List ℕ
   -- the names of a directory, by rising cookie
   pub names : ℕ → List Name
@@ -59,11 +59,11 @@ pub record Sight : Type 0 where
 abbrev pub details_of : Object → Details
 details_of o = record { high = o.high; change = o.change; time_modify = o.time_modify; time_metadata = o.time_metadata }
 
--- the change of a directory
+-- the change attribute of a directory
 abbrev pub directory_change : World → ℕ → ℕ
 directory_change w number = option_map_or (λ o. if is_directory o.kind then o.change else 0) (object w number) 0
 
--- the realm, where of each object these bits of a mask are given
+-- the sight of a realm, given which mask bits of each object are granted
 abbrev pub sight : (ℕ → ℕ → Bool) → Realm → Sight
 sight gives r = let w = r.world in record {
   kinds = kind_of w;
@@ -91,7 +91,7 @@ sight gives r = let w = r.world in record {
 abbrev pub whole : Realm → Sight
 whole r = sight (λ number mask. true) r
 
--- whether the list of an object grants the caller these bits
+-- whether the ACL of an object grants the caller these mask bits
 abbrev pub gives : World → Identity → ℕ → ℕ → Bool
 gives w caller number mask = is_granted (decision (judged_of w) caller (Bits number mask))
 
@@ -99,9 +99,9 @@ gives w caller number mask = is_granted (decision (judged_of w) caller (Bits num
 abbrev pub view : Realm → Identity → Sight
 view r caller = sight (gives r.world caller) r
 
--- ---- looks at a sight
+-- ---- parts of a sight
 
--- the kind of an object that is there
+-- the type of an object that exists
 abbrev pub kind_at : Sight → ℕ → Kind
 kind_at s number = unwrap_or (s.kinds number) File
 

@@ -1,5 +1,5 @@
--- The stateid of an operation on the current object. A special stateid serves every file (RFC 8881,
--- section 8.2.3). The stateid of an open serves the client and the object of that open alone.
+-- The stateid of an operation on the current object. A special stateid is valid for every file (RFC 8881, section
+-- 8.2.3). The stateid of an open is valid for the client and the object of that open alone.
 use Rattle.std.specs.Prelude.{ℕ, Bool, true, false, ◌==◌, ◌&&◌, not, nat_lt, if◌then◌else◌, List, find, filter}
 use Rattle.std.specs.Prelude.{Option, Some, None}
 use Rattle.std.specs.Option.{option_map_or}
@@ -18,7 +18,7 @@ use Rattle.compound_run.specs.Sight.{Sight}
 use Rattle.compound_run.specs.Faults.{MayFault, first_fault, first_may}
 use Rattle.compound_run.specs.Questions.{Question, Valid}
 
--- the client whose opens an operation uses; where there is no session all are of client 0
+-- the client whose opens an operation uses; without a session all are of client 0
 abbrev pub client_in : Option Calling → ℕ
 client_in calling = option_map_or (λ calling. calling.client) calling 0
 
@@ -40,7 +40,7 @@ open_at c object id s = named s.opens (client_of c) object (open_of id)
 
 -- ---- the fault of a stateid
 
--- Seqid 0 means the newest. A lower seqid is old, a higher one was never returned.
+-- Seqid 0 means the newest one. A lower seqid is old, and a higher one was never returned.
 abbrev pub seqid_fault : ℕ → Opened → Option Status
 seqid_fault seqid o =
     if seqid == 0 then None
@@ -52,8 +52,8 @@ seqid_fault seqid o =
 abbrev pub mode_fault : (ℕ → Bool) → Opened → Option Status
 mode_fault serves o = if serves o.access then None else Some statuses.OpenMode
 
--- the fault of an open's stateid: there is no such open, the seqid isn't its present one, or it
--- isn't opened for this access
+-- the fault of an open's stateid: there is no such open, the seqid isn't its current one, or the file isn't open for
+-- this access
 abbrev pub open_fault : (ℕ → Bool) → ℕ → Option Opened → Option Status
 open_fault serves seqid None = Some statuses.BadStateId
 open_fault serves seqid (Some o) = first_fault (seqid_fault seqid o) (mode_fault serves o)
@@ -61,13 +61,13 @@ open_fault serves seqid (Some o) = first_fault (seqid_fault seqid o) (mode_fault
 abbrev pub opened_fault : (ℕ → Bool) → Context → ℕ → Value stateid → Sight → Option Status
 opened_fault serves c object id s = open_fault serves id.0 (open_at c object id s)
 
--- whether an open of this access serves the operation's purpose
+-- whether an open with this access permits the operation's purpose
 abbrev pub serves_for : Purpose → ℕ → Bool
 serves_for ToRead access = is_to_read access
 serves_for ToWrite access = is_to_write access
 serves_for ToClose access = true
 
--- a special stateid has no fault, except for closing: it is no open's
+-- A special stateid has no fault, except for CLOSE: it belongs to no open.
 abbrev pub special_fault : Purpose → Option Status
 special_fault ToRead = None
 special_fault ToWrite = None
@@ -124,6 +124,6 @@ has_stateid purpose c object id = Valid (stateid_fault purpose c object id) (sta
 
 -- ---- opens that end
 
--- the opens but that of a number
+-- the opens except that of a number
 abbrev pub without_open : ℕ → List Opened → List Opened
 without_open number opens = filter (λ o. not (o.number == number)) opens

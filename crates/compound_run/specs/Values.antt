@@ -1,5 +1,5 @@
--- The value of each attribute of an object, by the sight of it (RFC 8881, sections 5.6 to 5.8 and
--- 6.2). The values that all objects share, and their spelling, are in the table of attributes.
+-- The value of each attribute of an object, by the sight of it (RFC 8881, sections 5.6 to 5.8 and 6.2). The values that
+-- all objects share, and the encodings, are in the table of attributes.
 use Rattle.std.specs.Prelude.{ℕ, if◌then◌else◌, List, [], unwrap_or, bit_or}
 use Rattle.std.specs.Option.{option_map_or}
 use Rattle.xdr_wire.specs.Xdr.{Value}
@@ -19,11 +19,11 @@ use Rattle.compound_run.specs.Sight.{Sight, Details, kind_at}
 
 -- ---- one by one
 
--- size: the bytes of a file or of a link's text; 0 of a directory
+-- size: the byte count of a file or of a link's text, and 0 of a directory
 abbrev pub size_at : Sight → ℕ → ℕ
 size_at s number = if is_directory_in s.kinds number then 0 else s.sizes number
 
--- numlinks: how many names it has; 1 of a directory, also of the root, which has none
+-- numlinks: how many names an object has. It is 1 of each directory, also of the root, which has no name.
 abbrev pub links_at : Sight → ℕ → ℕ
 links_at s number = if is_directory_in s.kinds number then 1 else s.links number
 
@@ -37,7 +37,7 @@ owner_at s number = option_map_or (λ j. j.owner) (s.lists number) 0
 abbrev pub group_at : Sight → ℕ → ℕ
 group_at s number = option_map_or (λ j. j.group) (s.lists number) 0
 
--- the details of an object that aren't seen, given as those of a new object
+-- details that aren't seen have the values of a new object
 abbrev pub unseen : Details
 unseen = record { high = 0; change = 0; time_modify = epoch; time_metadata = epoch }
 
@@ -45,13 +45,13 @@ unseen = record { high = 0; change = 0; time_modify = epoch; time_metadata = epo
 abbrev pub details_at : Sight → ℕ → Details
 details_at s number = unwrap_or (s.details number) unseen
 
--- mode: its high bits, and the mode that its list stands for
+-- mode: its high bits, and the mode that its access control list (ACL) represents
 abbrev pub mode_at : Sight → ℕ → ℕ
 mode_at s number = bit_or (details_at s number).high (mode_of (list_at s number))
 
 -- ---- all of them
 
--- a fact that this attribute alone tells, where it is requested; else 0
+-- a fact that only this attribute reports, if the attribute is requested, else 0
 abbrev pub if_asked : List ℕ → Attribute → ℕ → ℕ
 if_asked asked a fact = if has_number asked (number_of a) then fact else 0
 
@@ -76,6 +76,6 @@ facts_at s number error asked = record {
 abbrev pub values_at : Content → Sight → ℕ → Status → List ℕ → List ℕ
 values_at book s number error asked = given_values book (facts_at s number error asked) asked
 
--- the attributes that are returned where these are requested: the supported ones, and their values
+-- the attributes that are returned if these are requested: the supported ones, and their values
 abbrev pub attributes_at : Content → Sight → ℕ → Status → List ℕ → Value attributes
 attributes_at book s number error asked = (given_set asked, values_at book s number error asked)

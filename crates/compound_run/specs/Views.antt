@@ -20,20 +20,20 @@ use Rattle.compound_run.specs.declared.context.Context as code
 use Rattle.compound_run.specs.declared.create.Draft as drafts
 use Rattle.compound_run.specs.declared.realm.Realm as realms
 use Rattle.compound_run.specs.declared.filehandles.FileHandles.{FileHandles}
-use Rattle.compound_run.specs.declared.known.Lent.{Lent}
+use Rattle.compound_run.specs.declared.client_state.Lent.{Lent}
 use Rattle.compound_run.specs.declared.opens.Open.{Open}
 use Rattle.compound_run.specs.declared.server.Args.{Args}
 use Rattle.compound_run.specs.declared.step.Step as steps
 use Rattle.access_guard.specs.declared.line.Line.{Line}
 use Rattle.access_guard.specs.Log.{Log, held, settled}
-use Rattle.compound_run.specs.Known.{Known}
+use Rattle.compound_run.specs.ClientState.{ClientState}
 use Rattle.compound_run.specs.Limits.{MIN_ROOM, REFUSAL_ROOM}
 use Rattle.compound_run.specs.Realm.{Realm, Opened}
 use Rattle.compound_run.specs.Context.{Context}
 use Rattle.compound_run.specs.Settings.{Settings}
 use Rattle.compound_run.specs.Sight.{whole}
 use Rattle.compound_run.specs.Meaning.{Meaning}
-use Rattle.compound_run.specs.Operations.{body, may_delay, meaning, takes_memory_in}
+use Rattle.compound_run.specs.Operations.{may_delay, meaning}
 use Rattle.compound_run.specs.Runs.{Point, Answered, spelled, waits}
 use Rattle.compound_run.specs.Operations.Create.{Draft}
 use Rattle.compound_run.specs.Compound.{args_form}
@@ -55,11 +55,11 @@ open_view o =
 abbrev pub opens_view : {A : Type 0} → List (Open A) → List Opened
 opens_view opens = map open_view opens
 
--- this is what is known of clients, lent
-abbrev pub lent_view : {A : Type 0} → Lent A → Known
+-- the client state, borrowed
+abbrev pub lent_view : {A : Type 0} → Lent A → ClientState
 lent_view l = record { registry = l.clients.now; opens = opens_view l.opens.now; next_open = l.next_open }
 
--- the realm that is served
+-- the realm
 abbrev pub realm_of : {A : Type 0} → realms.Realm A → Realm
 realm_of e =
     record {
@@ -96,7 +96,7 @@ holding lines e = record e { tree = record e.tree { log = held lines e.tree.log 
 abbrev pub with_world : {A : Type 0} → World → realms.Realm A → realms.Realm A
 with_world w e = record e { tree = record e.tree { world = w } }
 
--- the context of an operation where this book is loaded: lists decide for the caller by the book
+-- the context of an operation under this book: access control lists (ACLs) are evaluated for the caller by the book
 abbrev pub context_of : code.Context → Content → Context
 context_of c book =
     record {
@@ -112,17 +112,17 @@ context_of c book =
 abbrev pub context_at : {A : Type 0} → realms.Realm A → code.Context → Context
 context_at e c = context_of c e.tree.book
 
--- the outcome of an answer: the operation's result, or the status of its refusal
-abbrev pub told_as : Meaning → Realm → Result FileHandles Status → Result Outcome Status
-told_as m r (Ok handles) = Ok (m.answer (whole r))
-told_as m r (Err status) = Err status
+-- the outcome for an answer: the operation's result, or the status of its refusal
+abbrev pub outcome_as : Meaning → Realm → Result FileHandles Status → Result Outcome Status
+outcome_as m r (Ok handles) = Ok (m.answer (whole r))
+outcome_as m r (Err status) = Err status
 
--- the filehandles after an answer: those that it gives, and those before where it refuses
+-- the filehandles after an answer: those that it returns, or those before if it is a refusal
 abbrev pub handles_after : FileHandles → Result FileHandles Status → FileHandles
 handles_after before (Ok handles) = handles
 handles_after before (Err status) = before
 
--- where a run stands, and what is written by then
+-- the state that a run has reached, and what is written so far
 pub record Stage (X : Type 0) : Type 0 where
   pub at : X
   pub out : Buffer
@@ -130,7 +130,7 @@ pub record Stage (X : Type 0) : Type 0 where
 abbrev pub stage : {X : Type 0} → X → Buffer → Stage X
 stage x out = record { at = x; out = out }
 
--- how an operation is answered: whether it may be DELAY, by which meaning, and what becomes of its lines
+-- how an operation is answered: whether it may answer DELAY, its meaning, and what becomes of its lines
 pub record Sense : Type 0 where
   pub may : Bool
   pub meaning : Meaning
@@ -139,20 +139,16 @@ pub record Sense : Type 0 where
 abbrev pub sense : Bool → Meaning → (Log → Log) → Sense
 sense may m ends = record { may = may; meaning = m; ends = ends }
 
--- once it has its place, and room for its result; or before that; or with its end
-abbrev pub by_body : Context → FileHandles → Operation → Sense
-by_body c handles op = sense (takes_memory_in c op) (body c handles op) waits
-
 abbrev pub by_meaning : Context → FileHandles → Operation → Sense
 by_meaning c handles op = sense (may_delay c op) (meaning c handles op) waits
 
 abbrev pub by_run : Context → FileHandles → Operation → Sense
 by_run c handles op = sense (may_delay c op) (meaning c handles op) (settled true)
 
--- An operation is answered, and where it is OK its result is written, in its room; else nothing is.
-pub record GivesSo {A : Type 0} (s : Sense) (room : ℕ) (handles : FileHandles) (old : Stage (realms.Realm A))
+-- An operation is answered. If it is OK its result is written, within its room; else nothing is.
+pub record OperationGives {A : Type 0} (s : Sense) (room : ℕ) (handles : FileHandles) (old : Stage (realms.Realm A))
     (result : Result FileHandles Status) (new : Stage (realms.Realm A)) : Type 0 where
-  pub answered : Answered s.may s.meaning s.ends (point_at old.at handles) (told_as s.meaning (realm_of old.at) result)
+  pub answered : Answered s.may s.meaning s.ends (point_at old.at handles) (outcome_as s.meaning (realm_of old.at) result)
       (point_at new.at (handles_after handles result))
   pub written : OnOk result (Appends old.out new.out (spelled (s.meaning.answer (whole (realm_of old.at)))))
   pub within : OnOk result (length new.out.bytes ≤ length old.out.bytes + room)
@@ -162,33 +158,28 @@ pub record GivesSo {A : Type 0} (s : Sense) (room : ℕ) (handles : FileHandles)
 abbrev pub GivesAt : {A : Type 0} → steps.Step → (Context → FileHandles → Sense) → Stage (realms.Realm A)
     → Result FileHandles Status → Stage (realms.Realm A) → Type 0
 GivesAt step s old result new =
-    GivesSo (s (context_at old.at step.context) step.handles) step.context.room step.handles old result new
+    OperationGives (s (context_at old.at step.context) step.handles) step.context.room step.handles old result new
 
--- the answer of an operation that takes no memory, before its end
+-- the answer of an operation that allocates no memory, before its end
 abbrev pub Gives : {A : Type 0} → steps.Step → (Context → FileHandles → Meaning) → Stage (realms.Realm A)
     → Result FileHandles Status → Stage (realms.Realm A) → Type 0
 Gives step m old result new = GivesAt step (λ c handles. sense false (m c handles) waits) old result new
 
--- an operation that takes memory may answer DELAY
+-- an operation that allocates memory may answer DELAY
 abbrev pub GivesOrDelays : {A : Type 0} → steps.Step → (Context → FileHandles → Meaning) → Stage (realms.Realm A)
     → Result FileHandles Status → Stage (realms.Realm A) → Type 0
 GivesOrDelays step m old result new = GivesAt step (λ c handles. sense true (m c handles) waits) old result new
 
--- any operation is answered so
+-- the answer of any operation, by its sense
 abbrev pub GivesBy : {A : Type 0} → (Context → FileHandles → Operation → Sense) → steps.Step → Op
     → Stage (realms.Realm A) → Result FileHandles Status → Stage (realms.Realm A) → Type 0
 GivesBy s step op old result new = GivesAt step (λ c handles. s c handles (op_view op)) old result new
 
--- there is room for the result of an operation that is run, and for a refusal
+-- there is room for the result of an operation that runs, and for a refusal
 abbrev pub HasRoom : code.Context → Buffer → Type 0
 HasRoom c out = (MIN_ROOM ≤ c.room) × (c.room + REFUSAL_ROOM ≤ out.room)
 
--- a condition for an operation that is run
-abbrev pub IfRun : Bool → Type 0 → Type 0
-IfRun true A = A
-IfRun false A = Unit {0}
-
--- the object that CREATE creates
+-- the object that CREATE makes
 abbrev pub draft_view : drafts.Draft → Draft
 draft_view d = record { kind = d.kind; text = d.text.now }
 
@@ -196,7 +187,7 @@ draft_view d = record { kind = d.kind; text = d.text.now }
 abbrev pub wanted_view : {A : Type 0} → Attrs A → Wanted
 wanted_view a = made a.size a.list a.mode a.owner a.group a.dacl a.sacl
 
--- attributes are read, or refused with their status; DELAY alone says nothing of them
+-- Attributes are decoded, or refused with their status. An answer of DELAY states nothing of them.
 abbrev pub IsWanted : {A : Type 0} → Result Wanted Status → Result (Attrs A) Status → Type 0
 IsWanted wanted (Ok attrs) = wanted ≡ Ok (wanted_view attrs)
 IsWanted wanted (Err status) = status ≢ statuses.Delay → wanted ≡ Err status

@@ -15,7 +15,8 @@ use std::alloc::Allocator;
 use xdr_wire::Writer;
 
 impl<A: Allocator + Copy> Realm<A> {
-    /// The rights requested that are supported for the current object, and those that its list grants.
+    /// The requested permissions that are supported for the current object, and those that its access control list
+    /// grants.
     pub fn access(
         &mut self,
         step: Step<'_>,

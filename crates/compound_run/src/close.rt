@@ -23,7 +23,7 @@ fn keep_others<A: Allocator>(opens: &mut Vec<Open<A>, A>, number: u64)
     opens.retain(|open| open.number != number);
 }
 
-/// Takes away the open of a number.
+/// Removes the open of a number.
 fn remove_open<A: Allocator>(opens: &mut Vec<Open<A>, A>, number: u64)
     ensures { opens_view opens.new.items ≡ without_open number (opens_view opens.old.items) }
 {
@@ -31,7 +31,7 @@ fn remove_open<A: Allocator>(opens: &mut Vec<Open<A>, A>, number: u64)
 }
 
 impl<A: Allocator + Copy> Realm<A> {
-    /// Closes an open of the current file. It takes no memory.
+    /// Closes an open of the current file. It allocates no memory.
     pub fn close(
         &mut self,
         step: Step<'_>,

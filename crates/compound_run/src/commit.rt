@@ -13,7 +13,7 @@ use std::alloc::Allocator;
 use xdr_wire::Writer;
 
 impl<A: Allocator + Copy> Realm<A> {
-    /// The data that were written into the current file are kept already.
+    /// Data that were written into the current file are stable already.
     pub fn commit(&self, step: Step<'_>, out: &mut Writer<A>) -> Result<FileHandles, Status>
         requires room { HasRoom step.context out.old }
         ensures { Gives step.entry commit (stage self.now out.old) result (stage self.now out.new) }

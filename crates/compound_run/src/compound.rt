@@ -6,7 +6,8 @@ ghost use Rattle.xdr_wire.specs.Reading.{read_at};
 ghost use Rattle.xdr_wire.specs.Xdr.{padded};
 ghost use Rattle.compound_run.specs.Limits as limits;
 ghost use Rattle.compound_run.specs.Compound.{args_form, args_in, first_room, opening_fault, series};
-ghost use Rattle.compound_run.specs.Written.{RunGives, OpensTo, OpensBehind, WritesAnswer};
+ghost use Rattle.compound_run.specs.Written.{RunGives, OpensTo, WritesAnswer};
+ghost use Rattle.compound_run.specs.internal.Written.{AppendsOpened};
 ghost use Rattle.compound_run.specs.Views.{arguments_of, context_at, stage};
 
 use crate::context::Context;
@@ -20,8 +21,8 @@ use nfs_types::Status;
 use std::alloc::{Allocator, Global};
 use xdr_wire::{Reader, Writer};
 
-/// The end of a COMPOUND: the status of the last operation that was run, and how many were. Whether one that changes
-/// something was OK, and which found no memory, by its place among those that were run here.
+/// The end of a COMPOUND: the status of the last operation that ran, and how many ran. Also whether one that changes
+/// state was OK, and which failed an allocation, by its place among those that ran here.
 #[derive(Clone, Copy, Debug, PartialEq, Eq)]
 pub(crate) struct Ended {
     pub status: Status,
@@ -30,11 +31,11 @@ pub(crate) struct Ended {
     pub delayed: Option<u32>,
 }
 
-/// The operations of a COMPOUND that are to be run.
+/// The operations of a COMPOUND that are to run.
 #[derive(Clone, Copy, Debug)]
 pub(crate) struct ToRun<'a> {
     pub operations: &'a [u8],
-    /// Memory is refused to the operation at this place among them, if it takes any.
+    /// The operation at this place among them fails its allocation, if it allocates any memory.
     pub refused: Option<u32>,
 }
 
@@ -48,7 +49,8 @@ pub(crate) struct CompoundArgs<'a> {
 }
 
 impl<A: Allocator + Copy> Realm<A> {
-    /// Runs the operations in these bytes, from the context of the first on, up to and with the first that isn't OK.
+    /// Runs the operations in these bytes, from the context of the first on, up to and including the first that isn't
+    /// OK.
     pub fn run_all(
         &mut self,
         context: Context<'_>,
@@ -101,7 +103,7 @@ impl<A: Allocator + Copy> Realm<A> {
 }
 
 impl<'a> CompoundArgs<'a> {
-    /// Reads tag, minor version and count. None of them may be missing.
+    /// Decodes tag, minor version and count. None of them may be missing.
     pub fn read(arguments: &'a [u8]) -> Option<CompoundArgs<'a>>
         ensures view { option_map arguments_of result ≡ args_in (read_at args_form arguments.now) }
         ensures short { IfSome result (λ a. length a.tag.now ≤ limits.MAX_TAG) }
@@ -118,7 +120,7 @@ impl<'a> CompoundArgs<'a> {
         })
     }
 
-    /// Why no operation is run, if none is.
+    /// Why no operation runs, if none does.
     fn fault(&self) -> Option<Status>
         ensures { result ≡ opening_fault limits.MAX_OPERATIONS self.now.minor_version self.now.count }
     {
@@ -131,7 +133,7 @@ impl<'a> CompoundArgs<'a> {
         None
     }
 
-    /// Runs the operations after what `out` holds, unless none is to be run.
+    /// Runs the operations and appends their results to `out`, unless none is to run.
     fn run_operations<A: Allocator + Copy>(
         &self,
         realm: &mut Realm<A>,
@@ -143,7 +145,7 @@ impl<'a> CompoundArgs<'a> {
         requires count { context.count ≡ self.now.count }
         requires least { context.room ≡ first_room limits.MAX_REPLY self.now.tag.now }
         requires room { context.room + limits.REFUSAL_ROOM ≤ out.old.room }
-        ensures answers { OpensBehind (opening_fault limits.MAX_OPERATIONS self.now.minor_version self.now.count)
+        ensures answers { AppendsOpened (opening_fault limits.MAX_OPERATIONS self.now.minor_version self.now.count)
             (series self.now.tag.now
             (record (context_at realm.old context.entry) { room = first_room limits.MAX_REPLY self.now.tag.now })
             self.now.operations.now)
@@ -165,9 +167,8 @@ impl<'a> CompoundArgs<'a> {
         realm.run_all(context, to_run, out)
     }
 
-    /// Writes the results of the COMPOUND after what `out` holds. Its status and the number of its
-    /// results are filled in once they are known. The room of the context is that of the head and
-    /// the results together.
+    /// Appends the results of the COMPOUND to `out`. Its status and the number of its results are filled in once they
+    /// are known. The room of the context is that of the head and the results together.
     pub fn run<A: Allocator + Copy>(
         &self,
         realm: &mut Realm<A>,

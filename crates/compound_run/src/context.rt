@@ -5,7 +5,7 @@ ghost use Rattle.compound_run.specs.Meaning.{too_big_for};
 use nfs_types::{Moment, Status};
 use rpc_record::Caller;
 
-/// The session after whose SEQUENCE operations are run (RFC 8881, section 18.46).
+/// The session whose SEQUENCE the operations follow (RFC 8881, section 18.46).
 #[derive(Clone, Copy, Debug, PartialEq, Eq)]
 pub(crate) struct Calling {
     /// The client of the session.
@@ -22,9 +22,9 @@ pub(crate) struct Context<'t> {
     pub now: Moment,
     /// The session, if there is one.
     pub calling: Option<Calling>,
-    /// The number of operations that are before it.
+    /// The number of operations before it.
     pub position: u32,
-    /// The number of operations that its COMPOUND has.
+    /// The number of operations of its COMPOUND.
     pub count: u32,
     /// The most bytes of its result.
     pub room: usize,

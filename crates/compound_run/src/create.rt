@@ -2,7 +2,7 @@
 ghost use Rattle.std.specs.Prelude.{◌≡◌, ◌+◌, ◌<◌, ◌≤◌, [], ◌∷◌, length, Some, None, option_map, unwrap_or, IfOk};
 ghost use Rattle.std.specs.Prelude.{IfSome, IsOkUnless, IsSome, MatchResult};
 ghost use Rattle.acl_shape.specs.Bounds.{IsBounded};
-ghost use Rattle.acl_shape.specs.Permissions.{created_list, created_high};
+ghost use Rattle.acl_shape.specs.Permissions.{created_acl, created_high};
 ghost use Rattle.nfs_types.specs.Sent.{wanted_of};
 ghost use Rattle.nfs_types.specs.Views.{bitmap_value};
 ghost use Rattle.nfs_ops.specs.Parts.{created};
@@ -31,14 +31,14 @@ use rpc_record::Caller;
 use std::alloc::{AllocError, Allocator};
 use xdr_wire::Writer;
 
-/// The object that is created: a directory, or a link with its text.
+/// The object to create: a directory, or a symbolic link with its text.
 #[derive(Clone, Copy)]
 pub(crate) struct Draft<'a> {
     pub kind: Kind,
     pub text: &'a [u8],
 }
 
-/// The object of this type. `None`: CREATE doesn't create it.
+/// The object of this type. `None`: CREATE doesn't support the type.
 fn draft_of<'a>(kind: &CreateType<'a>) -> Option<Draft<'a>>
     ensures { option_map draft_view result ≡ specs.draft_of (created (create_type_value kind.now)) }
 {
@@ -87,8 +87,8 @@ pub(crate) fn is_own<A: Allocator>(caller: &Caller, wanted: &Attrs<A>) -> bool
     owner && group
 }
 
-/// The given list of a new object before its parts: the empty list where a dacl is given, else the
-/// list that was sent, if any.
+/// The access control list (ACL) that a new object is given before its dacl and sacl. It is empty if a dacl is sent,
+/// else it is the acl that was sent, if any.
 fn base_of<A: Allocator>(
     alloc: A,
     list: Option<AclList<A>>,
@@ -105,7 +105,7 @@ fn base_of<A: Allocator>(
     }
 }
 
-/// A copy of these bytes. `Err`: there is no memory for them.
+/// A copy of these bytes. `Err`: an allocation fails.
 fn copied<A: Allocator>(alloc: A, bytes: &[u8]) -> Result<Vec<u8, A>, AllocError>
     ensures { IfOk result (λ copy. copy.items ≡ bytes.now) }
 {
@@ -115,7 +115,7 @@ fn copied<A: Allocator>(alloc: A, bytes: &[u8]) -> Result<Vec<u8, A>, AllocError
 }
 
 impl<A: Allocator + Copy> Realm<A> {
-    /// The values that the attributes set. `Delay`: there is no memory for the list.
+    /// The values that the attributes set. `Delay`: an allocation for the ACL fails.
     pub fn wanted(&self, kind: Kind, sent: &Attributes<'_>) -> Result<Attrs<A>, Status>
         ensures wanted { IsWanted (wanted_of self.now.tree.book kind (bitmap_value sent.now.set)
             sent.now.values.bytes.now) result }
@@ -127,7 +127,7 @@ impl<A: Allocator + Copy> Realm<A> {
         })
     }
 
-    /// The list of a new object before its parts, with the high bits of its mode. `Delay`: there is no memory for it.
+    /// The ACL of a new object before its dacl and sacl, with the high bits of its mode. `Delay`: an allocation fails.
     fn base_permissions(
         &self,
         directory: u64,
@@ -138,7 +138,7 @@ impl<A: Allocator + Copy> Realm<A> {
         requires bounded { IfSome given.list IsBounded }
         ensures space { IsOkUnless result Status.Delay }
         ensures list { IfOk result (λ made. made.list ≡
-            created_list (list_at self.now.tree.world directory) kind given.mode given.list) }
+            created_acl (list_at self.now.tree.world directory) kind given.mode given.list) }
         ensures high { IfOk result (λ made. made.high ≡ created_high given.mode) }
         ensures bounded { IfOk result (λ made. IsBounded made.list) }
     {
@@ -151,8 +151,8 @@ impl<A: Allocator + Copy> Realm<A> {
         }
     }
 
-    /// The list of a new object by its attributes, with the high bits of its mode. `NoSpc`: it
-    /// would not be within the bounds of a list. `Delay`: there is no memory for it.
+    /// The ACL of a new object by its attributes, with the high bits of its mode. `NoSpc`: it would exceed the bounds
+    /// of an ACL. `Delay`: an allocation fails.
     fn new_permissions(
         &self,
         directory: u64,
@@ -184,8 +184,8 @@ impl<A: Allocator + Copy> Realm<A> {
         Ok(Permissions { list, high })
     }
 
-    /// The new object for a directory. `NoSpc`: its list would not be within the bounds of a list.
-    /// `Delay`: there is no memory for it.
+    /// The new object for a directory. `NoSpc`: its ACL would exceed the bounds of an ACL. `Delay`: an allocation
+    /// fails.
     pub fn new_object(
         &self,
         directory: u64,
@@ -222,7 +222,7 @@ impl<A: Allocator + Copy> Realm<A> {
         })
     }
 
-    /// Adds the new object to the current directory, under a free name. It becomes current.
+    /// Adds the new object to the current directory, under a free name. It becomes the current filehandle.
     fn make(
         &mut self,
         step: Step<'_>,
@@ -263,7 +263,7 @@ impl<A: Allocator + Copy> Realm<A> {
         })
     }
 
-    /// Creates a directory or a link in the current directory. It becomes current.
+    /// Creates a directory or a symbolic link in the current directory. It becomes the current filehandle.
     pub fn create(
         &mut self,
         step: Step<'_>,

@@ -22,10 +22,10 @@ use session_slots::{Channel, Create, Created, Made};
 use std::alloc::Allocator;
 use xdr_wire::Writer;
 
-/// CREATE_SESSION4_FLAG_PERSIST: the session and its slots are kept over a restart.
+/// CREATE_SESSION4_FLAG_PERSIST: the session and its slots survive a restart.
 const PERSIST: u32 = 1;
 
-/// The attributes of a channel that is requested, RDMA apart.
+/// The requested attributes of a channel, RDMA apart.
 fn channel_of(asked: &nfs_ops::Channel) -> Channel
     ensures { result ≡ channel_of (channel_value asked.now) }
 {
@@ -73,12 +73,12 @@ fn put_created<A: Allocator>(created: Created, out: &mut Writer<A>)
 }
 
 impl<A: Allocator + Copy> Realm<A> {
-    /// Asks for a session; the client counts as heard at this moment. The opens of a client whose
-    /// record goes are closed.
+    /// Requests a session, and renews the client's lease at this moment. If a client's record is removed, its opens are
+    /// closed.
     fn make_session(&mut self, caller: &Caller, now: Moment, args: &CreateSessionArgs<'_>) -> Made
         ensures creates { Creates self.old.clients
             (create_of self.old.lasting caller.now (create_session_args_value args.now)) result self.new.clients }
-        ensures opens { opens_view self.new.opens.items ≡ opens_without result.gone (opens_view self.old.opens.items) }
+        ensures opens { opens_view self.new.opens.items ≡ opens_without result.removed (opens_view self.old.opens.items) }
         ensures others { IsOfClients self.old self.new }
     {
         let made = self.clients.create_session(Create {
@@ -90,13 +90,13 @@ impl<A: Allocator + Copy> Realm<A> {
             fore: channel_of(&args.fore),
             back: channel_of(&args.back),
         });
-        self.clients.hear(args.client, second(now));
-        self.end_opens_of(made.gone);
+        self.clients.renew(args.client, second(now));
+        self.end_opens_of(made.removed);
         made
     }
 
-    /// A client gets a session, and its record is confirmed. DELAY: there is no memory for a new session, and nothing
-    /// changes.
+    /// Creates a session for a client, and confirms its record. DELAY: an allocation for a new session fails, and
+    /// nothing changes.
     pub fn create_session(
         &mut self,
         caller: &Caller,

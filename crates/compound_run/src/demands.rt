@@ -1,4 +1,4 @@
-//! The demands of operations on lists.
+//! The demands of operations on access control lists (ACLs).
 ghost use Rattle.std.specs.Prelude.{◌≡◌, ◌+◌, ◌*◌, ◌<◌, ◌≤◌, [], length, true};
 ghost use Rattle.acl_shape.specs.declared.bounds.TheConstants.{MAX_ENTRIES};
 ghost use Rattle.node_tree.specs.World.{bytes_of};
@@ -16,7 +16,7 @@ use rpc_record::Caller;
 use std::alloc::Allocator;
 
 impl<A: Allocator + Copy> Realm<A> {
-    /// The object of a number, if it is there.
+    /// The object of a number, if it exists.
     fn object(&self, number: Option<u64>) -> Option<Object>
         ensures { result ≡ specs.object_of (sight_of self.now) number }
     {
@@ -28,7 +28,7 @@ impl<A: Allocator + Copy> Realm<A> {
         })
     }
 
-    /// The number of bytes that a file has, or the text of a link; 0 where it isn't there.
+    /// The byte count of a file, or of the text of a symbolic link; 0 if it doesn't exist.
     pub fn size(&self, number: u64) -> u64
         ensures { result ≡ length (bytes_of self.now.tree.world number) }
     {
@@ -38,7 +38,7 @@ impl<A: Allocator + Copy> Realm<A> {
         }
     }
 
-    /// Whether the lists grant the first demands of an operation, before it looks up a name. Its lines are held.
+    /// Whether the ACLs grant the first demands of an operation, before it looks up a name. Its lines are held.
     pub fn grants_first(&mut self, step: Step<'_>, op: &Op<'_>) -> bool
         requires { self.old.tree.log.held ≡ [] }
         ensures answer { result ≡ grants_all self.old step.entry.context.caller.now
@@ -52,8 +52,8 @@ impl<A: Allocator + Copy> Realm<A> {
         self.grants(&first_demands(op, &facts), step.context.caller, op.number())
     }
 
-    /// Whether the lists grant an operation's first demands by the size of the current object and
-    /// the new size. Its lines are held.
+    /// Whether the ACLs grant an operation's first demands by the size of the current object and the new size. Its
+    /// lines are held.
     pub fn grants_sized(&mut self, step: Step<'_>, op: &Op<'_>, new_size: Option<u64>) -> bool
         requires { self.old.tree.log.held ≡ [] }
         ensures answer { result ≡ grants_all self.old step.entry.context.caller.now
@@ -76,8 +76,8 @@ impl<A: Allocator + Copy> Realm<A> {
         self.grants(&first_demands(op, &facts), step.context.caller, op.number())
     }
 
-    /// Whether the lists grant the demands of an operation once it has looked up its names. These
-    /// are the child of the name, and the target of the new name of a RENAME. Its lines are held.
+    /// Whether the ACLs grant the demands of an operation after it has looked up its names. These are the child of the
+    /// name, and the target of the new name of a RENAME. Its lines are held.
     pub fn grants_second(
         &mut self,
         step: Step<'_>,
@@ -106,8 +106,8 @@ impl<A: Allocator + Copy> Realm<A> {
         )
     }
 
-    /// Whether the lists grant the demands of OPEN on the existing file, if there is one, and by
-    /// the new size. Its lines are held.
+    /// Whether the ACLs grant the demands of OPEN on the existing file, if there is one, and by the new size. Its lines
+    /// are held.
     pub fn grants_opening(
         &mut self,
         step: Step<'_>,
@@ -136,8 +136,7 @@ impl<A: Allocator + Copy> Realm<A> {
         )
     }
 
-    /// Whether the lists grant the demands, each where there is one. None is checked after a
-    /// refused one. Their lines are held.
+    /// Whether the ACLs grant each demand that is present. None is decided after a refused one. Their lines are held.
     pub fn grants(&mut self, demands: &[Option<Demand>], caller: &Caller, op: u32) -> bool
         requires { length self.old.tree.log.held + MAX_ENTRIES * lists_in demands.now < MOST_HELD }
         ensures answer { result ≡ grants_all self.old caller.now demands.now }

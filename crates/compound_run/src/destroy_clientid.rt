@@ -16,7 +16,7 @@ use std::alloc::Allocator;
 use xdr_wire::Writer;
 
 impl<A: Allocator + Copy> Realm<A> {
-    /// The record of a client without opens and sessions goes. It takes no memory.
+    /// Removes the record of a client without opens and sessions. It allocates no memory.
     pub fn destroy_clientid(
         &mut self,
         args: &DestroyClientIdArgs,

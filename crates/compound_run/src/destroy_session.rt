@@ -17,7 +17,7 @@ use std::alloc::Allocator;
 use xdr_wire::Writer;
 
 impl<A: Allocator + Copy> Realm<A> {
-    /// A session ends. It takes no memory.
+    /// Destroys a session. It allocates no memory.
     pub fn destroy_session(
         &mut self,
         args: &DestroySessionArgs,

@@ -3,7 +3,7 @@ ghost use Rattle.std.specs.Prelude.{◌≡◌};
 
 use nfs_ops::ChangeInfo;
 
-/// A directory, with its change before the operation (RFC 8881, section 5.8.1.4).
+/// A directory, with its change attribute before the operation (RFC 8881, section 5.8.1.4).
 #[derive(Clone, Copy)]
 pub(crate) struct Directory {
     pub number: u64,
@@ -11,7 +11,7 @@ pub(crate) struct Directory {
 }
 
 impl Directory {
-    /// Its change before and after an operation that takes this tick.
+    /// Its change attribute before and after an operation that takes this tick.
     pub fn changed(self, tick: u64) -> ChangeInfo
         ensures { result ≡ record { before = self.change; after = tick } }
     {
@@ -21,7 +21,7 @@ impl Directory {
         }
     }
 
-    /// Its change before and after an operation that takes no tick.
+    /// Its change attribute before and after an operation that takes no tick.
     pub fn unchanged(self) -> ChangeInfo
         ensures { result ≡ record { before = self.change; after = self.change } }
     {

@@ -25,16 +25,16 @@ use xdr_wire::{Opaque, Writer};
 const SERVER: &[u8] = b"nfs41-lists";
 
 /// Writes the record of a client.
-fn put_exchanged<A: Allocator>(told: Exchanged, out: &mut Writer<A>)
+fn put_exchanged<A: Allocator>(outcome: Exchanged, out: &mut Writer<A>)
     requires room { limits.MIN_ROOM ≤ out.old.room }
-    ensures written { Appends out.old out.new (spelled (exchanged told)) }
+    ensures written { Appends out.old out.new (spelled (exchanged outcome)) }
     ensures within { length out.new.bytes ≤ length out.old.bytes + limits.MIN_ROOM }
 {
     put_result(
         OpResult::ExchangeId(ExchangeIdResult {
-            client: told.client,
-            sequence: told.sequence,
-            flags: told.flags(),
+            client: outcome.client,
+            sequence: outcome.sequence,
+            flags: outcome.flags(),
             server: Opaque { bytes: SERVER },
             scope: Opaque { bytes: SERVER },
         }),
@@ -43,7 +43,7 @@ fn put_exchanged<A: Allocator>(told: Exchanged, out: &mut Writer<A>)
 }
 
 impl<A: Allocator + Copy> Realm<A> {
-    /// Asks for the record of a client.
+    /// Requests the record of a client.
     fn exchange(
         &mut self,
         caller: &Caller,
@@ -65,8 +65,8 @@ impl<A: Allocator + Copy> Realm<A> {
         })
     }
 
-    /// A client is made known, and counts as heard at this moment. DELAY: there is no memory for a
-    /// new record, and nothing changes.
+    /// Gives a client a record, and renews its lease at this moment. DELAY: an allocation for a new record fails, and
+    /// nothing changes.
     pub fn exchange_id(
         &mut self,
         caller: &Caller,
@@ -79,8 +79,8 @@ impl<A: Allocator + Copy> Realm<A> {
             (realm_of self.old) out.old result (realm_of self.new) out.new }
         ensures others { IsOfClients self.old self.new }
     {
-        let told = self.exchange(caller, now, args)?;
-        put_exchanged(told, out);
+        let outcome = self.exchange(caller, now, args)?;
+        put_exchanged(outcome, out);
         Ok(())
     }
 }

@@ -2,7 +2,7 @@
 ghost use Rattle.std.specs.Prelude.{◌≡◌};
 ghost use Rattle.compound_run.specs.Context.{no_handles};
 
-/// The current and the saved filehandle (RFC 8881, section 16.2.3.1), each the number of an object, if there is one.
+/// The current and the saved filehandle (RFC 8881, section 16.2.3.1). Each is an object number, if it is set.
 #[derive(Clone, Copy, Debug, PartialEq, Eq)]
 pub(crate) struct FileHandles {
     pub current: Option<u64>,
@@ -10,7 +10,7 @@ pub(crate) struct FileHandles {
 }
 
 impl FileHandles {
-    /// A COMPOUND begins with no filehandle.
+    /// A COMPOUND begins without filehandles.
     pub fn none() -> Self
         ensures { result ≡ no_handles }
     {

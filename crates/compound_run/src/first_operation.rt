@@ -1,9 +1,10 @@
-//! The beginning of a COMPOUND where sessions are in use (RFC 8881, sections 2.10.6.2 to 2.10.6.4 and 16.2).
+//! The beginning of a COMPOUND with sessions (RFC 8881, sections 2.10.6.2 to 2.10.6.4 and 16.2).
 ghost use Rattle.std.specs.Prelude.{◌≡◌};
 ghost use Rattle.nfs_ops.specs.Operations.{number_of};
 ghost use Rattle.nfs_ops.specs.OpViews.{op_view};
 ghost use Rattle.compound_run.specs.Beginning as specs;
-ghost use Rattle.compound_run.specs.SessionViews.{beginning_view, lone_view};
+ghost use Rattle.compound_run.specs.SessionViews.{lone_view};
+ghost use Rattle.compound_run.specs.internal.SessionViews.{beginning_view};
 
 use crate::limits::MINOR_VERSION;
 use nfs_ops::{
@@ -25,7 +26,7 @@ pub(crate) enum Lone<'a> {
 /// The beginning of a COMPOUND.
 #[derive(Drop)]
 pub(crate) enum Beginning<'a> {
-    /// No operation is run, and the COMPOUND has this status.
+    /// No operation runs, and this is the COMPOUND's status.
     Ends(Status),
     /// The first operation, of this number, is refused.
     Refuses(u32, Status),
@@ -35,7 +36,7 @@ pub(crate) enum Beginning<'a> {
     Follows(SequenceArgs, &'a [u8]),
 }
 
-/// Begins with an operation that has to be the only one of `count`, and has this number.
+/// The beginning with this operation, which must be the only one of `count` operations.
 fn only(count: u32, number: u32, lone: Lone<'_>) -> Beginning<'_>
     requires { number ≡ number_of (lone_view lone) }
     ensures { beginning_view result ≡ specs.only count (lone_view lone.entry) }
@@ -46,7 +47,7 @@ fn only(count: u32, number: u32, lone: Lone<'_>) -> Beginning<'_>
     Beginning::Acts(lone)
 }
 
-/// Begins with the first of this many operations.
+/// The beginning of a COMPOUND of `count` operations, from the first of them and the bytes after it.
 fn begin_with<'a>(count: u32, op: Op<'a>, rest: &'a [u8]) -> Beginning<'a>
     ensures { beginning_view result ≡ specs.beginning_with count (op_view op.entry) rest.now }
 {
@@ -64,7 +65,7 @@ fn begin_with<'a>(count: u32, op: Op<'a>, rest: &'a [u8]) -> Beginning<'a>
     }
 }
 
-/// The beginning of a COMPOUND of this minor version and this many operations in these bytes.
+/// The beginning of a COMPOUND of this minor version, with `count` operations in these bytes.
 pub(crate) fn begin(minor_version: u32, count: u32, operations: &[u8]) -> Beginning<'_>
     ensures { beginning_view result ≡ specs.beginning minor_version count operations.now }
 {

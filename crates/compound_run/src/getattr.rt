@@ -6,8 +6,8 @@ ghost use Rattle.nfs_ops.specs.Results.{Done};
 ghost use Rattle.nfs_ops.specs.declared.OpKind.TheVariants as kinds;
 ghost use Rattle.node_tree.specs.World.{object};
 ghost use Rattle.compound_run.specs.Asking.{sight_of};
-ghost use Rattle.compound_run.specs.Operations.Getattr.{getattr, told};
-ghost use Rattle.compound_run.specs.GivenViews.{PutsWithin, given_outcome};
+ghost use Rattle.compound_run.specs.Operations.Getattr.{getattr, attributes_of};
+ghost use Rattle.compound_run.specs.internal.GivenViews.{PutsWithin, given_outcome};
 ghost use Rattle.compound_run.specs.Views.{context_at, Gives, HasRoom, stage};
 
 use crate::context::Context;
@@ -19,7 +19,7 @@ use nfs_types::{Bitmap, GivenAttributes, Status};
 use std::alloc::Allocator;
 use xdr_wire::{Full, Writer};
 
-/// Writes the result of a GETATTR, of at most `room` bytes; else nothing.
+/// Writes the result of a GETATTR if it has at most `room` bytes, else nothing.
 #[tactic(auto, unfolding(crate::specs::Runs::spelled))]
 fn put_attributes<A: Allocator>(
     given: GivenAttributes<'_>,
@@ -34,8 +34,8 @@ fn put_attributes<A: Allocator>(
 }
 
 impl<A: Allocator + Copy> Realm<A> {
-    /// Writes attributes of an object, in the room of the operation; else nothing.
-    fn put_told(
+    /// Writes attributes of an object if they fit the room of the operation, else nothing.
+    fn put_given_attributes(
         &self,
         context: Context<'_>,
         number: u64,
@@ -45,7 +45,7 @@ impl<A: Allocator + Copy> Realm<A> {
         requires there { IsSome (object self.now.tree.world number) }
         requires room { HasRoom context out.old }
         ensures { PutsWithin context.entry.room
-            (Done kinds.GetAttr (told (context_at self.now context.entry) number (bitmap_value asked)
+            (Done kinds.GetAttr (attributes_of (context_at self.now context.entry) number (bitmap_value asked)
             (sight_of self.now))) out.old result out.new }
     {
         let Some(facts) = self.facts_for(number, Status::Ok, &asked) else {
@@ -78,7 +78,7 @@ impl<A: Allocator + Copy> Realm<A> {
         if !self.grants_first(step, &Op::GetAttr(*args)) {
             return Err(Status::Access);
         }
-        match self.put_told(step.context, number, args.asked, out) {
+        match self.put_given_attributes(step.context, number, args.asked, out) {
             Ok(()) => Ok(step.handles),
             Err(Full) => Err(step.context.too_big()),
         }

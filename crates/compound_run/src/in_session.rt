@@ -1,17 +1,18 @@
-//! A call where sessions are in use (RFC 8881, sections 2.10.6 and 16.2).
+//! A call with sessions (RFC 8881, sections 2.10.6 and 16.2).
 ghost use Rattle.std.specs.Prelude.{◌≡◌, ◌-◌, ◌<◌, ◌≤◌, [], drop, length, IfSome};
 ghost use Rattle.nfs_ops.specs.Views.{sequence_args_value};
 ghost use Rattle.session_slots.specs.declared.session.Begin.TheVariants as begins;
-ghost use Rattle.session_slots.specs.Registry.{kept_size, session_at};
-ghost use Rattle.session_slots.specs.Sequencing.{StandsIn};
+ghost use Rattle.session_slots.specs.Registry.{cache_size, session_at};
+ghost use Rattle.session_slots.specs.Sequencing.{HasSlot};
 ghost use Rattle.session_slots.specs.Views.{bytes_of};
 ghost use Rattle.compound_run.specs.Views.{state_of};
 ghost use Rattle.compound_run.specs.Limits as limits;
 ghost use Rattle.compound_run.specs.Sequence as specs;
 ghost use Rattle.compound_run.specs.Sequence.{keeping, sequence_done};
 ghost use Rattle.compound_run.specs.Sessions.{session_of};
-ghost use Rattle.compound_run.specs.SessionViews.{AnswersComing, AnswersSequence, SequencedKept, WritesWithin};
-ghost use Rattle.compound_run.specs.SessionViews.{coming_behind, sequence_told};
+ghost use Rattle.compound_run.specs.SessionViews.{AnswersIncoming, SequencedCached, WritesWithin};
+ghost use Rattle.compound_run.specs.internal.SessionViews.{AnswersSequence};
+ghost use Rattle.compound_run.specs.internal.SessionViews.{context_after_sequence, sequence_outcome};
 ghost use Rattle.compound_run.specs.Compound.{series};
 ghost use Rattle.compound_run.specs.Beginning.{beginning};
 ghost use Rattle.compound_run.specs.Replaying.{IsNumberedFor, ready_for};
@@ -21,7 +22,7 @@ use crate::context::{Calling, Context};
 use crate::first_operation::{Beginning, begin};
 use crate::kept::Ran;
 use crate::realm::Realm;
-use crate::result_heads::{put_ended, put_kept, put_refused};
+use crate::result_heads::{put_cached, put_ended, put_refused};
 use crate::server::Args;
 use crate::sessions::{second, session_of};
 use nfs_ops::{OP_SEQUENCE, SequenceArgs, SequenceResult};
@@ -31,21 +32,21 @@ use session_slots::{Begin, CallBytes, NewCall, REPLY_HEADER, Sequence};
 use std::alloc::Allocator;
 use xdr_wire::Writer;
 
-/// A call where sessions are in use.
+/// A call with sessions.
 #[derive(Clone, Copy)]
-pub(crate) struct Coming<'t> {
+pub(crate) struct IncomingCall<'t> {
     pub args: Args<'t>,
     /// The arguments of the COMPOUND.
     pub compound: CompoundArgs<'t>,
     pub caller: &'t Caller,
     pub now: Moment,
-    /// Memory is refused to the operation at this place after SEQUENCE, if it takes any.
+    /// The operation at this place after SEQUENCE fails its allocation, if it allocates any memory.
     pub refused: Option<u32>,
 }
 
 /// The result of a SEQUENCE that begins a new call.
 fn sequence_given(args: &SequenceArgs, new: NewCall) -> SequenceResult
-    ensures { sequence_told result ≡ sequence_done (sequence_args_value args.now) new.highest_slot }
+    ensures { sequence_outcome result ≡ sequence_done (sequence_args_value args.now) new.highest_slot }
 {
     SequenceResult {
         session: args.session,
@@ -56,28 +57,27 @@ fn sequence_given(args: &SequenceArgs, new: NewCall) -> SequenceResult
     }
 }
 
-/// The bytes that a repeat of a call has to have, of those after its header, where the operations
-/// after its SEQUENCE have `behind` bytes. They are all, or where sessions outlive a restart all
-/// but sa_highest_slotid.
-fn compared(lasting: bool, arguments: &[u8], behind: usize) -> CallBytes<'_>
-    ensures bytes { bytes_of result ≡ specs.compared lasting arguments.now behind }
+/// The bytes that a retry of a call must have, of the bytes after its header. These are all of them; with persistent
+/// sessions, all but sa_highest_slotid. The operations after SEQUENCE have `rest` bytes.
+fn compared(lasting: bool, arguments: &[u8], rest: usize) -> CallBytes<'_>
+    ensures bytes { bytes_of result ≡ specs.compared lasting arguments.now rest }
     ensures short { length (bytes_of result) ≤ length arguments.now }
 {
     if !lasting {
         return CallBytes {
-            front: arguments,
+            prefix: arguments,
             back: &[],
         };
     }
-    let end = arguments.len().saturating_sub(behind);
+    let end = arguments.len().saturating_sub(rest);
     CallBytes {
-        front: &arguments[..end.saturating_sub(8)],
+        prefix: &arguments[..end.saturating_sub(8)],
         back: &arguments[end.saturating_sub(4)..],
     }
 }
 
 impl<A: Allocator + Copy> Realm<A> {
-    /// The slot of a COMPOUND's SEQUENCE lags, if it begins with one.
+    /// Marks the slot of a COMPOUND's SEQUENCE as lagging, if it begins with one.
     pub fn lag_for(&mut self, compound: CompoundArgs<'_>)
         requires settled { self.old.tree.log.held ≡ [] }
         ensures ready { state_of self.new ≡ ready_for
@@ -91,13 +91,13 @@ impl<A: Allocator + Copy> Realm<A> {
         }
     }
 
-    /// Keeps the bytes after the first ones as the results of a call.
+    /// Caches the bytes from `start` on as the results of a call.
     fn keep_from(&mut self, args: &SequenceArgs, out: &Writer<A>, start: usize)
         requires start { start ≤ length out.now.bytes }
         requires slot { IfSome (session_at self.old.clients (session_of args.now.session))
             (λ s. args.now.slot < s.granted.slots) }
         requires few { IfSome (session_at self.old.clients (session_of args.now.session))
-            (λ s. length (drop start out.now.bytes) ≤ kept_size s.granted) }
+            (λ s. length (drop start out.now.bytes) ≤ cache_size s.granted) }
         ensures { self.new ≡ record self.old {
           clients = keeping (sequence_args_value args.now) (drop start out.now.bytes) self.old.clients;
         } }
@@ -107,11 +107,11 @@ impl<A: Allocator + Copy> Realm<A> {
             .keep(session_of(&args.session), args.slot, results);
     }
 
-    /// Runs the operations after a SEQUENCE that has begun a new call, and keeps their results.
-    /// Answers how they ended.
+    /// Runs the operations after a SEQUENCE that has begun a new call, and caches their results. Returns how they
+    /// ended.
     fn answer_new(
         &mut self,
-        call: Coming<'_>,
+        call: IncomingCall<'_>,
         args: &SequenceArgs,
         new: NewCall,
         operations: &[u8],
@@ -120,12 +120,12 @@ impl<A: Allocator + Copy> Realm<A> {
         requires short { length call.compound.tag.now ≤ limits.MAX_TAG }
         requires settled { self.old.tree.log.held ≡ [] }
         requires some { 1 ≤ call.compound.count }
-        requires stands { StandsIn self.old.clients (session_of args.now.session) args.now.slot (begins.New new) }
+        requires has_slot { HasSlot self.old.clients (session_of args.now.session) args.now.slot (begins.New new) }
         requires room { limits.MAX_RESULTS ≤ out.old.room }
         ensures answers { WritesWithin (new.reply_size - limits.REPLY_HEADER)
-            (λ bytes. SequencedKept call.entry.refused
+            (λ bytes. SequencedCached call.entry.refused
             (series call.entry.compound.tag.now
-            (coming_behind self.old.tree.book call.entry (sequence_args_value args.now) new) operations.now)
+            (context_after_sequence self.old.tree.book call.entry (sequence_args_value args.now) new) operations.now)
             (sequence_args_value args.now) (sequence_done (sequence_args_value args.now) new.highest_slot) self.old
             bytes result self.new)
             out.old out.new }
@@ -152,15 +152,15 @@ impl<A: Allocator + Copy> Realm<A> {
         };
         let ended = call
             .compound
-            .run_behind(self, context, limit, given, to_run, out);
+            .run_after_sequence(self, context, limit, given, to_run, out);
         self.keep_from(args, out, start);
         ended
     }
 
-    /// Answers a COMPOUND that begins with a SEQUENCE. Tells what its record has to know.
+    /// Answers a COMPOUND that begins with a SEQUENCE. Returns the facts for its record.
     fn answer_sequence(
         &mut self,
-        call: Coming<'_>,
+        call: IncomingCall<'_>,
         args: &SequenceArgs,
         operations: &[u8],
         out: &mut Writer<A>,
@@ -197,7 +197,7 @@ impl<A: Allocator + Copy> Realm<A> {
                 }
             }
             Begin::Repeat => {
-                put_kept(self.clients.results(session, args.slot), out);
+                put_cached(self.clients.results(session, args.slot), out);
                 Ran::nothing()
             }
             Begin::Refused(status) => {
@@ -207,15 +207,14 @@ impl<A: Allocator + Copy> Realm<A> {
         }
     }
 
-    /// Answers a COMPOUND where sessions are in use, after what `out` holds. Tells what its record
-    /// has to know.
-    pub fn answer_in_session(&mut self, call: Coming<'_>, out: &mut Writer<A>) -> Ran
+    /// Answers a COMPOUND with sessions: its results are appended to `out`. Returns the facts for its record.
+    pub fn answer_in_session(&mut self, call: IncomingCall<'_>, out: &mut Writer<A>) -> Ran
         requires short { length call.compound.tag.now ≤ limits.MAX_TAG }
         requires whole { length call.args.bytes.now ≤ call.args.record_len }
         requires settled { self.old.tree.log.held ≡ [] }
         requires room { limits.MAX_RESULTS ≤ out.old.room }
         ensures answers { WritesWithin limits.MAX_RESULTS
-            (λ bytes. AnswersComing call.entry (state_of self.old) bytes result (state_of self.new)) out.old out.new }
+            (λ bytes. AnswersIncoming call.entry (state_of self.old) bytes result (state_of self.new)) out.old out.new }
         ensures numbered { IsNumberedFor (beginning call.entry.compound.minor_version call.entry.compound.count
             call.entry.compound.operations.now) }
         ensures settled { self.new.tree.log.held ≡ [] }

@@ -1,6 +1,6 @@
-//! Which calls are kept over a restart (RFC 8881, section 2.10.6.5).
+//! Which calls are logged, to be replayed after a restart (RFC 8881, section 2.10.6.5).
 ghost use Rattle.std.specs.Prelude.{◌≡◌, false, if◌then◌else◌, Some, None};
-ghost use Rattle.compound_run.specs.Telling.{is_delay_status};
+ghost use Rattle.compound_run.specs.AnswerOf.{is_delay_status};
 ghost use Rattle.compound_run.specs.Keeping as specs;
 ghost use Rattle.compound_run.specs.Delaying.{is_place};
 
@@ -10,18 +10,18 @@ use nfs_ops::{
 };
 use nfs_types::Status;
 
-/// The facts of an answered call that its record needs.
+/// The facts of an answered call for its record.
 #[derive(Clone, Copy, Debug, PartialEq, Eq)]
 pub struct Ran {
-    /// The call is kept over a restart: an operation that changes something was OK, a client or a
-    /// session was made, changed or ended, or the number of its slot passed a multiple of 2^20.
+    /// The call is logged. An operation that can change state was OK. Or a client or a session was created, changed or
+    /// removed. Or the call took the sequence ID of its slot past a multiple of 2^20.
     pub kept: bool,
-    /// The operation that found no memory, and was answered DELAY: its place after SEQUENCE.
+    /// The operation whose allocation failed, and which was answered DELAY: its place after SEQUENCE.
     pub delayed: Option<u32>,
 }
 
 impl Ran {
-    /// The call was refused before it was run, or repeated.
+    /// The call was refused before it ran, or is a retry.
     pub(crate) fn nothing() -> Self
         ensures { result ≡ record { kept = false; delayed = None } }
     {
@@ -32,7 +32,7 @@ impl Ran {
     }
 }
 
-/// Whether the operation of a number changes something where it is OK.
+/// Whether the operation of a number can change state when it is OK.
 pub(crate) fn is_changing(number: u32) -> bool
     ensures { result ≡ specs.is_changing number }
 {
@@ -47,7 +47,7 @@ pub(crate) fn is_changing(number: u32) -> bool
         || number == OP_RECLAIM_COMPLETE
 }
 
-/// The place of an operation that was refused, where it found no memory.
+/// The place of an operation that was refused, if its allocation failed.
 pub(crate) fn delayed_at(status: Status, place: u32) -> Option<u32>
     ensures { result ≡ (if is_delay_status status then Some place else None) }
 {
@@ -57,7 +57,7 @@ pub(crate) fn delayed_at(status: Status, place: u32) -> Option<u32>
     }
 }
 
-/// Whether the operation that memory is refused to stands at this place.
+/// Whether the operation whose allocation fails is at this place.
 pub(crate) fn is_at(refused: Option<u32>, place: u32) -> bool
     ensures { result ≡ is_place refused place }
 {

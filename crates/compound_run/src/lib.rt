@@ -1,16 +1,18 @@
-//! Runs a COMPOUND over a tree of objects, with access control lists checked for each operation
-//! (RFC 8881, sections 16.2 and 18).
+//! Runs a COMPOUND over a tree of objects, checking access control lists (ACLs) for each operation (RFC 8881, sections
+//! 16.2 and 18).
 //!
-//! Each operation has one file here, and one in `specs/Operations/` with its questions in order, its result
-//! and its effect on the tree.
+//! Each operation has one file here, and one in `specs/Operations/`. That one has its questions in order, its result,
+//! and its effect on the realm and on the filehandles.
 #![tactic(auto)]
 
 ghost use Rattle.std.specs.Prelude.{◌≡◌, []};
 ghost use Rattle.nfs_ops.specs.OpViews.{op_view};
 ghost use Rattle.compound_run.specs.Operations.{is_run};
-ghost use Rattle.compound_run.specs.Views.{GivesBy, HasRoom, IfRun, stage, by_body};
+ghost use Rattle.compound_run.specs.Views.{GivesBy, HasRoom, stage};
+ghost use Rattle.compound_run.specs.internal.Views.{IfRun, by_body};
 
 mod access;
+mod client_state;
 mod close;
 mod commit;
 mod compound;
@@ -28,7 +30,6 @@ mod getattr;
 mod getfh;
 mod in_session;
 mod kept;
-mod known;
 mod limits;
 mod link;
 mod list_parts;
@@ -62,9 +63,9 @@ mod step;
 mod verify;
 mod write;
 
+pub use client_state::{ClientState, Lent, opens_fit};
 use filehandles::FileHandles;
 pub use kept::Ran;
-pub use known::{Known, Lent};
 pub use limits::{MAX_REPLY, MAX_RESULTS};
 use nfs_ops::Op;
 use nfs_types::Status;

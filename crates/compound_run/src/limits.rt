@@ -1,6 +1,6 @@
-//! The limits of a COMPOUND (RFC 8881, sections 2.10.6 and 16.2), in bytes where no other unit is given.
+//! The limits of a COMPOUND (RFC 8881, sections 2.10.6 and 16.2), in bytes unless another unit is given.
 
-/// The most bytes of a reply where there is no session, its record's mark not counted.
+/// The most bytes of a reply without a session, not counting its record mark.
 pub const MAX_REPLY: usize = 65_536;
 
 /// The most bytes of a COMPOUND's results in such a reply, after the header of the reply.
@@ -12,13 +12,13 @@ pub(crate) const MAX_TAG: usize = 1_024;
 /// The one minor version that is supported.
 pub(crate) const MINOR_VERSION: u32 = 1;
 
-/// The most operations of a COMPOUND where there is no session.
+/// The most operations of a COMPOUND without a session.
 pub(crate) const MAX_OPERATIONS: u32 = 16;
 
 /// The least room that an operation runs in: no result of an operation that changes the tree is longer.
 pub(crate) const MIN_ROOM: usize = 256;
 
-/// The room of each reply for the result of an operation that is refused.
+/// The room that each reply reserves for the result of a refused operation.
 pub(crate) const REFUSAL_ROOM: usize = 16;
 
 /// The most bytes of an open-owner.

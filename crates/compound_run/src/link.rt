@@ -18,7 +18,7 @@ use std::alloc::Allocator;
 use xdr_wire::Writer;
 
 impl<A: Allocator + Copy> Realm<A> {
-    /// Gives an object one more name, a free one, in a directory of this number and this change.
+    /// Adds a free name for an object to the directory of this number and this change attribute.
     fn name_linked(
         &mut self,
         step: Step<'_>,
@@ -47,7 +47,7 @@ impl<A: Allocator + Copy> Realm<A> {
         Ok(step.handles)
     }
 
-    /// Gives the saved object one more name, in the current directory.
+    /// Adds a name for the saved object to the current directory.
     pub fn link(
         &mut self,
         step: Step<'_>,

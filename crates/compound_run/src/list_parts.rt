@@ -1,4 +1,4 @@
-//! Parts of a list that are given: dacl and sacl (RFC 8881, sections 6.2.2 and 6.2.3).
+//! The parts of an access control list (ACL) that are sent: dacl and sacl (RFC 8881, sections 6.2.2 and 6.2.3).
 ghost use Rattle.std.specs.Prelude.{◌≡◌, IfOk};
 ghost use Rattle.acl_shape.specs.Bounds.{IsBounded};
 ghost use Rattle.acl_shape.specs.Parts as specs;
@@ -9,8 +9,8 @@ use acl_shape::{CombineFault, with_parts};
 use nfs_types::Status;
 use std::alloc::Allocator;
 
-/// A list with the parts that are given put into it. `NoSpc`: it would not be within the bounds of
-/// a list. `Delay`: there is no memory for it.
+/// An ACL with the parts that are sent put into it. `NoSpc`: it would exceed the bounds of an ACL. `Delay`: an
+/// allocation fails.
 pub(crate) fn put_parts<A: Allocator>(
     alloc: A,
     list: AclList<A>,

@@ -3,7 +3,8 @@ ghost use Rattle.std.specs.Prelude.{◌≡◌, ◌≤◌, false, if◌then◌els
 ghost use Rattle.nfs_ops.specs.Operations.{number_of};
 ghost use Rattle.compound_run.specs.Keeping.{keeps_alone};
 ghost use Rattle.compound_run.specs.Limits as limits;
-ghost use Rattle.compound_run.specs.SessionViews.{ActGives, ActedSo, ActsSo, IsOfClients, WritesWithin, is_again};
+ghost use Rattle.compound_run.specs.SessionViews.{ActGives, ActedGives, AloneGives, IsOfClients, WritesWithin};
+ghost use Rattle.compound_run.specs.SessionViews.{is_again};
 ghost use Rattle.compound_run.specs.SessionViews.{lone_view};
 ghost use Rattle.compound_run.specs.Views.{realm_of};
 
@@ -19,7 +20,7 @@ use std::alloc::Allocator;
 use xdr_wire::Writer;
 
 impl Lone<'_> {
-    /// The number that stands in the result.
+    /// The operation's number, as the result has it.
     fn number(&self) -> u32
         ensures { result ≡ number_of (lone_view self.now) }
     {
@@ -45,14 +46,14 @@ impl Lone<'_> {
     }
 }
 
-/// The result of an operation that is the only one: its status, and what a record has to know of it.
+/// The result of an operation that is the only one: its status, and the facts for the record of its call.
 #[derive(Clone, Copy, Debug, PartialEq, Eq)]
 pub(crate) struct Acted {
     pub status: Status,
     pub ran: Ran,
 }
 
-/// A call that is a repeat has changed nothing.
+/// The facts of a call, which has changed nothing if it is a retry.
 fn unless_again(again: bool, ran: Ran) -> Ran
     ensures { result ≡ (if again then record { kept = false; delayed = None } else ran) }
 {
@@ -90,7 +91,7 @@ impl<A: Allocator + Copy> Realm<A> {
         out: &mut Writer<A>,
     ) -> Acted
         requires room { limits.MIN_ROOM ≤ out.old.room }
-        ensures gives { ActedSo caller.now (lone_view lone.now) (realm_of self.old) out.old result (realm_of self.new)
+        ensures gives { ActedGives caller.now (lone_view lone.now) (realm_of self.old) out.old result (realm_of self.new)
             out.new }
         ensures others { IsOfClients self.old self.new }
     {
@@ -115,7 +116,7 @@ impl<A: Allocator + Copy> Realm<A> {
         }
     }
 
-    /// Whether the operation is a repeat of the last CREATE_SESSION of its client.
+    /// Whether the operation is a retry of the last CREATE_SESSION of its client.
     fn is_again(&self, lone: &Lone<'_>) -> bool
         ensures { result ≡ is_again (lone_view lone.now) (realm_of self.now) }
     {
@@ -125,7 +126,7 @@ impl<A: Allocator + Copy> Realm<A> {
         }
     }
 
-    /// Answers a COMPOUND of this operation alone, after what `out` holds.
+    /// Answers a COMPOUND of this operation alone: its results are appended to `out`.
     pub fn answer_alone(
         &mut self,
         tag: &[u8],
@@ -137,7 +138,7 @@ impl<A: Allocator + Copy> Realm<A> {
         requires short { length tag.now ≤ limits.MAX_TAG }
         requires room { limits.MAX_RESULTS ≤ out.old.room }
         ensures answers { WritesWithin limits.MAX_RESULTS
-            (λ bytes. ActsSo caller.now (lone_view lone.now) tag.now (realm_of self.old) bytes result
+            (λ bytes. AloneGives caller.now (lone_view lone.now) tag.now (realm_of self.old) bytes result
             (realm_of self.new))
             out.old out.new }
         ensures others { IsOfClients self.old self.new }

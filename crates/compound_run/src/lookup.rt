@@ -15,7 +15,7 @@ use std::alloc::Allocator;
 use xdr_wire::Writer;
 
 impl<A: Allocator + Copy> Realm<A> {
-    /// The child of a name in the current directory becomes current.
+    /// The child of a name in the current directory becomes the current filehandle.
     pub fn lookup(
         &mut self,
         step: Step<'_>,

@@ -14,7 +14,7 @@ use std::alloc::Allocator;
 use xdr_wire::Writer;
 
 impl<A: Allocator + Copy> Realm<A> {
-    /// The parent of the current directory becomes current.
+    /// The parent of the current directory becomes the current filehandle.
     pub fn lookupp(&mut self, step: Step<'_>, out: &mut Writer<A>) -> Result<FileHandles, Status>
         requires settled { self.old.tree.log.held ≡ [] }
         requires room { HasRoom step.context out.old }

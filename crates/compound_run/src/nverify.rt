@@ -15,8 +15,8 @@ use std::alloc::Allocator;
 use xdr_wire::Writer;
 
 impl<A: Allocator + Copy> Realm<A> {
-    /// OK where attributes of the current object don't all have these values. `Delay`: there is no
-    /// memory to compare them.
+    /// OK if the attributes of the current object don't all have these values. `Delay`: an allocation for the
+    /// comparison fails.
     pub fn nverify(
         &mut self,
         step: Step<'_>,

@@ -15,8 +15,8 @@ use nfs_types::{Attribute, Bitmap, ObjectFacts, Status};
 use node_tree::Node;
 use std::alloc::Allocator;
 
-/// The number of bytes that a file has, or the text of a link; a directory has none.
-fn size_told<A: Allocator>(node: &Node<A>) -> u64
+/// The byte count of a file, or of the text of a symbolic link; 0 of a directory.
+fn size_of<A: Allocator>(node: &Node<A>) -> u64
     ensures { result ≡ if is_directory node.now.kind then 0 else length node.now.bytes }
 {
     if node.is_directory() { 0 } else { node.size() }
@@ -35,8 +35,8 @@ fn mode_if_asked<A: Allocator>(node: &Node<A>, asked: &Bitmap) -> u32
 }
 
 impl<A: Allocator + Copy> Realm<A> {
-    /// The number of names that an object has; a directory counts as having one, also the root.
-    fn links_told(&self, number: u64, is_directory: bool) -> u32
+    /// The number of names of an object; 1 of each directory, also of the root.
+    fn link_count(&self, number: u64, is_directory: bool) -> u32
         requires { is_directory ≡ is_directory_in (sight_of self.now).kinds number }
         ensures { result ≡ links_at (sight_of self.now) number }
     {
@@ -47,23 +47,23 @@ impl<A: Allocator + Copy> Realm<A> {
         }
     }
 
-    /// The number of names that an object has, if it is requested, else 0.
+    /// The number of names of an object, if it is requested, else 0.
     fn links_if_asked(&self, number: u64, is_directory: bool, asked: &Bitmap) -> u32
         requires { is_directory ≡ is_directory_in (sight_of self.now).kinds number }
         ensures { result ≡ if_asked (bitmap_value asked.now) Attribute.NumLinks (links_at (sight_of self.now) number) }
     {
         if asked.has(Attribute::NumLinks.number()) {
-            self.links_told(number, is_directory)
+            self.link_count(number, is_directory)
         } else {
             0
         }
     }
 
-    /// The facts of an object for the attributes requested, with this status as rdattr_error. The
-    /// mode and the number of links are looked at only where they are requested: a listing has many
-    /// objects, and both cost a walk or a search. `None`: it isn't there.
+    /// The facts of an object for the attributes requested, with this status as rdattr_error. The mode and the number
+    /// of links are computed only if they are requested. A listing has many objects, and both cost a walk or a search.
+    /// `None`: the object doesn't exist.
     pub fn facts_for(&self, number: u64, status: Status, asked: &Bitmap) -> Option<ObjectFacts<'_>>
-        ensures tells { IfSome result (λ facts. facts_value facts ≡
+        ensures facts_are { IfSome result (λ facts. facts_value facts ≡
             facts_at (sight_of self.now) number status (bitmap_value asked.now)) }
         ensures there { is_some result ≡ is_some ((sight_of self.now).kinds number) }
         ensures sound { IsSound self.now.tree.world }
@@ -74,7 +74,7 @@ impl<A: Allocator + Copy> Realm<A> {
             kind: node.kind(),
             number,
             change: node.change(),
-            size: size_told(node),
+            size: size_of(node),
             error: status,
             entries: node.list().as_slice(),
             mode: mode_if_asked(node, asked),

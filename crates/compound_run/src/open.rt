@@ -14,7 +14,8 @@ ghost use Rattle.compound_run.specs.Operations.Create.{list_at};
 ghost use Rattle.compound_run.specs.Lists.{IsFit, new_fits};
 ghost use Rattle.compound_run.specs.Operations.Open as specs;
 ghost use Rattle.compound_run.specs.Operations.Open.{open_file, opening};
-ghost use Rattle.compound_run.specs.Opening.{HasPlace, IfByName, IsBefore, IsPlace, MakesFile};
+ghost use Rattle.compound_run.specs.Opening.{HasPlace, IsBefore, IsPlace, MakesFile};
+ghost use Rattle.compound_run.specs.internal.Opening.{IfByName};
 ghost use Rattle.compound_run.specs.Operations.Setattr as setting;
 ghost use Rattle.compound_run.specs.Sight.{child, directory_change, kind_at};
 ghost use Rattle.compound_run.specs.Views.{context_at, GivesOrDelays, HasRoom, realm_of, wanted_view, IsWanted, stage};
@@ -43,7 +44,7 @@ fn is_creating(how: &OpenHow<'_>) -> bool
     !matches!(how, OpenHow::NoCreate)
 }
 
-/// Whether an existing file is truncated, where this size is to be set.
+/// Whether an existing file is truncated, if this size is to be set.
 fn is_truncating(how: &OpenHow<'_>, size: Option<u64>) -> bool
     ensures { result ≡ rows.is_truncating (parts.how (open_how_value how.now)) size }
 {
@@ -53,8 +54,8 @@ fn is_truncating(how: &OpenHow<'_>, size: Option<u64>) -> bool
     }
 }
 
-/// The access is neither missing nor unknown, the share deny is 0, and the name is valid; a file
-/// that has a filehandle exists already.
+/// The access is neither missing nor unknown, the share deny is 0, and the name is valid. By filehandle the file
+/// exists, and can't be created.
 fn check_arguments(args: &OpenArgs<'_>) -> Result<(), Status>
     ensures fault { MatchResult result (λ done. specs.arguments_fault (open_args_value args.now) ≡ None)
         (λ status. specs.arguments_fault (open_args_value args.now) ≡ Some status) }
@@ -77,7 +78,7 @@ fn check_arguments(args: &OpenArgs<'_>) -> Result<(), Status>
     }
 }
 
-/// By name the current object is a directory, by filehandle a file.
+/// By name the current object must be a directory, by filehandle a file.
 fn check_current(claim: &OpenClaim<'_>, kind: Kind) -> Result<(), Status>
     ensures { MatchResult result (λ done. specs.current_fault (parts.claim (open_claim_value claim.now)) kind ≡ None)
         (λ status. specs.current_fault (parts.claim (open_claim_value claim.now)) kind ≡ Some status) }
@@ -90,7 +91,7 @@ fn check_current(claim: &OpenClaim<'_>, kind: Kind) -> Result<(), Status>
     }
 }
 
-/// An absent file is created where it may be; an existing object must be a file, and is refused by GUARDED4.
+/// An absent file is created if it may be. An existing object must be a file, and GUARDED4 refuses it.
 fn check_found(how: &OpenHow<'_>, kind: Option<Kind>) -> Result<(), Status>
     ensures { MatchResult result (λ done. specs.found_fault (parts.how (open_how_value how.now)) kind ≡ None)
         (λ status. specs.found_fault (parts.how (open_how_value how.now)) kind ≡ Some status) }
@@ -134,7 +135,8 @@ fn truncated_set(truncates: bool) -> Bitmap
 }
 
 impl<A: Allocator + Copy> Realm<A> {
-    /// The values that the attributes of a new file set. `Delay`: there is no memory for the list.
+    /// The values that the attributes of a new file set. `Delay`: an allocation for the access control list (ACL)
+    /// fails.
     fn wanted_with(&self, how: &OpenHow<'_>) -> Result<Attrs<A>, Status>
         ensures wanted { IsWanted (specs.sent_by self.now.tree.book (parts.how (open_how_value how.now))) result }
         ensures bounded { IfOk result (λ wanted. IfSome wanted.list IsBounded) }
@@ -174,8 +176,8 @@ impl<A: Allocator + Copy> Realm<A> {
 }
 
 impl<A: Allocator + Copy> Realm<A> {
-    /// A new file for a directory, of the size that is set, each byte of it zero. `NoSpc`: its list would not be within
-    /// the bounds of a list. `Delay`: there is no memory for it.
+    /// A new file for a directory, of the size that is set; each byte of it is zero. `NoSpc`: its ACL would exceed the
+    /// bounds of an ACL. `Delay`: an allocation fails.
     fn new_file(
         &self,
         directory: u64,
@@ -251,8 +253,8 @@ impl<A: Allocator + Copy> Realm<A> {
         })
     }
 
-    /// Makes room for the open of a file, and truncates the file, if it is to be. `NoSpc`: there is
-    /// no room, or no tick is left. `Delay`: there is no memory for it.
+    /// Reserves memory for the open of a file, and truncates the file, if it is to be. `NoSpc`: there is no space, or
+    /// no tick is left. `Delay`: an allocation fails.
     fn place_found(
         &mut self,
         context: Context<'_>,
@@ -371,9 +373,9 @@ impl<A: Allocator + Copy> Realm<A> {
         }
     }
 
-    /// Opens a file, by its name in the current directory or by the current filehandle. It becomes
-    /// current. An absent file may be created, an existing file truncated. `Delay`: there is no
-    /// memory for it, and nothing has changed.
+    /// Opens a file, by its name in the current directory or by the current filehandle. The file becomes the current
+    /// filehandle. An absent file may be created, an existing one truncated. `Delay`: an allocation fails, and nothing
+    /// has changed.
     pub fn open(
         &mut self,
         step: Step<'_>,

@@ -8,7 +8,8 @@ ghost use Rattle.nfs_ops.specs.Views.{open_args_value};
 ghost use Rattle.compound_run.specs.Asking.{sight_of};
 ghost use Rattle.compound_run.specs.Operations.Open as specs;
 ghost use Rattle.compound_run.specs.Realm.{opens_left};
-ghost use Rattle.compound_run.specs.Opening.{HasPlace, IsPlace, placed, placed_stateid, reopened_by};
+ghost use Rattle.compound_run.specs.Opening.{HasPlace, IsPlace, placed, placed_stateid};
+ghost use Rattle.compound_run.specs.internal.Opening.{reopened_by};
 ghost use Rattle.compound_run.specs.Views.{context_at, open_view, opens_view, realm_of};
 
 use crate::context::Context;
@@ -26,24 +27,24 @@ pub(crate) const MAX_OPENS: usize = 4_096;
 pub struct Open<A: Allocator = Global> {
     /// The number of the open.
     pub number: u64,
-    /// The number of the client that has it open.
+    /// The client ID of the client that has it open.
     pub client: u64,
     /// The bytes of the open-owner.
     pub owner: Vec<u8, A>,
-    /// The number of the file.
+    /// The object number of the file.
     pub object: u64,
-    /// To read 1, to write 2, for both 3.
+    /// 1 to read, 2 to write, 3 for both.
     pub access: u32,
-    /// The seqid: 1 at first, and one more each time that it is opened again; after 0xffffffff comes 1.
+    /// The seqid: 1 at first, and one more at each upgrade; after 0xffffffff comes 1.
     pub seqid: u32,
 }
 
 /// The place of an open.
 #[derive(Drop)]
 pub(crate) enum Place<A: Allocator> {
-    /// The owner has the file open by this number, with this seqid.
+    /// The owner has the file open under this number, with this seqid.
     Again { number: u64, seqid: u32 },
-    /// The file isn't open yet; these are the owner's bytes.
+    /// The owner doesn't have the file open yet; these are the owner's bytes.
     New { owner: Vec<u8, A> },
 }
 
@@ -55,7 +56,7 @@ fn risen(seqid: u32) -> u32
 }
 
 impl<A: Allocator> Open<A> {
-    /// Opens it again, also for this access, if this is its number.
+    /// Upgrades it to also have this access, if this is its number.
     fn reopen(&mut self, number: u64, access: u32)
         ensures { self.new ≡ reopened_by number access self.old }
     {
@@ -66,7 +67,7 @@ impl<A: Allocator> Open<A> {
     }
 }
 
-/// Opens the open of a number again.
+/// Upgrades the open of a number.
 fn reopen<A: Allocator>(opens: &mut Vec<Open<A>, A>, number: u64, access: u32)
     ensures { opens.new.items ≡ map (reopened_by number access) opens.old.items }
 {
@@ -112,7 +113,7 @@ impl<A: Allocator + Copy> Realm<A> {
         find_owned(&self.opens, context.client(), args.owner.bytes, file)
     }
 
-    /// Closes the opens of an object that has lost a name, if it is gone. It takes no memory.
+    /// Closes the opens of an object that has lost a name, if the object is gone. It allocates no memory.
     pub fn end_opens(&mut self, object: u64)
         ensures opens { opens_view self.new.opens.items ≡
             opens_left self.old.tree.world (Some object) (opens_view self.old.opens.items) }
@@ -123,7 +124,7 @@ impl<A: Allocator + Copy> Realm<A> {
         }
     }
 
-    /// Makes room for one more open, and copies its owner's bytes.
+    /// Reserves memory for one more open, and copies its owner's bytes.
     fn make_place(&mut self, owner: &[u8]) -> Result<Vec<u8, A>, AllocError>
         ensures owner { IfOk result (λ copy. copy.items ≡ owner.now) }
         ensures room { IfOk result (λ copy. vec_len self.new.opens + 1 ≤ vec_capacity self.new.opens) }
@@ -136,9 +137,8 @@ impl<A: Allocator + Copy> Realm<A> {
         Ok(copy)
     }
 
-    /// The place of the open of a file: the owner's open, if there is one, else a new one, for
-    /// which room is made. `NoSpc`: too many files are open, or no number is left. `Delay`: there
-    /// is no memory for it.
+    /// The place of the open of a file: the owner's open, if there is one, else a new one, for which memory is
+    /// reserved. `NoSpc`: too many files are open, or no number is left. `Delay`: an allocation fails.
     pub fn place(
         &mut self,
         context: Context<'_>,

@@ -13,7 +13,7 @@ use std::alloc::Allocator;
 use xdr_wire::Writer;
 
 impl<A: Allocator + Copy> Realm<A> {
-    /// The object of a filehandle becomes current.
+    /// This filehandle becomes the current one.
     pub fn putfh(
         &self,
         step: Step<'_>,

@@ -12,7 +12,7 @@ use std::alloc::Allocator;
 use xdr_wire::Writer;
 
 impl<A: Allocator + Copy> Realm<A> {
-    /// The root becomes current.
+    /// The root becomes the current filehandle.
     pub fn putrootfh(&self, step: Step<'_>, out: &mut Writer<A>) -> Result<FileHandles, Status>
         requires room { HasRoom step.context out.old }
         ensures { Gives step.entry putrootfh (stage self.now out.old) result (stage self.now out.new) }

@@ -40,7 +40,7 @@ impl<A: Allocator + Copy> Source for Data<'_, A> {
     }
 }
 
-/// The most bytes that are returned, of this many requested, in this much room.
+/// The most bytes that are returned, for this requested count and this much room.
 fn most_of(count: u32, room: usize) -> usize
     requires { 16 ≤ room }
     ensures { result ≡ specs.most_of count room }

@@ -10,12 +10,14 @@ ghost use Rattle.node_tree.specs.Judged.{judged_of};
 ghost use Rattle.node_tree.specs.Sound.{IsSound};
 ghost use Rattle.compound_run.specs.Asking.{sight_of};
 ghost use Rattle.compound_run.specs.Operations.Readdir as specs;
-ghost use Rattle.compound_run.specs.Operations.Readdir.{readdir, listing_of};
+ghost use Rattle.compound_run.specs.Operations.Readdir.{readdir};
+ghost use Rattle.compound_run.specs.internal.Readdir.{listing_of};
 ghost use Rattle.compound_run.specs.Rows.{MAX_FIRST_LINES, object_of};
 ghost use Rattle.access_guard.specs.Lists as access;
 ghost use Rattle.acl_list.specs.declared.mask.TheConstants.{READ_ATTRIBUTES, READ_ACL};
 ghost use Rattle.rpc_record.specs.Identity.{Identity};
-ghost use Rattle.compound_run.specs.Listed.{IsEntry, IsNextOf, PutsEntry, given_view, refused_of, written_entry};
+ghost use Rattle.compound_run.specs.internal.Listed.{IsEntry, IsNextOf, PutsEntry, given_view, refused_of};
+ghost use Rattle.compound_run.specs.internal.Listed.{written_entry};
 ghost use Rattle.compound_run.specs.Views.{context_at, Gives, HasRoom, stage};
 ghost use Rattle.who_book.specs.Members.{member};
 
@@ -47,8 +49,7 @@ fn has_all(granted: u32, mask: u32) -> bool
     mask & granted == mask
 }
 
-/// The first of the two demands of an entry that is refused, where READ_ATTRIBUTES and READ_ACL are
-/// granted, each or not.
+/// The first of the two demands of an entry that is refused, given whether READ_ATTRIBUTES and READ_ACL are granted.
 fn first_refused(demands: &[Option<Demand>], attributes: bool, list: bool) -> Option<Demand>
     requires { length demands.now ≡ 2 }
     ensures { result ≡ refused_of attributes list demands.now }
@@ -62,8 +63,8 @@ fn first_refused(demands: &[Option<Demand>], attributes: bool, list: bool) -> Op
     None
 }
 
-/// The attributes of an entry's object, with rdattr_error, or the demand that refuses the entry,
-/// where READ_ATTRIBUTES and READ_ACL are granted, each or not.
+/// The attributes of an entry's object, with rdattr_error, or the demand that refuses the entry, given whether
+/// READ_ATTRIBUTES and READ_ACL are granted.
 fn judge_by(
     attributes: bool,
     list: bool,
@@ -86,8 +87,8 @@ fn judge_by(
     Ok((Status::Access, given))
 }
 
-/// Writes an entry after its link, with these attributes of its object. `Full` exactly where there
-/// is no room; then nothing is written.
+/// Writes an entry after its link, with these attributes of its object. `Full`: if and only if there is no room; then
+/// nothing is written.
 fn put_entry<'t, A: Allocator, B: Allocator>(
     book: &'t Book,
     facts: &'t ObjectFacts<'_>,
@@ -110,8 +111,8 @@ fn put_entry<'t, A: Allocator, B: Allocator>(
 }
 
 impl<A: Allocator + Copy> Realm<A> {
-    /// The next entry of a directory above a cookie: its cookie, and the number of its object. `None`:
-    /// there is none. The object isn't looked up.
+    /// The next entry of a directory above a cookie: its own cookie, and the number of its object. `None`: there is
+    /// none. The object isn't looked up.
     fn next_entry(&self, directory: u64, cookie: u64) -> Option<(u64, u64)>
         ensures none { result ≡ None → specs.names_above (sight_of self.now) directory cookie ≡ [] }
         ensures some { IfSome result (λ next. IsNextOf (sight_of self.now) directory cookie
@@ -121,9 +122,9 @@ impl<A: Allocator + Copy> Realm<A> {
         Some((name.cookie(), name.child()))
     }
 
-    /// The attributes of an entry's object, with rdattr_error, or the demand that refuses the
-    /// entry. The grants of its list are looked up once. Where they have both rights, that is all:
-    /// no demand is refused then, whatever is requested.
+    /// The attributes of an entry's object, with rdattr_error, or the demand that refuses the entry. The grants of its
+    /// access control list are looked up once. If both permissions are granted, nothing more is needed: then no demand
+    /// is refused, whatever is requested.
     fn judge_child(
         &mut self,
         caller: &Caller,
@@ -150,9 +151,8 @@ impl<A: Allocator + Copy> Realm<A> {
         judge_by(attributes, list, Object { number, kind }, asked)
     }
 
-    /// Writes an entry of a directory after its link, by its cookie, with these attributes of its
-    /// object and this status as rdattr_error. `Full` exactly where there is no room; then nothing
-    /// is written.
+    /// Writes an entry of a directory after its link, by its cookie, with these attributes of its object and this
+    /// status as rdattr_error. `Full`: if and only if there is no room; then nothing is written.
     fn put_child<B: Allocator>(
         &self,
         context: Context<'_>,
@@ -251,8 +251,8 @@ impl<A: Allocator + Copy> Realm<A> {
         write_readdir(&mut children, args.maxcount, context.room, out)
     }
 
-    /// Writes the listing of a directory. Where an entry is refused for want of rdattr_error, the
-    /// lines of the refused demand are held.
+    /// Writes the listing of a directory. If an entry is refused because rdattr_error isn't requested, the lines of the
+    /// refused demand are held.
     fn list(
         &mut self,
         step: Step<'_>,
@@ -275,7 +275,7 @@ impl<A: Allocator + Copy> Realm<A> {
         }
     }
 
-    /// Entries of the current directory, as many as fit. It takes no memory.
+    /// Lists entries of the current directory, as many as fit. It allocates no memory.
     pub fn readdir(
         &mut self,
         step: Step<'_>,

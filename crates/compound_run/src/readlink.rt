@@ -28,7 +28,7 @@ fn text_size(length: u64) -> u64
     12 + length + (4 - length % 4) % 4
 }
 
-/// The text of a link, which is copied from the tree.
+/// The text of a symbolic link, which is copied from the tree.
 #[derive(Drop)]
 struct Text<'t, A: Allocator + Copy> {
     tree: &'t GuardedTree<A>,
@@ -45,7 +45,7 @@ impl<A: Allocator + Copy> Source for Text<'_, A> {
     }
 }
 
-/// Writes number and status OK, for which there is room.
+/// Writes number and status OK. There must be room for both.
 fn put_head<A: Allocator>(out: &mut Writer<A>)
     requires { 8 ≤ out.old.room }
     ensures { Appends out.old out.new (to_be_bytes w32 27 ++ to_be_bytes w32 0) }
@@ -53,8 +53,7 @@ fn put_head<A: Allocator>(out: &mut Writer<A>)
     (OP_READLINK, 0u32).write(out).unwrap();
 }
 
-/// Writes the text of a link, which has `len` bytes and for which there is room, straight from the
-/// tree.
+/// Writes the text of a symbolic link straight from the tree. It has `len` bytes, for which there must be room.
 fn put_text<A: Allocator + Copy>(tree: &GuardedTree<A>, link: u64, len: usize, out: &mut Writer<A>)
     requires all { length (bytes_of tree.now.world link) ≡ len }
     requires short { len ≤ 1024 }
@@ -68,7 +67,7 @@ fn put_text<A: Allocator + Copy>(tree: &GuardedTree<A>, link: u64, len: usize, o
 }
 
 impl<A: Allocator + Copy> Realm<A> {
-    /// The number of bytes that the text of a link has.
+    /// The byte count of the text of a symbolic link.
     #[tactic(auto, using(crate::proofs::Texts::text_is_short))]
     fn text_length(&self, link: u64) -> u64
         requires { kind_of self.now.tree.world link ≡ Some Kind.Link }
@@ -81,7 +80,7 @@ impl<A: Allocator + Copy> Realm<A> {
         }
     }
 
-    /// The text of the current link.
+    /// The text of the current symbolic link.
     pub fn readlink(&mut self, step: Step<'_>, out: &mut Writer<A>) -> Result<FileHandles, Status>
         requires settled { self.old.tree.log.held ≡ [] }
         requires room { HasRoom step.context out.old }

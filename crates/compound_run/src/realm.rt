@@ -1,4 +1,4 @@
-//! The realm that is served, with the calls that operations need.
+//! The realm, with the calls that operations need.
 ghost use Rattle.std.specs.Prelude.{◌≡◌, ◌≢◌, ◌<◌, ◌≤◌, ◌^◌, if◌then◌else◌, length, true, false, Ok, Err, Some, None};
 ghost use Rattle.std.specs.Prelude.{IfOk, IfSome, IsOk, IsSome, IsOkUnless, MatchOption, MatchResult, OnOk, OnErr};
 ghost use Rattle.acl_shape.specs.Bounds.{IsBounded};
@@ -25,18 +25,18 @@ use node_tree::{At, Kind, MAX_LINKS, Move, NewObject, Plan, TreeFault};
 use session_slots::Clients;
 use std::alloc::{Allocator, Global};
 
-/// The realm that is served: the tree, with the guard of its lists, the open files, and the clients.
+/// The realm: the tree with the guard of its access control lists (ACLs), the open files, and the clients.
 #[derive(Drop)]
 pub(crate) struct Realm<A: Allocator + Copy = Global> {
     pub alloc: A,
     pub tree: GuardedTree<A>,
     /// The open files, by rising number.
     pub opens: Vec<Open<A>, A>,
-    /// The number that the next open gets.
+    /// The number of the next open.
     pub next_open: u64,
     /// The clients and their sessions.
     pub clients: Clients<A>,
-    /// Whether sessions outlive a restart of this server.
+    /// Whether sessions are persistent: they survive a restart of this server.
     pub lasting: bool,
 }
 
@@ -52,7 +52,7 @@ pub(crate) fn check(name: &[u8]) -> Result<(), Status>
     }
 }
 
-/// The status of a change that the tree refuses. Where there is no memory for it, that is DELAY.
+/// The status of a change that the tree refuses. It is DELAY if an allocation fails.
 pub(crate) fn status_of(fault: TreeFault) -> Status
     ensures { result ≡ status_at fault }
 {
@@ -77,7 +77,7 @@ impl<A: Allocator + Copy> Realm<A> {
         self.tree.find(directory, name)
     }
 
-    /// When a change is made at this moment, if the counter of ticks has one left.
+    /// The tick and moment of a change, if the counter of ticks has one left.
     pub fn tick(&self, now: Moment) -> Option<At>
         ensures value { result ≡ (if has_left self.now.tree.world.next_tick
             then Some (record { tick = self.now.tree.world.next_tick; moment = now }) else None) }
@@ -90,7 +90,7 @@ impl<A: Allocator + Copy> Realm<A> {
         Some(At { tick, moment: now })
     }
 
-    /// Creates an object under a free name. `NoSpc`: there is no space for it. `Delay`: there is no memory for it.
+    /// Creates an object under a free name. `NoSpc`: there is no space for it. `Delay`: an allocation fails.
     pub fn add(
         &mut self,
         directory: u64,
@@ -117,7 +117,7 @@ impl<A: Allocator + Copy> Realm<A> {
         self.tree.add(directory, name, new, at).map_err(status_of)
     }
 
-    /// Writes bytes into a file, within its limit. `Delay`: there is no memory for them.
+    /// Writes bytes into a file, within its limit. `Delay`: an allocation fails.
     pub fn write_bytes(&mut self, file: u64, offset: u64, more: &[u8], at: At) -> Result<(), Status>
         requires tick { IsTick self.old.tree.world at.tick }
         requires file { kind_of self.old.tree.world file ≡ Some Kind.File }
@@ -130,7 +130,7 @@ impl<A: Allocator + Copy> Realm<A> {
         self.tree.write(file, offset, more, at).map_err(status_of)
     }
 
-    /// Gives an object a free name. `NoSpc`: there is no space for it. `Delay`: there is no memory for it.
+    /// Adds a free name for an object. `NoSpc`: there is no space for it. `Delay`: an allocation fails.
     pub fn add_name(
         &mut self,
         directory: u64,
@@ -161,7 +161,7 @@ impl<A: Allocator + Copy> Realm<A> {
             .map_err(status_of)
     }
 
-    /// Takes away the name of a child without entries. Where that was its last name its opens are closed.
+    /// Removes the name of a child without entries. If that was its last name, its opens are closed.
     pub fn unlink(&mut self, directory: u64, name: &[u8], target: u64, at: At)
         requires tick { IsTick self.old.tree.world at.tick }
         requires child { child (whole (realm_of self.old)) directory name.now ≡ Some target }
@@ -194,7 +194,7 @@ impl<A: Allocator + Copy> Realm<A> {
         self.tree.plan_rename(from, old, to, new).map_err(status_of)
     }
 
-    /// Gives a child another name, as planned. `NoSpc`: there is no space for it. `Delay`: there is no memory for it.
+    /// Renames a child, as planned. `NoSpc`: there is no space for the name. `Delay`: an allocation fails.
     fn carry_out(&mut self, moved: Move<'_>, at: At) -> Result<(), Status>
         requires tick { IsTick self.old.tree.world at.tick }
         requires planned { IsMove self.old.tree.world moved }
@@ -210,9 +210,8 @@ impl<A: Allocator + Copy> Realm<A> {
         self.tree.carry_out(moved, at).map_err(status_of)
     }
 
-    /// Gives a child another name, as planned. A target of that name loses it; where that was its
-    /// last name its opens are closed. `NoSpc`: there is no space for it. `Delay`: there is no
-    /// memory for it.
+    /// Renames a child, as planned. A target that has the new name loses it; if that was its last name, its opens are
+    /// closed. `NoSpc`: there is no space for the name. `Delay`: an allocation fails.
     pub fn rename_child(&mut self, moved: Move<'_>, at: At) -> Result<(), Status>
         requires tick { IsTick self.old.tree.world at.tick }
         requires planned { IsMove self.old.tree.world moved }

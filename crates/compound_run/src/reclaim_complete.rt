@@ -13,8 +13,8 @@ use std::alloc::Allocator;
 use xdr_wire::Writer;
 
 impl<A: Allocator + Copy> Realm<A> {
-    /// The client of the session reclaims no more. For the file system of the current filehandle
-    /// nothing changes. It takes no memory.
+    /// The client of the session has finished its reclaims. For the file system of the current filehandle nothing
+    /// changes. It allocates no memory.
     pub fn reclaim_complete(
         &mut self,
         step: Step<'_>,

@@ -15,7 +15,8 @@ use std::alloc::Allocator;
 use xdr_wire::Writer;
 
 impl<A: Allocator + Copy> Realm<A> {
-    /// Takes away a name of the current directory. The object goes with its last name. It takes no memory.
+    /// Removes a name of the current directory. When the last name of an object is removed, the object is removed too.
+    /// It allocates no memory.
     pub fn remove(
         &mut self,
         step: Step<'_>,

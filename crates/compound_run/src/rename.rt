@@ -3,7 +3,8 @@ ghost use Rattle.std.specs.Prelude.{◌≡◌, ◌+◌, ◌<◌, ◌≤◌, [], 
 ghost use Rattle.nfs_ops.specs.Views.{rename_args_value};
 ghost use Rattle.node_tree.specs.Moves.{IsMove};
 ghost use Rattle.compound_run.specs.Sight.{directory_change};
-ghost use Rattle.compound_run.specs.Operations.Rename.{rename, moving};
+ghost use Rattle.compound_run.specs.Operations.Rename.{rename};
+ghost use Rattle.compound_run.specs.internal.Rename.{moving};
 ghost use Rattle.compound_run.specs.Views.{GivesOrDelays, HasRoom, stage};
 
 use crate::directory::Directory;
@@ -44,7 +45,7 @@ impl<A: Allocator + Copy> Realm<A> {
         Ok(step.handles)
     }
 
-    /// Gives a child of the saved directory a new name in the current one. A target of that name loses it.
+    /// Gives a child of the saved directory a new name in the current one. A target that has that name loses it.
     pub fn rename(
         &mut self,
         step: Step<'_>,

@@ -12,7 +12,7 @@ use std::alloc::Allocator;
 use xdr_wire::Writer;
 
 impl<A: Allocator + Copy> Realm<A> {
-    /// The saved filehandle becomes current, and stays saved.
+    /// The saved filehandle becomes the current one, and stays saved.
     pub fn restorefh(&self, step: Step<'_>, out: &mut Writer<A>) -> Result<FileHandles, Status>
         requires room { HasRoom step.context out.old }
         ensures { Gives step.entry restorefh (stage self.now out.old) result (stage self.now out.new) }

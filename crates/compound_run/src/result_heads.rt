@@ -1,10 +1,10 @@
-//! The head of a COMPOUND's results, and results that are known (RFC 8881, section 16.2).
+//! The head of a COMPOUND's results, and results that are known beforehand (RFC 8881, section 16.2).
 ghost use Rattle.std.specs.Prelude.{◌+◌, ◌≤◌, length};
 ghost use Rattle.xdr_wire.specs.Buffer.{Appends};
 ghost use Rattle.compound_run.specs.Compound.{head};
 ghost use Rattle.compound_run.specs.InSession.{refused_alone};
 ghost use Rattle.compound_run.specs.Limits as limits;
-ghost use Rattle.compound_run.specs.SessionViews.{Writes};
+ghost use Rattle.compound_run.specs.internal.SessionViews.{Writes};
 
 use crate::compound::{put_tag, put_word};
 use crate::operation_results::put_refusal;
@@ -12,7 +12,7 @@ use nfs_types::Status;
 use std::alloc::Allocator;
 use xdr_wire::Writer;
 
-/// Writes a status, a tag and how many results follow.
+/// Writes a status, a tag and the number of results that follow.
 pub(crate) fn put_head<A: Allocator>(status: Status, tag: &[u8], count: u32, out: &mut Writer<A>)
     requires short { length tag.now ≤ limits.MAX_TAG }
     requires room { 1036 ≤ out.old.room }
@@ -24,7 +24,7 @@ pub(crate) fn put_head<A: Allocator>(status: Status, tag: &[u8], count: u32, out
     put_word(out, count);
 }
 
-/// Answers a COMPOUND of which no operation is run, after what `out` holds.
+/// Appends to `out` the answer of a COMPOUND of which no operation runs.
 pub(crate) fn put_ended<A: Allocator>(tag: &[u8], status: Status, out: &mut Writer<A>)
     requires short { length tag.now ≤ limits.MAX_TAG }
     requires room { limits.MAX_RESULTS ≤ out.old.room }
@@ -33,7 +33,7 @@ pub(crate) fn put_ended<A: Allocator>(tag: &[u8], status: Status, out: &mut Writ
     put_head(status, tag, 0, out);
 }
 
-/// Answers a COMPOUND whose first operation, of this number, is refused, after what `out` holds.
+/// Appends to `out` the answer of a COMPOUND whose first operation, of this number, is refused.
 pub(crate) fn put_refused<A: Allocator>(
     tag: &[u8],
     number: u32,
@@ -48,8 +48,8 @@ pub(crate) fn put_refused<A: Allocator>(
     put_refusal(number, status, out);
 }
 
-/// Writes results that are kept, after what `out` holds.
-pub(crate) fn put_kept<A: Allocator>(results: &[u8], out: &mut Writer<A>)
+/// Appends cached results to `out`.
+pub(crate) fn put_cached<A: Allocator>(results: &[u8], out: &mut Writer<A>)
     requires few { length results.now ≤ limits.MAX_RESULTS }
     requires room { limits.MAX_RESULTS ≤ out.old.room }
     ensures { Writes limits.MAX_RESULTS results.now out.old out.new }

@@ -4,7 +4,7 @@ ghost use Rattle.nfs_ops.specs.OpViews.{op_view};
 ghost use Rattle.compound_run.specs.Operations as specs;
 ghost use Rattle.compound_run.specs.Delaying.{DelaysIf};
 ghost use Rattle.compound_run.specs.Limits as limits;
-ghost use Rattle.compound_run.specs.Telling.{is_delay};
+ghost use Rattle.compound_run.specs.AnswerOf.{is_delay};
 ghost use Rattle.compound_run.specs.Views.{context_at, handles_after, point_at, GivesBy, stage, by_meaning, by_run};
 ghost use Rattle.compound_run.specs.Written.{StepGives};
 
@@ -19,9 +19,8 @@ use nfs_types::Status;
 use std::alloc::Allocator;
 use xdr_wire::Writer;
 
-/// The fault of an operation's place, if any: where there is no session its operations aren't
-/// supported. After a SEQUENCE there is no place for a further one, nor for an operation that has
-/// to be the only one of its COMPOUND.
+/// The fault of an operation's place, if any. Without a session the operations of sessions aren't supported. After a
+/// SEQUENCE there is no place for another SEQUENCE, nor for an operation that must be the only one of its COMPOUND.
 fn place_fault(context: Context<'_>, op: &Op<'_>) -> Option<Status>
     ensures { result ≡ specs.place_fault_in context.entry.calling (op_view op.now) }
 {
@@ -35,7 +34,7 @@ fn place_fault(context: Context<'_>, op: &Op<'_>) -> Option<Status>
     }
 }
 
-/// Whether an operation is run among others: it needs room for its result.
+/// Whether an operation runs among others, and so needs room for its result.
 fn is_run(op: &Op<'_>) -> bool
     ensures { result ≡ specs.is_run (op_view op.now) }
 {
@@ -58,14 +57,14 @@ fn entry_fault(context: Context<'_>, op: &Op<'_>) -> Option<Status>
     None
 }
 
-/// Whether an operation answers that it found no memory.
+/// Whether an operation answers that an allocation failed.
 fn is_delayed(answer: &Result<FileHandles, Status>) -> bool
     ensures { result ≡ is_delay answer.now }
 {
     matches!(answer, Err(Status::Delay))
 }
 
-/// Whether an operation takes memory, which may be refused. Then it is answered DELAY.
+/// Whether an operation allocates memory, which may fail. Then it is answered DELAY.
 fn takes_memory(op: &Op<'_>) -> bool
     ensures { result ≡ specs.takes_memory (op_view op.now) }
 {
@@ -83,8 +82,8 @@ fn takes_memory(op: &Op<'_>) -> bool
 }
 
 impl<A: Allocator + Copy> Realm<A> {
-    /// Answers an operation, once it has its place, and room for its result. Where memory is
-    /// refused to it, and it takes any, it isn't run.
+    /// Answers an operation, once it has its place, and room for its result. If its allocation is to fail, and it
+    /// allocates any memory, it isn't run.
     fn answer(
         &mut self,
         step: Step<'_>,
@@ -107,7 +106,7 @@ impl<A: Allocator + Copy> Realm<A> {
         self.body(step, op, out)
     }
 
-    /// Runs an operation, and ends it: its lines go to the trail, unless it found no memory.
+    /// Runs an operation, and ends it: its lines go to the trail, unless an allocation failed.
     fn run(
         &mut self,
         step: Step<'_>,
@@ -126,8 +125,8 @@ impl<A: Allocator + Copy> Realm<A> {
         result
     }
 
-    /// Runs an operation, and writes its result. Answers the filehandles after it. `Err`: it isn't OK, and they stay.
-    /// Where memory is `refused` to it, and it takes any, it is answered DELAY and isn't run.
+    /// Runs an operation, and writes its result. Returns the filehandles after it. `Err`: it isn't OK, and they stay.
+    /// If its allocation is to fail (`refused`), and it allocates any memory, it is answered DELAY and isn't run.
     pub fn run_one(
         &mut self,
         step: Step<'_>,

@@ -6,7 +6,8 @@ ghost use Rattle.nfs_ops.specs.declared.OpKind.TheVariants as kinds;
 ghost use Rattle.compound_run.specs.Compound.{first_room, series};
 ghost use Rattle.compound_run.specs.Limits as limits;
 ghost use Rattle.compound_run.specs.Runs.{spelled};
-ghost use Rattle.compound_run.specs.SessionViews.{SequencedSo, SequencedBehind, WritesWithin, sequence_told};
+ghost use Rattle.compound_run.specs.SessionViews.{SequencedGives, WritesWithin};
+ghost use Rattle.compound_run.specs.internal.SessionViews.{AppendsSequenced, sequence_outcome};
 ghost use Rattle.compound_run.specs.Views.{context_at, stage};
 
 use crate::compound::{CompoundArgs, Ended, ToRun, put_tag, put_word};
@@ -35,11 +36,11 @@ impl CompoundArgs<'_> {
         requires some { 1 ≤ context.count }
         requires result { length out.old.bytes + limits.MIN_ROOM ≤ end }
         requires room { end + limits.REFUSAL_ROOM ≤ length out.old.bytes + out.old.room }
-        ensures answers { SequencedBehind (end + limits.REFUSAL_ROOM) to_run.entry.refused
+        ensures answers { AppendsSequenced (end + limits.REFUSAL_ROOM) to_run.entry.refused
             (series self.now.tag.now (record (context_at realm.old context.entry) {
               room = end - length out.old.bytes
                   - length (spelled (Done kinds.Sequence (sequence_result_value given)));
-            }) to_run.entry.operations.now) (sequence_told given) (stage realm.old out.old) result
+            }) to_run.entry.operations.now) (sequence_outcome given) (stage realm.old out.old) result
             (stage realm.new out.new) }
         ensures settled { realm.new.tree.log.held ≡ [] }
     {
@@ -51,10 +52,10 @@ impl CompoundArgs<'_> {
         realm.run_all(second, to_run, out)
     }
 
-    /// Writes the results of a COMPOUND with this SEQUENCE and these operations after it. They come
-    /// after what `out` holds, and are at most `limit` bytes. Status and number of the results are
-    /// filled in once they are known. Answers how the operations ended.
-    pub fn run_behind<A: Allocator + Copy>(
+    /// Appends to `out` the results of a COMPOUND with this SEQUENCE and these operations after it. They are at most
+    /// `limit` bytes. Status and number of the results are filled in once they are known. Returns how the operations
+    /// ended.
+    pub fn run_after_sequence<A: Allocator + Copy>(
         &self,
         realm: &mut Realm<A>,
         context: Context<'_>,
@@ -70,11 +71,11 @@ impl CompoundArgs<'_> {
         requires least { 4072 ≤ limit }
         requires room { limit ≤ out.old.room }
         ensures answers { WritesWithin limit
-            (λ bytes. SequencedSo to_run.entry.refused
+            (λ bytes. SequencedGives to_run.entry.refused
             (series self.now.tag.now (record (context_at realm.old context.entry) {
               room = first_room (limit + limits.REPLY_HEADER) self.now.tag.now
                   - length (spelled (Done kinds.Sequence (sequence_result_value given)));
-            }) to_run.entry.operations.now) (sequence_told given) realm.old bytes result realm.new)
+            }) to_run.entry.operations.now) (sequence_outcome given) realm.old bytes result realm.new)
             out.old out.new }
         ensures settled { realm.new.tree.log.held ≡ [] }
     {

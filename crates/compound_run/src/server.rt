@@ -1,29 +1,28 @@
-//! The server: a tree of objects, with its guard and a book of names, and the COMPOUNDs over it.
+//! The server: a tree of objects, with its guard and a book of names, which runs COMPOUNDs.
 ghost use Rattle.std.specs.Prelude.{◌≡◌, ◌≤◌, [], length, true, false, if◌then◌else◌, is_some, Err, IfOk, IfSome};
 ghost use Rattle.std.specs.Prelude.{IsSome, MatchOption, Ok, OnErr, OnOk};
 ghost use Rattle.std.specs.NonZero.{non_zero_usize_get};
-ghost use Rattle.node_tree.specs.Notes.{begun_notes, cleared};
 ghost use Rattle.session_slots.specs.Registry.{client_at};
 ghost use Rattle.access_guard.specs.Epochs.{next_epoch};
 ghost use Rattle.access_guard.specs.Memory.{Agrees};
 ghost use Rattle.compound_run.specs.Delaying.{RunsDelaying};
 ghost use Rattle.compound_run.specs.InSession.{AnswersInSession};
-ghost use Rattle.compound_run.specs.Known.{opens_fit};
+ghost use Rattle.compound_run.specs.ClientState.{opens_fit};
 ghost use Rattle.compound_run.specs.Limits as limits;
 ghost use Rattle.compound_run.specs.Recorded.{RunsRecorded};
 ghost use Rattle.compound_run.specs.Replaying.{IsNumbered, ready, ready_of};
 ghost use Rattle.compound_run.specs.Compound.{args_form, args_in};
 ghost use Rattle.xdr_wire.specs.Reading.{read_at};
-ghost use Rattle.compound_run.specs.State.{fresh, next_numbers, restored, with_book, with_notes, without_client};
-ghost use Rattle.compound_run.specs.State.{without_lines};
+ghost use Rattle.compound_run.specs.State.{fresh, next_numbers, restored, with_book, without_client};
+ghost use Rattle.compound_run.specs.State.{with_lagging_slots, without_lines};
 ghost use Rattle.compound_run.specs.State.{Answers, RunsBare};
 ghost use Rattle.compound_run.specs.Views.{called, opens_view};
 
+use crate::client_state::ClientState;
 use crate::compound::CompoundArgs;
 use crate::context::Context;
-use crate::in_session::Coming;
+use crate::in_session::IncomingCall;
 use crate::kept::Ran;
-use crate::known::Known;
 use crate::limits::{MAX_RESULTS, REFUSAL_ROOM};
 use crate::opens::Open;
 use crate::realm::Realm;
@@ -40,16 +39,16 @@ use std::num::NonZeroUsize;
 use who_book::Book;
 use xdr_wire::Writer;
 
-/// The seconds of a lease: a client of which nothing was heard for longer may be let go.
+/// The seconds of a lease: a client whose lease wasn't renewed for longer may expire.
 const LEASE: u64 = 90;
 
-/// A silent client may be let go where more records of clients than this are there.
+/// A silent client may expire if there are more client records than this.
 const MANY_CLIENTS: usize = 32;
 
-/// So where more sessions than this are there.
+/// A silent client may expire if there are more sessions than this.
 const MANY_SESSIONS: usize = 32;
 
-/// So where more files than this are open.
+/// A silent client may expire if there are more open files than this.
 const MANY_OPENS: usize = 2_048;
 
 /// The arguments of a COMPOUND.
@@ -57,7 +56,7 @@ const MANY_OPENS: usize = 2_048;
 pub struct Args<'a> {
     /// The bytes after the call's header.
     pub bytes: &'a [u8],
-    /// The number of bytes that the call's record has.
+    /// The byte count of the call's record.
     pub record_len: usize,
 }
 
@@ -66,7 +65,7 @@ pub struct Args<'a> {
 pub enum RunEnd {
     /// The COMPOUND has results.
     Replied,
-    /// The tag, the minor version or the number of operations can't be read, and there are no results.
+    /// The tag, the minor version or the operation count can't be decoded, and there are no results.
     Garbage,
 }
 
@@ -89,9 +88,9 @@ impl<A: Allocator + Copy> Model for Server<A> {
 }
 
 impl<A: Allocator + Copy> Server<A> {
-    /// A server of this tree, which has run nothing yet, and whose sessions don't outlive a
-    /// restart. It remembers summaries of at most `capacity` pairs of a list and a caller, whose
-    /// keys are hashed by `hasher`. `Err`: there is no memory for it.
+    /// A server of this tree, which has run nothing yet, and whose sessions aren't persistent. It remembers summaries
+    /// of at most `capacity` pairs of an access control list (ACL) and a caller, whose keys are hashed by `hasher`.
+    /// `Err`: an allocation fails.
     pub fn new(
         alloc: A,
         tree: Tree<A>,
@@ -113,66 +112,64 @@ impl<A: Allocator + Copy> Server<A> {
         })
     }
 
-    /// A server over a tree and the clients that were kept before a restart, which fit. `Err`:
-    /// there is no memory for it.
+    /// A server over a tree and the clients from before a restart, which fit. `Err`: an allocation fails.
     fn lasting(
         alloc: A,
         tree: Tree<A>,
-        known: Known<A>,
+        client_state: ClientState<A>,
         book: Book,
         capacity: NonZeroUsize,
         hasher: RandomState,
     ) -> Result<Self, AllocError>
-        ensures { IfOk result (λ server. server ≡ restored tree known book (non_zero_usize_get capacity)) }
+        ensures { IfOk result (λ server. server ≡ restored tree client_state book (non_zero_usize_get capacity)) }
     {
         let guarded = GuardedTree::new(alloc, tree, book, capacity, hasher)?;
         Ok(Server {
             realm: Realm {
                 alloc,
                 tree: guarded,
-                opens: known.opens,
-                next_open: known.next_open,
-                clients: known.clients,
+                opens: client_state.opens,
+                next_open: client_state.next_open,
+                clients: client_state.clients,
                 lasting: true,
             },
         })
     }
 
-    /// A server that goes on after a restart over what was kept: the tree, the clients with their
-    /// sessions, and the open files (RFC 8881, section 2.10.6.5). Its sessions outlive the next
-    /// restart too: CREATE_SESSION grants CREATE_SESSION4_FLAG_PERSIST where it is asked for.
+    /// A server that continues after a restart over the restored state: the tree, the clients with their sessions, and
+    /// the open files (RFC 8881, section 2.10.6.5). Its sessions are persistent: they survive the next restart too.
+    /// CREATE_SESSION grants CREATE_SESSION4_FLAG_PERSIST if it is requested.
     ///
-    /// Misfit: an open file can't stand. Its number isn't above those before it, or wasn't given
-    /// yet; its file isn't there, or its client has no record; its owner has more than 1,024 bytes,
-    /// its access isn't 1, 2 or 3, or its seqid is 0. Or there are more than 4,096 of them, or the
-    /// number of the next one is 0 or above 2^63.
+    /// `Misfit`: the open files don't fit. An open's number isn't above those before it, or wasn't given out yet. Its
+    /// file doesn't exist, or its client has no record. Its owner has more than 1,024 bytes, its access isn't 1, 2 or
+    /// 3, or its seqid is 0. Or there are more than 4,096 of them, or the number of the next one is 0 or above 2^63.
     pub fn restored(
         alloc: A,
         tree: Tree<A>,
-        known: Known<A>,
+        client_state: ClientState<A>,
         book: Book,
         capacity: NonZeroUsize,
         hasher: RandomState,
     ) -> Result<Self, RestoreFault>
-        ensures fits { OnOk result (opens_fit tree known ≡ true) }
-        ensures misfit { result ≡ Err RestoreFault.Misfit → opens_fit tree known ≡ false }
-        ensures memory { result ≡ Err RestoreFault.Memory → opens_fit tree known ≡ true }
-        ensures ok { IfOk result (λ server. server ≡ restored tree known book (non_zero_usize_get capacity)) }
+        ensures fits { OnOk result (opens_fit tree client_state ≡ true) }
+        ensures misfit { result ≡ Err RestoreFault.Misfit → opens_fit tree client_state ≡ false }
+        ensures memory { result ≡ Err RestoreFault.Memory → opens_fit tree client_state ≡ true }
+        ensures ok { IfOk result (λ server. server ≡ restored tree client_state book (non_zero_usize_get capacity)) }
     {
-        if !known.fits(&tree) {
+        if !client_state.fits(&tree) {
             return Err(RestoreFault::Misfit);
         }
-        Ok(Server::lasting(alloc, tree, known, book, capacity, hasher)?)
+        Ok(Server::lasting(alloc, tree, client_state, book, capacity, hasher)?)
     }
 
-    /// Runs a COMPOUND without a session at a moment (RFC 8881, section 16.2): its operations in
-    /// turn, up to and with the first that isn't OK. Its results are put after what `out` holds.
-    /// They are at most [`MAX_RESULTS`] bytes, for which there has to be room.
+    /// Runs a COMPOUND without a session at a moment (RFC 8881, section 16.2): its operations in turn, up to and
+    /// including the first that isn't OK. Its results are appended to `out`. They are at most [`MAX_RESULTS`] bytes,
+    /// for which there must be room.
     ///
-    /// Another minor version than 1 answers MINOR_VERS_MISMATCH, and more than 16 operations
-    /// TOO_MANY_OPS, with no results. The operations of sessions, and unsupported ones, answer
-    /// NOTSUPP. CREATE, LINK, NVERIFY, OPEN, RENAME, SETATTR, VERIFY and WRITE answer DELAY where
-    /// memory is refused, and then nothing changes. No other takes memory that it needs.
+    /// Another minor version than 1 answers MINOR_VERS_MISMATCH, and more than 16 operations answer TOO_MANY_OPS, with
+    /// no results. The operations of sessions, and unsupported ones, answer NOTSUPP. CREATE, LINK, NVERIFY, OPEN,
+    /// RENAME, SETATTR, VERIFY and WRITE answer DELAY if an allocation fails, and then nothing changes. No other
+    /// operation needs an allocation.
     #[tactic(auto, unfolding(crate::specs::State::fate))]
     pub fn run_bare(
         &mut self,
@@ -200,16 +197,14 @@ impl<A: Allocator + Copy> Server<A> {
         RunEnd::Replied
     }
 
-    /// Runs a COMPOUND where sessions are in use, at a moment (RFC 8881, sections 2.10.6 and 16.2).
-    /// It is refused, repeated or run. Its results are put after what `out` holds. They are at most
-    /// [`MAX_RESULTS`] bytes, for which there has to be room.
+    /// Runs a COMPOUND with sessions at a moment (RFC 8881, sections 2.10.6 and 16.2). It is refused, is a retry, or is
+    /// run. Its results are appended to `out`. They are at most [`MAX_RESULTS`] bytes, for which there must be room.
     ///
-    /// After a SEQUENCE the operations run in turn, up to and with the first that isn't OK, within
-    /// what the session was granted. Their results are kept. A repeat of the last call of a slot
-    /// gets the kept results, and changes nothing. EXCHANGE_ID, CREATE_SESSION, DESTROY_SESSION and
-    /// DESTROY_CLIENTID are each the only operation of their COMPOUND. DELAY is answered where
-    /// memory is refused, as in [`Server::run_bare`], and of these also at EXCHANGE_ID and at a new
-    /// CREATE_SESSION. Then nothing changes.
+    /// After a SEQUENCE the operations run in turn, up to and including the first that isn't OK, within what the
+    /// session was granted. Their results are cached. A retry of the last call of a slot gets the cached reply, and
+    /// changes nothing. EXCHANGE_ID, CREATE_SESSION, DESTROY_SESSION and DESTROY_CLIENTID are each the only operation
+    /// of their COMPOUND. The operations that answer DELAY in [`Server::run_bare`] do here too if an allocation fails.
+    /// So do EXCHANGE_ID and a new CREATE_SESSION. Then nothing changes.
     #[tactic(auto, using(crate::proofs::Replying::recorded_some, crate::proofs::Replying::recorded_none))]
     pub fn run(
         &mut self,
@@ -229,9 +224,9 @@ impl<A: Allocator + Copy> Server<A> {
         }
     }
 
-    /// Runs a COMPOUND as [`Server::run`] does, and returns the facts that a record of the call needs.
-    /// `None`: the tag, the minor version or the number of operations can't be read, and there are no
-    /// results. The sequence ID in the bytes of a call is a number of 32 bits (`numbered`).
+    /// Runs a COMPOUND as [`Server::run`] does, and returns the facts for the call's record. `None`: the tag, the minor
+    /// version or the operation count can't be decoded, and there are no results. The sequence ID that a call encodes
+    /// is a number of 32 bits (`numbered`).
     pub fn run_recorded(
         &mut self,
         args: Args<'_>,
@@ -247,8 +242,8 @@ impl<A: Allocator + Copy> Server<A> {
         self.run_delaying(args, caller, now, None, out)
     }
 
-    /// Runs a COMPOUND as [`Server::run`] does. Memory is refused to the operation at a place after
-    /// SEQUENCE, if one is named.
+    /// Runs a COMPOUND as [`Server::run`] does. The operation at a given place after SEQUENCE fails its allocation, if
+    /// a place is given.
     #[tactic(auto, unfolding(crate::specs::InSession::fate, crate::specs::Replaying::IsNumbered))]
     fn run_delaying(
         &mut self,
@@ -267,7 +262,7 @@ impl<A: Allocator + Copy> Server<A> {
         let Some(compound) = CompoundArgs::read(args.bytes) else {
             return None;
         };
-        let call = Coming {
+        let call = IncomingCall {
             args,
             compound,
             caller,
@@ -277,13 +272,13 @@ impl<A: Allocator + Copy> Server<A> {
         Some(self.realm.answer_in_session(call, out))
     }
 
-    /// Runs a kept call again, as [`Server::run_recorded`] does, after its slot is marked as lagging:
-    /// the slot may have accepted calls that weren't kept. So the call is new where its sequence ID is
-    /// 1 to 2^20 ahead of the one that the slot keeps.
+    /// Replays a logged call, as [`Server::run_recorded`] does, after its slot is marked as lagging: the slot may have
+    /// accepted calls that weren't logged. So the call is new if its sequence ID is 1 to 2^20 ahead of the one that the
+    /// slot caches.
     ///
-    /// `delayed` is the place of the operation that found no memory, as the call's record has it (see
-    /// [`Ran`]). Memory is refused to it here too: it is answered DELAY and isn't run. An operation
-    /// that never takes memory is run there all the same; then the place in [`Ran`] is another one.
+    /// `delayed` is the place of the operation whose allocation failed, from the call's record (see [`Ran`]). Its
+    /// allocation fails here too: it is answered DELAY and isn't run. An operation that never allocates memory runs
+    /// there all the same; then the place in [`Ran`] is another one.
     pub fn replay(
         &mut self,
         args: Args<'_>,
@@ -312,15 +307,15 @@ impl<A: Allocator + Copy> Server<A> {
         self.realm.lag_for(compound);
     }
 
-    /// Whether enough clients, sessions or open files are there that a silent client may be let go.
+    /// Whether there are enough clients, sessions or open files that a silent client may expire.
     fn is_crowded(&self) -> bool {
         let (records, sessions) = self.realm.clients.counts();
         records > MANY_CLIENTS || sessions > MANY_SESSIONS || self.realm.opens.len() > MANY_OPENS
     }
 
-    /// The client to let go at this moment, if one is to go. Then more than 32 records, 32 sessions
-    /// or 2,048 open files are there, and nothing was heard of the client for more than 90 seconds.
-    /// Of several it is the most silent one.
+    /// The client to expire at this moment, if any. Then there are more than 32 records, 32 sessions or 2,048 open
+    /// files, and the client's lease wasn't renewed for more than 90 seconds, or 10 for a run of `nfsc`. Of several it is
+    /// the one whose lease ended first.
     pub fn silent(&self, now: Moment) -> Option<u64>
         ensures { IfSome result (λ client. IsSome (client_at self.now.realm.registry client)) }
     {
@@ -330,35 +325,32 @@ impl<A: Allocator + Copy> Server<A> {
         self.realm.clients.silent(second(now), LEASE)
     }
 
-    /// Sets the second of a monotonic clock. From now on leases are renewed and expire by it (RFC 8881,
-    /// section 8.3), and not by the moments of calls, whose clock can be set. It is in no model.
+    /// Sets the second of a monotonic clock. From now on leases are renewed and expire by it (RFC 8881, section 8.3).
+    /// They no longer depend on the moments of calls, whose clock can be set. No model has this second.
     pub fn set_second(&mut self, second: u64)
         ensures { self.new ≡ self.old }
     {
         self.realm.clients.set_second(second);
     }
 
-    /// Lets a client go: its record goes with its sessions, and its open files are closed; all else
-    /// stays (RFC 8881, section 8.3). `false`: it has no record, and nothing changes. It takes no
-    /// memory.
-    pub fn let_go(&mut self, client: u64) -> bool
+    /// Expires a client: its record is removed with its sessions, and its open files are closed; all else stays (RFC
+    /// 8881, section 8.3). `false`: it has no record, and nothing changes. It allocates no memory.
+    pub fn expire_client(&mut self, client: u64) -> bool
         ensures live { result ≡ is_some (client_at self.old.realm.registry client) }
-        ensures gone { self.new ≡ (if result then without_client client self.old else self.old) }
+        ensures expired { self.new ≡ (if result then without_client client self.old else self.old) }
     {
-        if !self.realm.clients.let_go(client) {
+        if !self.realm.clients.expire(client) {
             return false;
         }
         self.realm.end_opens_of(Some(client));
         true
     }
 
-    /// Loads another book, and gives back the one before. From the next call on the lists decide
-    /// for each caller by the new one, and no summary that was remembered before is used again. The
-    /// tree with its owner, the open files, the clients with their sessions, and the trail stay. It
-    /// takes no memory.
+    /// Loads another book, and returns the previous one. From the next call on, ACLs are evaluated for each caller by
+    /// the new book, and no summary that was remembered before is used again. The tree with its owner, the open files,
+    /// the clients with their sessions, and the trail stay. It allocates no memory.
     ///
-    /// `Err`: the epoch of the book has none after it ([`next_epoch`]); the new book is given back,
-    /// and nothing changes.
+    /// `Err`: there is no next epoch ([`next_epoch`]); the new book is returned, and nothing changes.
     pub fn reload(&mut self, book: Book) -> Result<Book, Book>
         ensures given { MatchOption (next_epoch self.old.settings.epoch) (result ≡ Err book)
             (λ epoch. result ≡ Ok self.old.settings.book) }
@@ -368,22 +360,7 @@ impl<A: Allocator + Copy> Server<A> {
         self.realm.tree.reload(book)
     }
 
-    /// Begins notes of the tree's changes, as [`Tree::begin_notes`] does.
-    pub fn begin_notes(&mut self, room: usize) -> Result<(), AllocError>
-        ensures ok { OnOk result (self.new ≡ with_notes (begun_notes room) self.old) }
-        ensures err { OnErr result (self.new ≡ self.old) }
-    {
-        self.realm.tree.begin_notes(room)
-    }
-
-    /// Forgets what was noted of the tree's changes, as [`Tree::clear_notes`] does.
-    pub fn clear_notes(&mut self)
-        ensures { self.new ≡ with_notes (cleared self.old.realm.world.notes) self.old }
-    {
-        self.realm.tree.clear_notes();
-    }
-
-    /// The numbers that the next client, the next session and the next open file get.
+    /// The numbers of the next client, the next session and the next open file.
     pub fn next_numbers(&self) -> NextNumbers
         ensures { result ≡ next_numbers self.now }
     {
@@ -402,12 +379,20 @@ impl<A: Allocator + Copy> Server<A> {
         self.realm.tree.tree()
     }
 
-    /// Forgets the lines of the trail, and counts from 0 again. So the lines of calls that were run
-    /// again at a start don't come twice. It takes no memory.
+    /// Forgets the lines of the trail, and counts from 0 again. So the lines of calls that are replayed at a start
+    /// aren't reported twice. It allocates no memory.
     pub fn forget_lines(&mut self)
         ensures { self.new ≡ without_lines self.old }
     {
         self.realm.tree.forget();
+    }
+
+    /// Marks all slots as lagging, as after a restart: each may have accepted calls after the one that it caches (RFC
+    /// 8881, section 2.10.6.5). It allocates no memory.
+    pub fn lag_all(&mut self)
+        ensures { self.new ≡ with_lagging_slots self.old }
+    {
+        self.realm.clients.lag_all();
     }
 
     /// The book of names.
@@ -417,7 +402,7 @@ impl<A: Allocator + Copy> Server<A> {
         self.realm.tree.book()
     }
 
-    /// The guard, with the trail. Its remembered summaries are those of the lists now.
+    /// The guard, with the trail. Its remembered summaries agree with the current ACLs.
     pub fn guard(&self) -> &Guard<A>
         ensures log { result.now.log ≡ record { held = []; trail = self.now.trail; total = self.now.total } }
         ensures capacity { result.now.memory.capacity ≡ self.now.settings.capacity }
@@ -434,7 +419,7 @@ impl<A: Allocator + Copy> Server<A> {
         &self.realm.clients
     }
 
-    /// The files that are open, by their numbers.
+    /// The open files, by rising number.
     pub fn opens(&self) -> &[Open<A>]
         ensures { opens_view result.now ≡ self.now.realm.opens }
     {

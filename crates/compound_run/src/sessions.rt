@@ -1,4 +1,4 @@
-//! The ids of sessions, and the open files of clients (RFC 8881, sections 2.10.3 and 9.1).
+//! Session IDs, and the open files of clients (RFC 8881, sections 2.10.3 and 9.1).
 ghost use Rattle.std.specs.Prelude.{◌≡◌, ◌==◌, filter, not};
 ghost use Rattle.std.specs.List.{list_all, list_any};
 ghost use Rattle.compound_run.specs.Sessions as specs;
@@ -17,12 +17,12 @@ fn are_zero(bytes: &[u8]) -> bool
     bytes.iter().all(|b| *b == 0)
 }
 
-/// The session of an id: 8 zero bytes and its number. Any other id is that of session 0, which never exists.
+/// The session of an ID: 8 zero bytes and its number. Any other ID is that of session 0, which never exists.
 pub(crate) fn session_of(id: &[u8; 16]) -> u64
     ensures { result ≡ specs.session_of id.now }
 {
-    let (front, item) = id.split_at(8);
-    if are_zero(front) {
+    let (prefix, item) = id.split_at(8);
+    if are_zero(prefix) {
         u64::from_be_bytes([
             item[0], item[1], item[2], item[3], item[4], item[5], item[6], item[7],
         ])
@@ -31,7 +31,7 @@ pub(crate) fn session_of(id: &[u8; 16]) -> u64
     }
 }
 
-/// The id of a session.
+/// The ID of a session.
 pub(crate) fn session_id(number: u64) -> [u8; 16]
     ensures { result ≡ specs.session_id number }
 {
@@ -45,7 +45,7 @@ pub(crate) fn second(now: Moment) -> u64 {
     now.seconds.max(0) as u64
 }
 
-/// Whether one of these opens is of the client.
+/// Whether one of these opens is the client's.
 fn any_of<A: Allocator>(opens: &[Open<A>], client: u64) -> bool
     ensures { result ≡ list_any (λ o. o.client == client) opens.now }
 {
@@ -77,12 +77,12 @@ impl<A: Allocator + Copy> Realm<A> {
         }
     }
 
-    /// Closes the opens of a client that goes, if one does. It takes no memory.
-    pub fn end_opens_of(&mut self, gone: Option<u64>)
-        ensures opens { opens_view self.new.opens.items ≡ specs.opens_without gone (opens_view self.old.opens.items) }
+    /// Closes the opens of a client that is removed, if one is. It allocates no memory.
+    pub fn end_opens_of(&mut self, removed: Option<u64>)
+        ensures opens { opens_view self.new.opens.items ≡ specs.opens_without removed (opens_view self.old.opens.items) }
         ensures others { self.new ≡ record self.old { opens = self.new.opens } }
     {
-        if let Some(client) = gone {
+        if let Some(client) = removed {
             keep_others_of(&mut self.opens, client);
         }
     }

@@ -2,8 +2,8 @@
 ghost use Rattle.std.specs.Prelude.{◌≡◌, ◌<◌, ◌≤◌, ◌+◌, ◌^◌, ◌||◌, [], true, is_some, Some, None, if◌then◌else◌, IfOk};
 ghost use Rattle.std.specs.Prelude.{IfSome, IsSome, IsOkUnless, MatchResult, OnOk, OnErr};
 ghost use Rattle.acl_shape.specs.Bounds.{IsBounded};
-ghost use Rattle.acl_shape.specs.Permissions.{changed_high, changed_list};
-ghost use Rattle.nfs_types.specs.Sent.{has_list};
+ghost use Rattle.acl_shape.specs.Permissions.{changed_high, changed_acl};
+ghost use Rattle.nfs_types.specs.Sent.{has_acl};
 ghost use Rattle.nfs_types.specs.Views.{stateid_value};
 ghost use Rattle.nfs_ops.specs.Views.{setattr_args_value};
 ghost use Rattle.node_tree.specs.Sound.{IsTick};
@@ -12,9 +12,9 @@ ghost use Rattle.compound_run.specs.Asking.{sight_of};
 ghost use Rattle.compound_run.specs.Sight.{kind_at};
 ghost use Rattle.compound_run.specs.Operations.Create.{list_at};
 ghost use Rattle.compound_run.specs.Lists.{IsFit, set_fits};
-ghost use Rattle.compound_run.specs.Operations.Setattr.{setattr, sent_by, size_fault, size_fits, can_count, sets_list};
+ghost use Rattle.compound_run.specs.Operations.Setattr.{setattr, sent_by, size_fault, size_fits, can_count, sets_acl};
 ghost use Rattle.compound_run.specs.Operations.Setattr.{sets_owner, sets_any, stamps, sized, setting};
-ghost use Rattle.compound_run.specs.Permits.{Permits, permitted, entitled};
+ghost use Rattle.compound_run.specs.internal.Permits.{Permits, permitted, entitled};
 ghost use Rattle.compound_run.specs.Views.{context_at, GivesOrDelays, HasRoom, wanted_view, with_world, IsWanted};
 ghost use Rattle.compound_run.specs.Views.{stage};
 
@@ -33,18 +33,18 @@ use node_tree::{At, Kind, MAX_BYTES};
 use std::alloc::{AllocError, Allocator};
 use xdr_wire::Writer;
 
-/// Whether a list or a part of a list is set.
-fn has_list<A: Allocator>(wanted: &Attrs<A>) -> bool
-    ensures { result ≡ has_list (wanted_view wanted.now) }
+/// Whether an acl, a dacl or a sacl is set.
+fn has_acl<A: Allocator>(wanted: &Attrs<A>) -> bool
+    ensures { result ≡ has_acl (wanted_view wanted.now) }
 {
     wanted.list.is_some() || wanted.dacl.is_some() || wanted.sacl.is_some()
 }
 
-/// Whether another list is made.
-fn sets_list<A: Allocator>(wanted: &Attrs<A>) -> bool
-    ensures { result ≡ sets_list (wanted_view wanted.now) }
+/// Whether the access control list (ACL) changes.
+fn sets_acl<A: Allocator>(wanted: &Attrs<A>) -> bool
+    ensures { result ≡ sets_acl (wanted_view wanted.now) }
 {
-    wanted.mode.is_some() || has_list(wanted)
+    wanted.mode.is_some() || has_acl(wanted)
 }
 
 /// Whether an owner or a group is set.
@@ -58,10 +58,10 @@ fn sets_owner<A: Allocator>(wanted: &Attrs<A>) -> bool
 fn sets_any<A: Allocator>(wanted: &Attrs<A>) -> bool
     ensures { result ≡ sets_any (wanted_view wanted.now) }
 {
-    wanted.size.is_some() || sets_list(wanted) || sets_owner(wanted)
+    wanted.size.is_some() || sets_acl(wanted) || sets_owner(wanted)
 }
 
-/// Whether one of the two is there.
+/// Whether one of the two is present.
 fn is_either(first: Option<u32>, second: Option<u32>) -> bool
     ensures { result ≡ is_some first || is_some second }
 {
@@ -73,7 +73,7 @@ fn stamps<A: Allocator>(wanted: &Attrs<A>) -> u64
     ensures value { result ≡ stamps (wanted_view wanted.now) }
     ensures few { result ≤ 2 }
 {
-    let list = if sets_list(wanted) { 1 } else { 0 };
+    let list = if sets_acl(wanted) { 1 } else { 0 };
     let owner = if sets_owner(wanted) { 1 } else { 0 };
     list + owner
 }
@@ -89,7 +89,7 @@ pub(crate) fn size_fits(size: Option<u64>) -> bool
 }
 
 impl<A: Allocator + Copy> Realm<A> {
-    /// The fault of a size that is to be set, if any: only a file has a size to set, which takes a stateid.
+    /// The fault of a size that is to be set, if any. Only a file has a size to set, and setting it needs a stateid.
     fn check_size(
         &self,
         context: Context<'_>,
@@ -116,7 +116,7 @@ impl<A: Allocator + Copy> Realm<A> {
         self.check_stateid(context, number, stateid, Purpose::ToWrite)
     }
 
-    /// The values that the attributes set on an object. `Delay`: there is no memory for the list.
+    /// The values that the attributes set on an object. `Delay`: an allocation for the ACL fails.
     fn wanted_on(&self, number: u64, args: &SetAttrArgs<'_>) -> Result<Attrs<A>, Status>
         requires there { IsSome (object self.now.tree.world number) }
         ensures wanted { IsWanted (sent_by self.now.tree.book (setattr_args_value args.now)
@@ -129,7 +129,7 @@ impl<A: Allocator + Copy> Realm<A> {
         self.wanted(node.kind(), &args.attributes)
     }
 
-    /// Whether a tick is left for the attributes, and the stamps that they take.
+    /// Whether a tick is left for the attributes, and each stamp that they take.
     #[tactic(auto, unfolding(crate::specs::Operations::Setattr::can_count))]
     fn can_count(&self, wanted: &Attrs<A>) -> bool
         ensures { result ≡ can_count (wanted_view wanted.now) (sight_of self.now) }
@@ -140,14 +140,14 @@ impl<A: Allocator + Copy> Realm<A> {
         self.tree.next_tick() < MAX_COUNT && self.tree.next_stamp() <= MAX_COUNT - stamps(wanted)
     }
 
-    /// The list of an object after a mode and a list are set, and the high bits of its mode.
-    /// `Delay`: there is no memory for it.
+    /// The ACL of an object after a mode and an acl are set, and the high bits of its mode. `Delay`: an allocation
+    /// fails.
     fn changed(&self, number: u64, given: Given<A>) -> Result<Permissions<A>, Status>
         requires there { IsSome (object self.now.tree.world number) }
         requires bounded { IfSome given.list IsBounded }
         ensures space { IsOkUnless result Status.Delay }
         ensures list { IfOk result (λ made. IfSome (object self.now.tree.world number)
-            (λ o. made.list ≡ changed_list o.list o.kind given.mode given.list)) }
+            (λ o. made.list ≡ changed_acl o.list o.kind given.mode given.list)) }
         ensures high { IfOk result (λ made. IfSome (object self.now.tree.world number)
             (λ o. made.high ≡ changed_high o.high given.mode)) }
         ensures bounded { IfOk result (λ made. IsBounded made.list) }
@@ -161,18 +161,17 @@ impl<A: Allocator + Copy> Realm<A> {
         }
     }
 
-    /// The list of an object after its attributes are set, and the high bits of its mode. `None`:
-    /// it stays. `NoSpc`: it would not be within the bounds of a list. `Delay`: there is no memory
-    /// for it.
+    /// The ACL of an object after its attributes are set, and the high bits of its mode. `None`: it stays. `NoSpc`: it
+    /// would exceed the bounds of an ACL. `Delay`: an allocation fails.
     fn permissions(&self, number: u64, wanted: Attrs<A>) -> Result<Option<Permissions<A>>, Status>
         requires there { IsSome (object self.now.tree.world number) }
         requires bounded { IfSome wanted.list IsBounded }
         ensures fits { IsFit (set_fits (wanted_view wanted) (kind_at (sight_of self.now) number)
             (list_at self.now.tree.world number)) result }
-        ensures some { IfOk result (λ made. is_some made ≡ sets_list (wanted_view wanted)) }
+        ensures some { IfOk result (λ made. is_some made ≡ sets_acl (wanted_view wanted)) }
         ensures value { IfOk result (λ made. IfSome made (Permits self.now.tree.world number (wanted_view wanted))) }
     {
-        if !sets_list(&wanted) {
+        if !sets_acl(&wanted) {
             return Ok(None);
         }
         let Attrs {
@@ -187,7 +186,7 @@ impl<A: Allocator + Copy> Realm<A> {
         Ok(Some(Permissions { list, high }))
     }
 
-    /// Sets the size of a file, if one is to be set. `Delay`: there is no memory for it.
+    /// Sets the size of a file, if one is to be set. `Delay`: an allocation fails.
     fn set_size(&mut self, number: u64, size: Option<u64>, at: At) -> Result<(), Status>
         requires tick { IsTick self.old.tree.world at.tick }
         requires file { IfSome size (λ size. kind_of self.old.tree.world number ≡ Some Kind.File) }
@@ -204,7 +203,7 @@ impl<A: Allocator + Copy> Realm<A> {
         }
     }
 
-    /// Sets the list of an object with the high bits of its mode, if another is made.
+    /// Sets the ACL of an object with the high bits of its mode, if the ACL changes.
     fn set_permissions(&mut self, number: u64, made: Option<Permissions<A>>, at: At)
         requires tick { IsTick self.old.tree.world at.tick }
         requires stamps { is_some made ≡ true → self.old.tree.world.next_stamp < 2 ^ 63 }
@@ -219,7 +218,7 @@ impl<A: Allocator + Copy> Realm<A> {
         }
     }
 
-    /// Sets the owner and the group of an object, where one of them is to be set; the other stays as it was.
+    /// Sets the owner and the group of an object, if one of them is to be set; the other stays as it was.
     fn set_principals(
         &mut self,
         number: u64,
@@ -240,8 +239,8 @@ impl<A: Allocator + Copy> Realm<A> {
         }
     }
 
-    /// Sets attributes of an object, all or none. `NoSpc`: its list would not be within the bounds
-    /// of a list. `Delay`: there is no memory for them.
+    /// Sets all attributes of an object that are sent, or none. `NoSpc`: its ACL would exceed the bounds of an ACL.
+    /// `Delay`: an allocation fails.
     #[tactic(auto, unfolding(crate::specs::Operations::Setattr::setting))]
     fn set_all(&mut self, number: u64, wanted: Attrs<A>, at: At) -> Result<(), Status>
         requires tick { IsTick self.old.tree.world at.tick }
@@ -268,8 +267,8 @@ impl<A: Allocator + Copy> Realm<A> {
         Ok(())
     }
 
-    /// Sets these attributes; without any no tick is taken. `NoSpc`: the list would not be within
-    /// the bounds of a list. `Delay`: there is no memory for them.
+    /// Sets these attributes; if there are none, no tick is taken. `NoSpc`: the ACL would exceed the bounds of an ACL.
+    /// `Delay`: an allocation fails.
     #[tactic(auto, unfolding(crate::specs::Operations::Setattr::can_count, crate::specs::Operations::Setattr::setting))]
     fn set_any(&mut self, now: Moment, number: u64, wanted: Attrs<A>) -> Result<(), Status>
         requires there { IsSome (object self.old.tree.world number) }
@@ -294,7 +293,7 @@ impl<A: Allocator + Copy> Realm<A> {
         self.set_all(number, wanted, at)
     }
 
-    /// Sets attributes of the current object, all of those that are sent or none. `Delay`: there is no memory for them.
+    /// Sets all attributes that are sent on the current object, or none of them. `Delay`: an allocation fails.
     pub fn setattr(
         &mut self,
         step: Step<'_>,

@@ -24,7 +24,7 @@ pub(crate) enum Purpose {
 }
 
 impl Purpose {
-    /// Whether a file that is open for this access serves the purpose.
+    /// Whether an open with this access permits the purpose.
     fn is_served_by(self, access: u32) -> bool
         ensures { result ≡ specs.serves_for self access }
     {
@@ -36,7 +36,7 @@ impl Purpose {
         }
     }
 
-    /// A special stateid is no open's; it serves every other purpose.
+    /// A special stateid belongs to no open; it permits every purpose but to close.
     fn check_special(self) -> Result<(), Status>
         ensures { MatchResult result (λ done. specs.special_fault self ≡ None)
             (λ status. specs.special_fault self ≡ Some status) }
@@ -49,7 +49,7 @@ impl Purpose {
 }
 
 impl Context<'_> {
-    /// The client whose opens an operation uses; where there is no session all are of client 0.
+    /// The client whose opens an operation uses; without a session all are of client 0.
     pub fn client(self) -> u64
         ensures { result ≡ specs.client_in self.entry.calling }
     {

@@ -6,7 +6,7 @@ ghost use Rattle.nfs_ops.specs.Views.{verify_args_value};
 ghost use Rattle.node_tree.specs.World.{object};
 ghost use Rattle.compound_run.specs.Asking.{sight_of};
 ghost use Rattle.compound_run.specs.Operations.Verify.{verify, is_same, set_fault};
-ghost use Rattle.compound_run.specs.GivenViews.{values_given};
+ghost use Rattle.compound_run.specs.internal.GivenViews.{values_given};
 ghost use Rattle.compound_run.specs.Views.{context_at, GivesOrDelays, HasRoom, stage};
 ghost use Rattle.std.specs.Prelude.{IfOk};
 
@@ -26,7 +26,7 @@ const RDATTR_ERROR: u32 = 11;
 /// More bytes than a bitmap of supported attributes and the length of their values take.
 const MOST_BEFORE: usize = 32;
 
-/// An attribute that isn't supported can't be compared, nor rdattr_error.
+/// Neither an unsupported attribute nor rdattr_error can be compared.
 pub(crate) fn check_set(set: &Bitmap) -> Result<(), Status>
     ensures { MatchResult result (λ done. set_fault (bitmap_value set.now) ≡ None)
         (λ status. set_fault (bitmap_value set.now) ≡ Some status) }
@@ -40,7 +40,7 @@ pub(crate) fn check_set(set: &Bitmap) -> Result<(), Status>
     Ok(())
 }
 
-/// Whether the values that GETATTR returns are these bytes. `Err`: there is no memory to spell them.
+/// Whether the values that GETATTR returns are these bytes. `Err`: an allocation for their encoding fails.
 fn is_given<A: Allocator + Copy>(
     alloc: A,
     given: GivenAttributes<'_>,
@@ -61,7 +61,7 @@ fn is_given<A: Allocator + Copy>(
 }
 
 impl<A: Allocator + Copy> Realm<A> {
-    /// Whether attributes of an object have these values. `Delay`: there is no memory to compare them.
+    /// Whether attributes of an object have these values. `Delay`: an allocation for the comparison fails.
     pub fn is_same(
         &self,
         context: Context<'_>,
@@ -87,7 +87,7 @@ impl<A: Allocator + Copy> Realm<A> {
         }
     }
 
-    /// OK where attributes of the current object have these values. `Delay`: there is no memory to compare them.
+    /// OK if the attributes of the current object have these values. `Delay`: an allocation for the comparison fails.
     pub fn verify(
         &mut self,
         step: Step<'_>,

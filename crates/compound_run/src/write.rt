@@ -15,7 +15,7 @@ use node_tree::{Kind, MAX_BYTES};
 use std::alloc::Allocator;
 use xdr_wire::Writer;
 
-/// Whether bytes at an offset don't reach beyond the limit of a file.
+/// Whether bytes at an offset end within the limit of a file.
 fn fits(offset: u64, more: &[u8]) -> bool
     ensures { result ≡ fits offset more.now }
 {
@@ -24,8 +24,8 @@ fn fits(offset: u64, more: &[u8]) -> bool
 }
 
 impl<A: Allocator + Copy> Realm<A> {
-    /// Writes bytes into the current file; no bytes take no tick. `Delay`: there is no memory for
-    /// them, and nothing has changed.
+    /// Writes bytes into the current file; writing none takes no tick. `Delay`: an allocation fails, and nothing has
+    /// changed.
     pub fn write(
         &mut self,
         step: Step<'_>,

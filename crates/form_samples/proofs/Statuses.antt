@@ -71,7 +71,7 @@ known status.WrongType other = (refl, lit< tt)
 pub status_is_read : (s : Status) → number_of s ≢ 0 → refusal_at (number_of s) ≡ Some (number_of s)
 status_is_read s other = (known s other).0
 
--- in place of OK there is SERVERFAULT
+-- SERVERFAULT replaces OK
 refusal_is_known : (s : Status) → IsKnown (refusal s)
 refusal_is_known s =
     elim (cases_eq (number_of s) 0) [

@@ -1,2 +1,2 @@
 pub mod Forms
-pub mod Children
+pub mod internal

@@ -1,4 +1,4 @@
-//! A sample of a form of one's own: a set of numbers, of which zero words at the end say nothing.
+//! A sample of an array with a normal form: a set of numbers, in which zero words at the end mean nothing.
 ghost use Rattle.std.specs.Prelude.{◌≡◌, ◌≤◌, ◌<◌, ◌+◌, ◌++◌, ◌∷◌, [], length, Some};
 ghost use Rattle.xdr_wire.specs.Reading.{Gives, read_at};
 ghost use Rattle.xdr_wire.specs.Wire.{in_normal_form};
@@ -8,7 +8,7 @@ use std::marker::Model;
 use xdr_wire::{Reader, XdrFault};
 
 /// A set of attribute numbers below 256 (RFC 8881, section 3.3.7, `bitmap4`), by words of 32 bits. Zero words at the
-/// end say nothing: they are read, and not written.
+/// end mean nothing: they are read, and not written.
 #[derive(Drop)]
 pub struct Bitmap {
     words: [u32; 8],
@@ -26,7 +26,7 @@ impl Model for Bitmap {
 }
 
 impl Bitmap {
-    /// The set of no number.
+    /// The empty set.
     pub fn empty() -> Self
         ensures { result ≡ [] }
     {
@@ -68,7 +68,7 @@ impl Bitmap {
         Ok(words)
     }
 
-    /// Reads a set of at most eight words. `TooLong` above eight.
+    /// Reads a set of at most eight words. `TooLong`: there are more.
     pub fn read(reader: &mut Reader<'_>) -> Result<Bitmap, XdrFault>
         ensures { Gives (λ b. b) reader.old reader.new result
             (in_normal_form (Some trimmed) (read_at bitmap reader.old)) }
@@ -78,7 +78,7 @@ impl Bitmap {
         Ok(words)
     }
 
-    /// How many words there are to the last one that isn't zero.
+    /// The number of words up to the last one that isn't zero.
     pub fn len(&self) -> usize
         ensures { result ≡ length self.now }
     {

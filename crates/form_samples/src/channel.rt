@@ -16,7 +16,7 @@ pub struct Channel {
 
 impl Spell for Channel {
     ghost use Rattle.std.specs.Prelude.{None};
-    ghost use Rattle.form_samples.specs.Forms.{channel};
+    ghost use Rattle.form_samples.specs.internal.Forms.{channel};
     ghost use Rattle.xdr_wire.specs.Wire.{at_most_one};
 
     ghost form = { channel };

@@ -1,4 +1,4 @@
-//! Names that lie in a slice: the directory of the tests of READDIR.
+//! Names in a slice: the directory of the tests of READDIR.
 use nfs_ops::{Bytes, Entries, GivenEntry, Next, write_entry};
 use nfs_types::{Bitmap, GivenAttributes, ObjectFacts};
 use std::alloc::Allocator;
@@ -10,11 +10,11 @@ use xdr_wire::Writer;
 pub struct Child {
     pub cookie: u64,
     pub name: Bytes<'static>,
-    /// The attributes that are returned of its object, or the fault that refuses it.
+    /// The attributes that are returned for its object, or the fault that refuses it.
     pub judged: Result<Bitmap, u32>,
 }
 
-/// Names by rising cookie, of objects that are alike.
+/// Names by rising cookie, whose objects have the same facts.
 #[derive(Clone, Copy)]
 pub struct Children<'a> {
     pub book: &'a Book,
@@ -26,7 +26,7 @@ impl<'a> Entries for Children<'a> {
     ghost use Rattle.who_book.specs.Content.{Content};
     ghost use Rattle.std.specs.Prelude.{map};
     ghost use Rattle.nfs_types.specs.FactsView.{facts_value};
-    ghost use Rattle.form_samples.specs.Children.{judged_as};
+    ghost use Rattle.form_samples.specs.internal.Children.{judged_as};
     ghost use Rattle.form_samples.specs.declared.children.Child.{Child};
 
     type Refusal = u32;

@@ -11,7 +11,7 @@ pub enum Claim<'a> {
 
 impl<'a> Spell for Claim<'a> {
     ghost use Rattle.std.specs.Prelude.{None};
-    ghost use Rattle.form_samples.specs.Forms.{claim};
+    ghost use Rattle.form_samples.specs.internal.Forms.{claim};
     ghost use Rattle.std.proofs.Common.{inl, inr};
     ghost use Rattle.form_samples.specs.declared.claim.Claim.TheVariants.{ByName, ByHandle};
 
@@ -42,7 +42,7 @@ impl<'a> Wire<'a> for Claim<'a> {
     }
 }
 
-/// How far a WRITE is to reach (section 18.32, `stable_how4`): an enum.
+/// The stability that a WRITE requests (section 18.32, `stable_how4`): an enum.
 #[derive(Clone, Copy, PartialEq, Eq)]
 pub enum Stable {
     Unstable,
@@ -52,7 +52,7 @@ pub enum Stable {
 
 impl Spell for Stable {
     ghost use Rattle.std.specs.Prelude.{None};
-    ghost use Rattle.form_samples.specs.Forms.{stable};
+    ghost use Rattle.form_samples.specs.internal.Forms.{stable};
     ghost use Rattle.std.proofs.Common.{inl, inr};
     ghost use Rattle.form_samples.specs.declared.claim.Stable.TheVariants.{Unstable, Data, File};
 
@@ -85,7 +85,7 @@ impl<'a> Wire<'a> for Stable {
     }
 }
 
-/// A number that a reader ignores, and a time where there is one: an ignored field, and optional data.
+/// A number that a reader ignores, and a time if there is one: an ignored field, and optional data.
 #[derive(Clone, Copy, PartialEq, Eq)]
 pub struct Mark {
     pub time: Option<i64>,
@@ -93,7 +93,7 @@ pub struct Mark {
 
 impl Spell for Mark {
     ghost use Rattle.std.specs.Prelude.{Some};
-    ghost use Rattle.form_samples.specs.Forms.{mark, without_number};
+    ghost use Rattle.form_samples.specs.internal.Forms.{mark, without_number};
 
     ghost form = { mark };
 

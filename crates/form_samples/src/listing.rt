@@ -11,7 +11,7 @@ pub struct Entry<'a> {
 
 impl<'a> Spell for Entry<'a> {
     ghost use Rattle.std.specs.Prelude.{None};
-    ghost use Rattle.form_samples.specs.Forms.{entry};
+    ghost use Rattle.form_samples.specs.internal.Forms.{entry};
 
     ghost form = { entry };
 
@@ -31,7 +31,7 @@ impl<'a> Wire<'a> for Entry<'a> {
     }
 }
 
-/// A directory's listing (`dirlist4`): a chain of entries, and whether it is the end.
+/// A directory's listing (`dirlist4`): a chain of entries, and whether the directory ends after them.
 #[derive(Drop)]
 pub struct Listing<'a> {
     pub entries: Chain<'a, Entry<'a>>,
@@ -41,7 +41,7 @@ pub struct Listing<'a> {
 impl<'a> Spell for Listing<'a> {
     ghost use Rattle.std.specs.Prelude.{None};
     ghost use Rattle.xdr_wire.specs.Wire.{chain_values};
-    ghost use Rattle.form_samples.specs.Forms.{entry, listing};
+    ghost use Rattle.form_samples.specs.internal.Forms.{entry, listing};
 
     ghost form = { listing };
 

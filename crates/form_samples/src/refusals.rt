@@ -1,4 +1,4 @@
-//! A law of statuses: each refusal that is written is read.
+//! A law of statuses: each refusal that is written is read back.
 ghost use Rattle.std.specs.Prelude.{◌≡◌, ◌≢◌, ◌<◌, ◌^◌, ◌++◌, ℕ, List, Some, Ok};
 ghost use Rattle.nfs_types.specs.declared.status.Status.{Status};
 ghost use Rattle.nfs_types.specs.Status.{number_of};
@@ -6,9 +6,8 @@ ghost use Rattle.nfs_ops.specs.Items.{item_spelling};
 ghost use Rattle.nfs_ops.specs.Results.{outcome_item, refused, refusal};
 ghost use Rattle.nfs_ops.specs.ResultReading.{refusal_at, result_at};
 
-/// Each status but OK is one that a client reads (`known`). So what a server
-/// writes as a refusal of any operation with any status is read as that refusal, whatever is after
-/// it (`read`). In place of OK a server writes SERVERFAULT.
+/// A client knows each status but OK (`known`). A refusal that a server writes, of any operation with any status, is
+/// therefore read back as that refusal, whatever follows it (`read`). A server writes SERVERFAULT in place of OK.
 #[tactic(auto, using(crate::proofs::Statuses::status_is_read, crate::proofs::Statuses::refusal_is_read))]
 pub fn every_refusal_is_read()
     ensures known { (s : Status) → number_of s ≢ 0 → refusal_at (number_of s) ≡ Some (number_of s) }

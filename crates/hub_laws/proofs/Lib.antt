@@ -1,1 +1,4 @@
 pub mod Served
+pub mod Logged
+pub mod Settled
+pub mod Replayed

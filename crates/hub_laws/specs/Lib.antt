@@ -1,1 +1,1 @@
-pub mod Notes
+pub mod Kept

@@ -1,4 +1,4 @@
--- Entries that were written are read again, one and many.
+-- Entries that were written are read again: one entry, and all entries of a record.
 use Rattle.std.proofs.Common.{◌≡◌, ◌≢◌, ◌<◌, ◌≤◌, ◌^◌, ◌∙◌, ℕ, zero, suc, List, [], ◌∷◌, ◌++◌, length, Option, Some, None, refl, ap, sym, arith, lit<}
 use Rattle.std.specs.Prelude.{IfSome}
 use Rattle.std.specs.Option.{option_map}
@@ -8,7 +8,7 @@ use Rattle.xdr_wire.proofs.Spelling.{again, spelled}
 use Rattle.nfs_types.specs.MomentView.{moment_value}
 use Rattle.nfs_types.specs.declared.moment.Moment.{Moment}
 use Rattle.log_entries.specs.Forms.{entry}
-use Rattle.log_entries.specs.Entries.{Entry, Call, LetGo, Loaded, IsEntry, call_with, entry_value, entry_bytes, entry_in, meant, entry_at, then_others, entries_by, entries_in}
+use Rattle.log_entries.specs.Entries.{Entry, Call, ClientExpired, Loaded, IsEntry, call_with, entry_value, entry_bytes, entry_in, meant, entry_at, then_others, entries_by, entries_in}
 use Rattle.log_entries.proofs.Moments.{moment_again}
 use Rattle.log_entries.proofs.Taking.{shorter}
 
@@ -21,17 +21,17 @@ place_spells (Some n) h = h
 nanoseconds_fit : (m : Moment) → m.nanoseconds < 2 ^ 32
 nanoseconds_fit m = let few : m.nanoseconds < 1000000000 = m.is_fraction in omega arith
 
--- an entry that can be written has a spelling
+-- an entry that can be written has an encoding
 pub has_spelling : (e : Entry) → IsEntry e → HasSpelling entry (entry_value e)
 has_spelling (Call c) h = (lit< tt, (refl, ((h.seconds, nanoseconds_fit c.now), ((omega (arith, h.bytes), h.bytes), (place_spells c.delayed h.delayed, h.checksum)))))
-has_spelling (LetGo client) h = (lit< tt, (omega arith, (refl, h)))
+has_spelling (ClientExpired client) h = (lit< tt, (omega arith, (refl, h)))
 has_spelling (Loaded None) h = (lit< tt, (omega arith, (omega arith, (refl, tt))))
 has_spelling (Loaded (Some text)) h = (lit< tt, (omega arith, (omega arith, (refl, (omega (arith, h), h)))))
 
--- the value of an entry means that entry
+-- the value of an entry represents that entry
 entry_again : (e : Entry) → entry_in (entry_value e) ≡ Some e
 entry_again (Call c) = ap (option_map Call) (ap (option_map (call_with (moment_value c.now, (c.bytes, (c.delayed, c.checksum))))) (sym (moment_again c.now)))
-entry_again (LetGo client) = refl
+entry_again (ClientExpired client) = refl
 entry_again (Loaded text) = refl
 
 pub written_again : (e : Entry) (rest : List ℕ) → IsEntry e → entry_at (entry_bytes e ++ rest) ≡ Some (e, rest)
@@ -48,7 +48,7 @@ same_others m n bytes others p q (Some x) is =
     let fewer : length x.1 < length bytes = shorter bytes x.1 x.0 is in
     ap (option_map (λ es. x.0 ∷ es)) (others x.1 (omega arith) (omega arith))
 
--- any number that is large enough gives the same entries
+-- any bound that is large enough gives the same entries
 same_by : (m n : ℕ) (bytes : List ℕ) → length bytes ≤ m → length bytes ≤ n → entries_by m bytes ≡ entries_by n bytes
 same_by m n [] p q = refl
 same_by zero n (b ∷ bytes) p q = absurd (omega arith)

@@ -1,4 +1,4 @@
--- How many bytes an entry takes.
+-- The number of bytes that an entry takes.
 use Rattle.std.proofs.Common.{◌≡◌, ◌≤◌, ◌+◌, ℕ, List, Option, Some, None, length, arith, length-append}
 use Rattle.std.proofs.lemmas.List.{length-replicate}
 use Rattle.xdr_wire.specs.Xdr.{padded, padding, spelling, optional, uint}

@@ -1,4 +1,4 @@
--- What is read from bytes can be written, and the bytes are those that are written.
+-- An entry that was read can be written, and its bytes are the written ones.
 use Rattle.std.proofs.Common.{◌≡◌, ◌<◌, ◌+◌, ◌^◌, ◌∙◌, ℕ, ℤ, zero, suc, List, [], ◌∷◌, ◌++◌, length, Option, Some, None, refl, ap, subst, inl, inr, arith, lit<}
 use Rattle.std.specs.Prelude.{FitsSigned, IfSome}
 use Rattle.std.specs.Int.{w32, w64, from_be_bytes}
@@ -14,7 +14,7 @@ use Rattle.xdr_wire.proofs.Canonical.{spelling_is}
 use Rattle.nfs_types.specs.Forms.{time}
 use Rattle.nfs_types.specs.declared.moment.Moment.{Moment}
 use Rattle.log_entries.specs.Forms.{bytes as text, call, entry}
-use Rattle.log_entries.specs.Entries.{Entry, Call, LetGo, Loaded, IsEntry, moment_in, call_with, entry_value, entry_bytes, entry_in, entry_at, then_others, entries_by, entries_in}
+use Rattle.log_entries.specs.Entries.{Entry, Call, ClientExpired, Loaded, IsEntry, moment_in, call_with, entry_value, entry_bytes, entry_in, entry_at, then_others, entries_by, entries_in}
 use Rattle.log_entries.proofs.Moments.{value_of_moment}
 use Rattle.log_entries.proofs.Taking.{meant_by}
 
@@ -24,15 +24,15 @@ call_is v (Some m) e some is =
     let same : Call (call_with v m) ≡ e = cc in
     ap (λ t. let w : Value entry = inl (t, v.1) in w) (value_of_moment v.0 m some) ∙ ap entry_value same
 
--- a value that means an entry is that of the entry
+-- a value that represents an entry is the value of that entry
 value_is : (v : Value entry) (e : Entry) → entry_in v ≡ Some e → v ≡ entry_value e
 value_is (inl v) e is = call_is v (moment_in v.0) e refl is
-value_is (inr (inl client)) e is = let same : LetGo client ≡ e = cc in ap entry_value same
+value_is (inr (inl client)) e is = let same : ClientExpired client ≡ e = cc in ap entry_value same
 value_is (inr (inr (inl v))) e is = let same : Loaded v ≡ e = cc in ap entry_value same
 value_is (inr (inr (inr none))) e is = absurd none
 
-bytes_front : (a b : List ℕ) → AreBytes (a ++ b) → AreBytes a
-bytes_front a b h i =
+bytes_prefix : (a b : List ℕ) → AreBytes (a ++ b) → AreBytes a
+bytes_prefix a b h i =
     elim (cases_lt i (length a)) [
       | inl lt ↦ rw (← get_or_append_left a b 0 i lt) (h i)
       | inr le ↦ rw (get_or_past a i 0 le) (omega arith)
@@ -41,7 +41,7 @@ bytes_front a b h i =
 bytes_back : (a b : List ℕ) → AreBytes (a ++ b) → AreBytes b
 bytes_back a b h i = rw (← get_or-append-add a b i 0) (h (length a + i))
 
--- ---- what is spelled has a spelling
+-- ---- a value that was read has an encoding
 
 uint_fits : (n : ℕ) (b : List ℕ) → AreBytes b → IsNumber w32 n b → n < 2 ^ 32
 uint_fits n b h s =
@@ -58,17 +58,17 @@ signed_fits : (z : ℤ) (b : List ℕ) → AreBytes b → IsInteger w64 z b → 
 signed_fits z b h s = subst (FitsSigned w64) s.value (sfits_to_z (Fits-of_lt (eight_bytes_fit b h)))
 
 -- both parts of bytes are bytes
-front_of : (P Q : List ℕ → Type 0) (b : List ℕ) → AreBytes b → (f : Follows P Q b) → AreBytes f.front
-front_of P Q b h f = bytes_front f.front f.back (subst AreBytes f.joined h)
+prefix_of : (P Q : List ℕ → Type 0) (b : List ℕ) → AreBytes b → (f : Follows P Q b) → AreBytes f.prefix
+prefix_of P Q b h f = bytes_prefix f.prefix f.back (subst AreBytes f.joined h)
 
 back_of : (P Q : List ℕ → Type 0) (b : List ℕ) → AreBytes b → (f : Follows P Q b) → AreBytes f.back
-back_of P Q b h f = bytes_back f.front f.back (subst AreBytes f.joined h)
+back_of P Q b h f = bytes_back f.prefix f.back (subst AreBytes f.joined h)
 
 time_fits : (v : Value time) (b : List ℕ) → AreBytes b → Spells time v b → HasSpelling time v
-time_fits v b h f = (signed_fits v.0 f.front (front_of _ _ b h f) f.first, uint_fits v.1 f.back (back_of _ _ b h f) f.second)
+time_fits v b h f = (signed_fits v.0 f.prefix (prefix_of _ _ b h f) f.first, uint_fits v.1 f.back (back_of _ _ b h f) f.second)
 
 text_fits : (v : Value text) (b : List ℕ) → AreBytes b → Spells text v b → HasSpelling text v
-text_fits v b h s = (s.0, uint_fits (length v) s.1.front (front_of _ _ b h s.1) s.1.first)
+text_fits v b h s = (s.0, uint_fits (length v) s.1.prefix (prefix_of _ _ b h s.1) s.1.first)
 
 place_fits : (v : Option ℕ) (b : List ℕ) → AreBytes b → Spells (optional uint) v b → HasSpelling (optional uint) v
 place_fits None b h s = tt
@@ -83,11 +83,11 @@ call_fits v b h f =
     let rest = back_of _ _ b h f in
     let last = back_of _ _ f.back rest f.second in
     let g = f.second.second in (
-      time_fits v.0 f.front (front_of _ _ b h f) f.first,
+      time_fits v.0 f.prefix (prefix_of _ _ b h f) f.first,
       (
-        text_fits v.1.0 f.second.front (front_of _ _ f.back rest f.second) f.second.first,
+        text_fits v.1.0 f.second.prefix (prefix_of _ _ f.back rest f.second) f.second.first,
         (
-          place_fits v.1.1.0 g.front (front_of _ _ f.second.back last g) g.first,
+          place_fits v.1.1.0 g.prefix (prefix_of _ _ f.second.back last g) g.first,
           hyper_fits v.1.1.1 g.back (back_of _ _ f.second.back last g) g.second,
         ),
       ),
@@ -103,10 +103,10 @@ place_bound : (place : Option ℕ) → HasSpelling (optional uint) place → IfS
 place_bound None h = tt
 place_bound (Some n) h = h
 
--- an entry whose value has a spelling can be written
+-- an entry whose value has an encoding can be written
 can_be_written : (e : Entry) → HasSpelling entry (entry_value e) → IsEntry e
 can_be_written (Call c) h = record { seconds = h.1.1.0.0; bytes = h.1.1.1.0.1; delayed = place_bound c.delayed h.1.1.1.1.0; checksum = h.1.1.1.1.1 }
-can_be_written (LetGo client) h = h.1.1.1
+can_be_written (ClientExpired client) h = h.1.1.1
 can_be_written (Loaded None) h = tt
 can_be_written (Loaded (Some v)) h = h.1.1.1.1.1
 
@@ -117,8 +117,8 @@ unfolding entry_at entry_bytes
 one_spelling e bytes rest are is =
     let m = meant_by entry_in (read_at entry bytes) e rest is in
     let b = begins_from_read entry m.value bytes rest m.read in
-    let front : AreBytes b.front = bytes_front b.front rest (subst AreBytes b.parts are) in
-    let same : b.front ≡ spelling entry (entry_value e) = spelling_is entry m.value b.front front b.spelled ∙ ap (spelling entry) (value_is m.value e m.means) in
+    let prefix : AreBytes b.prefix = bytes_prefix b.prefix rest (subst AreBytes b.parts are) in
+    let same : b.prefix ≡ spelling entry (entry_value e) = spelling_is entry m.value b.prefix prefix b.spelled ∙ ap (spelling entry) (value_is m.value e m.means) in
     b.parts ∙ ap (λ (f : List ℕ). f ++ rest) same
 
 pub read_fits : (e : Entry) (bytes rest : List ℕ) → AreBytes bytes → entry_at bytes ≡ Some (e, rest) → IsEntry e
@@ -126,12 +126,12 @@ unfolding entry_at
 read_fits e bytes rest are is =
     let m = meant_by entry_in (read_at entry bytes) e rest is in
     let b = begins_from_read entry m.value bytes rest m.read in
-    let front : AreBytes b.front = bytes_front b.front rest (subst AreBytes b.parts are) in
-    can_be_written e (subst (HasSpelling entry) (value_is m.value e m.means) (entry_fits m.value b.front front b.spelled))
+    let prefix : AreBytes b.prefix = bytes_prefix b.prefix rest (subst AreBytes b.parts are) in
+    can_be_written e (subst (HasSpelling entry) (value_is m.value e m.means) (entry_fits m.value b.prefix prefix b.spelled))
 
 -- ---- all entries of a record
 
--- entries that can be written, and whose bytes these are
+-- entries that can be written, and whose encoding these bytes are
 pub record AreSpelled (bytes : List ℕ) (es : List Entry) : Type 0 where
   pub bytes_are : bytes ≡ flat_map entry_bytes es
   pub fit : AllByRecursion IsEntry es

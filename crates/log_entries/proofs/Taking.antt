@@ -1,4 +1,4 @@
--- What is at the front of bytes, by the kind that stands first.
+-- Reading an entry by the kind at its start.
 use Rattle.std.proofs.Common.{◌≡◌, ◌<◌, ◌+◌, ◌∙◌, ℕ, List, ◌++◌, length, drop, Option, Some, None, Ok, Err, refl, ap, sym, inl, arith, length-append}
 use Rattle.std.specs.Option.{option_map}
 use Rattle.std.proofs.Math.Seq.{drop-append_seam}
@@ -30,12 +30,12 @@ no_call bytes mid kind none = ap (option_map {U = Entry × List ℕ} (λ x. (Cal
 pub a_call : (bytes mid rest : List ℕ) (c : Called) → read_at uint bytes ≡ Ok (1, mid) → Some (c, rest) ≡ meant call_in (read_at call mid) → Some (Call c, rest) ≡ entry_at bytes
 a_call bytes mid rest c kind some = ap (option_map {U = Entry × List ℕ} (λ x. (Call x.0, x.1))) some ∙ sym (at_call bytes mid kind)
 
--- what a call of a reader gave, where it gave something
+-- the value that a reader's call returned, if it returned one
 pub ok_read : {X V : Type 0} (view : X → V) (old new : List ℕ) (r : Result X XdrFault) (x : X) (read : Read V) → Gives view old new r read → Some x ≡ result_ok r → read ≡ Ok (view x, new)
 ok_read {X} {V} view old new (Ok y) x read g e = let same : y ≡ x = cc in g ∙ ap (λ (v : X). let read : Read V = Ok (view v, new) in read) same
 ok_read view old new (Err f) x read g e = absurd cc
 
--- what was read, of a meaning
+-- a value that was read, and its meaning
 pub record Meant {V M : Type 0} (meaning : V → Option M) (r : Read V) (m : M) (rest : List ℕ) : Type 0 where
   pub value : V
   pub read : r ≡ Ok (value, rest)
@@ -55,11 +55,11 @@ pub meant_by : {V M : Type 0} (meaning : V → Option M) (r : Read V) (m : M) (r
 meant_by meaning (Err f) m rest e = absurd cc
 meant_by meaning (Ok x) m rest e = meant_value meaning (Ok x) x.0 x.1 (meaning x.0) m rest refl refl e
 
--- an entry takes bytes, and leaves those after them
+-- an entry takes some bytes, and leaves the bytes after them
 pub record Leaves (bytes rest : List ℕ) : Type 0 where
-  pub front : List ℕ
-  pub parts : bytes ≡ front ++ rest
-  pub some : 0 < length front
+  pub prefix : List ℕ
+  pub parts : bytes ≡ prefix ++ rest
+  pub some : 0 < length prefix
 
 pub entry_leaves : (bytes rest : List ℕ) (e : Entry) → entry_at bytes ≡ Some (e, rest) → Leaves bytes rest
 unfolding entry_at
@@ -67,21 +67,21 @@ entry_leaves bytes rest e is =
     let m = meant_by entry_in (read_at entry bytes) e rest is in
     let begins = begins_from_read entry m.value bytes rest m.read in
     let follows = begins.spelled.1 in
-    let four : length follows.front ≡ 4 = follows.first.len in
-    let parts : length begins.front ≡ length follows.front + length follows.back = ap length follows.joined ∙ length-append follows.front follows.back in
-    record { front = begins.front; parts = begins.parts; some = omega (arith, four, parts) }
+    let four : length follows.prefix ≡ 4 = follows.first.len in
+    let parts : length begins.prefix ≡ length follows.prefix + length follows.back = ap length follows.joined ∙ length-append follows.prefix follows.back in
+    record { prefix = begins.prefix; parts = begins.parts; some = omega (arith, four, parts) }
 
 pub shorter : (bytes rest : List ℕ) (e : Entry) → entry_at bytes ≡ Some (e, rest) → length rest < length bytes
 shorter bytes rest e is =
     let l = entry_leaves bytes rest e is in
-    let whole : length bytes ≡ length l.front + length rest = ap length l.parts ∙ length-append l.front rest in
+    let whole : length bytes ≡ length l.prefix + length rest = ap length l.parts ∙ length-append l.prefix rest in
     omega (arith, whole, l.some)
 
--- the bytes after an entry are what is left when as many are dropped as it takes
+-- the bytes after an entry are the rest after dropping the bytes that it takes
 pub rest_is : (bytes rest : List ℕ) (e : Entry) (n : ℕ) → n + length rest ≡ length bytes → entry_at bytes ≡ Some (e, rest) → Some (e, drop n bytes) ≡ entry_at bytes
 rest_is bytes rest e n taken is =
     let l = entry_leaves bytes rest e is in
-    let whole : length bytes ≡ length l.front + length rest = ap length l.parts ∙ length-append l.front rest in
-    let count : n ≡ length l.front = omega (arith, taken, whole) in
-    let same : drop n bytes ≡ rest = ap (λ (k : ℕ). drop k bytes) count ∙ ap (drop (length l.front)) l.parts ∙ drop-append_seam l.front rest in
+    let whole : length bytes ≡ length l.prefix + length rest = ap length l.parts ∙ length-append l.prefix rest in
+    let count : n ≡ length l.prefix = omega (arith, taken, whole) in
+    let same : drop n bytes ≡ rest = ap (λ (k : ℕ). drop k bytes) count ∙ ap (drop (length l.prefix)) l.parts ∙ drop-append_seam l.prefix rest in
     ap (λ (r : List ℕ). let o : Option (Entry × List ℕ) = Some (e, r) in o) same ∙ sym is

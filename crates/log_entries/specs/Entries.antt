@@ -1,4 +1,4 @@
--- The entries of a log: what a server was given, so that it is given that again.
+-- The entries of a log: the inputs of a server, which a replay gives it again.
 use Rattle.std.specs.Prelude.{◌<◌, ◌^◌, ℕ, zero, suc, List, [], ◌∷◌, length, Option, Some, None, IfSome, Ok, Err}
 use Rattle.std.specs.Prelude.{FitsSigned}
 use Rattle.std.specs.Int.{w64}
@@ -12,23 +12,23 @@ use Rattle.nfs_types.specs.MomentView.{moment_value}
 use Rattle.nfs_types.specs.declared.moment.Moment.{Moment}
 use Rattle.log_entries.specs.Forms.{call, entry}
 
--- a call that is kept
+-- a logged call
 pub record Called : Type 0 where
   -- the moment at which it ran
   pub now : Moment
-  -- its record as it came: the header with the caller, and the arguments (RFC 5531, section 9)
+  -- its record as received: the header with the caller, and the arguments (RFC 5531, section 9)
   pub bytes : List ℕ
-  -- the place of the operation that found no memory: 0 is the first after SEQUENCE, or the only one
+  -- the place of the operation whose allocation failed; 0 is the first after SEQUENCE, or the only one
   pub delayed : Option ℕ
-  -- a checksum of its results
+  -- the checksum of its results
   pub checksum : ℕ
 
 pub data Entry : Type 0 where
   -- a call was made
   Call : Called → Entry
-  -- the client of this number was let go
-  LetGo : ℕ → Entry
-  -- a book of names was loaded, of this text; without a text, that of a server without a book
+  -- the client of this number was expired
+  ClientExpired : ℕ → Entry
+  -- a book of names was loaded, with this text; `None`: the book of a server without one
   Loaded : Option (List ℕ) → Entry
 
 -- ---- writing
@@ -38,10 +38,10 @@ call_value c = (moment_value c.now, (c.bytes, (c.delayed, c.checksum)))
 
 abbrev pub entry_value : Entry → Value entry
 entry_value (Call c) = inl (call_value c)
-entry_value (LetGo client) = inr (inl client)
+entry_value (ClientExpired client) = inr (inl client)
 entry_value (Loaded text) = inr (inr (inl text))
 
--- an entry as it stands in a record of the log
+-- the bytes of an entry in a record of the log
 unfoldable pub entry_bytes : Entry → List ℕ
 entry_bytes e = spelling entry (entry_value e)
 
@@ -55,12 +55,12 @@ pub record IsCalled (c : Called) : Type 0 where
 -- the entries that can be written
 abbrev pub IsEntry : Entry → Type 0
 IsEntry (Call c) = IsCalled c
-IsEntry (LetGo client) = client < 2 ^ 64
+IsEntry (ClientExpired client) = client < 2 ^ 64
 IsEntry (Loaded text) = IfSome text (λ t. length t < 2 ^ 32)
 
 -- ---- reading
 
--- the moment of these seconds and nanoseconds, which are fewer than a billion
+-- the moment of these seconds and nanoseconds, if the nanoseconds are fewer than a billion
 abbrev pub moment_in : Value time → Option Moment
 moment_in v =
     elim (cases_lt v.1 1000000000) [
@@ -76,32 +76,32 @@ call_in v = option_map (call_with v) (moment_in v.0)
 
 abbrev pub entry_in : Value entry → Option Entry
 entry_in (inl v) = option_map Call (call_in v)
-entry_in (inr (inl client)) = Some (LetGo client)
+entry_in (inr (inl client)) = Some (ClientExpired client)
 entry_in (inr (inr (inl text))) = Some (Loaded text)
 entry_in (inr (inr (inr none))) = elim none [ ]
 
--- what a value that was read means, where it means something, and the bytes after it
+-- the meaning of a value that was read, if it has one, and the bytes after it
 abbrev pub meant : {V M : Type 0} → (V → Option M) → Read V → Option (M × List ℕ)
 meant meaning (Ok x) = option_map (λ m. (m, x.1)) (meaning x.0)
 meant meaning (Err e) = None
 
--- The entry at the front of the bytes, and the bytes after it. There is none where no entry stands there: the bytes end
--- inside it, its kind is another one, or its moment has a billion nanoseconds or more.
+-- The entry at the start of the bytes, and the bytes after it. `None`: the bytes end inside an entry, its kind is
+-- unknown, or its moment has a billion nanoseconds or more.
 unfoldable pub entry_at : List ℕ → Option (Entry × List ℕ)
 entry_at bytes = meant entry_in (read_at entry bytes)
 
--- an entry that was read, and those of the bytes after it
+-- an entry that was read, and the entries of the bytes after it
 abbrev pub then_others : (List ℕ → Option (List Entry)) → Option (Entry × List ℕ) → Option (List Entry)
 then_others others None = None
 then_others others (Some x) = option_map (λ es. x.0 ∷ es) (others x.1)
 
--- the entries of the bytes, which are at most this many
+-- the entries of the bytes, at most `n` of them
 abbrev pub entries_by : ℕ → List ℕ → Option (List Entry)
 entries_by n [] = Some []
 entries_by zero (b ∷ bytes) = None
 entries_by (suc n) (b ∷ bytes) = then_others (entries_by n) (entry_at (b ∷ bytes))
 
--- All entries of a record of the log, in their order: none where something is left that is no entry. Each of them has
--- some bytes, so that they are at most as many as the bytes.
+-- All entries of a record of the log, in their order. `None`: some bytes are no entry. Each entry has at least one
+-- byte, so there are at most as many entries as bytes.
 unfoldable pub entries_in : List ℕ → Option (List Entry)
 entries_in bytes = entries_by (length bytes) bytes

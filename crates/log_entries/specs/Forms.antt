@@ -7,10 +7,10 @@ use Rattle.nfs_types.specs.Forms.{time}
 abbrev pub bytes : Xdr
 bytes = opaque 0xffff_ffff
 
--- the moment of a call, its record, the place of the operation that found no memory, a checksum of its results
+-- the moment of a call, its record, the place of the operation whose allocation failed, the checksum of its results
 abbrev pub call : Xdr
 call = fields (time ∷ bytes ∷ optional uint ∷ hyper ∷ [])
 
--- a call, the number of a client, the text of a book, if it has one
+-- a call, the number of a client, or the text of a book, if it has one
 abbrev pub entry : Xdr
 entry = union (arm 1 call (arm 2 hyper (arm 3 (optional bytes) no_more)))

@@ -1,4 +1,4 @@
--- The entry of the definitions for an entry of the program.
+-- The entry of the definitions that an entry of the program represents.
 use Rattle.std.specs.Prelude.{ℕ, List, Option}
 use Rattle.std.specs.Option.{option_map}
 use Rattle.xdr_wire.specs.declared.opaque.Opaque.{Opaque}
@@ -16,5 +16,5 @@ text_of text = option_map (λ t. t.bytes.now) text
 
 abbrev pub entry_of : Lent → Entry
 entry_of (lent.Call c) = entries.Call (called_of c)
-entry_of (lent.LetGo client) = entries.LetGo client
+entry_of (lent.ClientExpired client) = entries.ClientExpired client
 entry_of (lent.Book text) = entries.Loaded (text_of text)

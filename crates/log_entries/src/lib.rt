@@ -1,4 +1,4 @@
-//! The entries of a log: the calls that a server kept, the clients that it let go and the books that it loaded.
+//! The entries of a log: the calls that a server kept, the clients that it expired and the books that it loaded.
 #![tactic(auto)]
 
 mod checksum;

@@ -1,4 +1,4 @@
-//! Entries that are read from the front of bytes.
+//! Reading entries from the start of bytes.
 ghost use Rattle.std.specs.Prelude.{◌≡◌, ◌≤◌, ◌<◌, ◌↔◌, [], length, drop, IfSome, IfNone, OnSome, IsTrue};
 ghost use Rattle.std.specs.Option.{option_map};
 ghost use Rattle.xdr_wire.specs.Reading.{read_at};
@@ -11,14 +11,14 @@ use nfs_types::Moment;
 use std::marker::Model;
 use xdr_wire::{Opaque, Reader, Wire};
 
-/// The moment, its record, the place of an operation and a checksum.
-type SaidCall<'a> = ((i64, u32), (Opaque<'a, 0xffff_ffff>, (Option<u32>, u64)));
+/// The moment, the record, the place of an operation and a checksum.
+type WrittenCall<'a> = ((i64, u32), (Opaque<'a, 0xffff_ffff>, (Option<u32>, u64)));
 
 /// The moment of seconds and nanoseconds, if it is one.
-fn moment_of(said: (i64, u32)) -> Option<Moment>
-    ensures { result ≡ moment_in said }
+fn moment_of(written: (i64, u32)) -> Option<Moment>
+    ensures { result ≡ moment_in written }
 {
-    let (seconds, nanoseconds) = said;
+    let (seconds, nanoseconds) = written;
     if nanoseconds >= 1_000_000_000 {
         return None;
     }
@@ -28,12 +28,12 @@ fn moment_of(said: (i64, u32)) -> Option<Moment>
     })
 }
 
-/// Takes the call at the front, after its kind.
+/// Takes the call at the start, after its kind.
 fn take_call<'a>(reader: &mut Reader<'a>) -> Option<CallEntry<'a>>
     ensures { option_map (λ c. (called_of c, reader.new)) result ≡ meant call_in (read_at call reader.old) }
 {
-    let said: SaidCall<'a> = Wire::read(reader).ok()?;
-    let (now, (bytes, (delayed, checksum))) = said;
+    let written: WrittenCall<'a> = Wire::read(reader).ok()?;
+    let (now, (bytes, (delayed, checksum))) = written;
     Some(CallEntry {
         now: moment_of(now)?,
         bytes,
@@ -42,21 +42,21 @@ fn take_call<'a>(reader: &mut Reader<'a>) -> Option<CallEntry<'a>>
     })
 }
 
-/// Takes the entry at the front.
+/// Takes the entry at the start.
 #[tactic(auto, unfolding(crate::specs::Entries::entry_at))]
 fn take<'a>(reader: &mut Reader<'a>) -> Option<Entry<'a>>
     ensures { option_map (λ e. (entry_of e, reader.new)) result ≡ entry_at reader.old }
 {
     match reader.u32().ok()? {
         1 => Some(Entry::Call(take_call(reader)?)),
-        2 => Some(Entry::LetGo(reader.u64().ok()?)),
+        2 => Some(Entry::ClientExpired(reader.u64().ok()?)),
         3 => Some(Entry::Book(Wire::read(reader).ok()?)),
         _ => None,
     }
 }
 
 impl<'a> Entry<'a> {
-    /// The entry at the front of the bytes, and how many of them it takes. `None`: no entry stands there.
+    /// The entry at the start of the bytes, and the number of bytes that it takes. `None`: no entry is there.
     pub fn read(bytes: &'a [u8]) -> Option<(Self, usize)>
         ensures reads { option_map (λ x. (entry_of x.0, drop x.1 bytes.now)) result ≡ entry_at bytes.now }
         ensures some { IfSome result (λ x. 0 < x.1) }
@@ -69,7 +69,7 @@ impl<'a> Entry<'a> {
     }
 }
 
-/// The bytes of a record that are left to read, entry by entry, seen by contracts as a list.
+/// The bytes of a record that remain to be read, entry by entry. Contracts see them as a list.
 #[derive(Drop)]
 pub struct Entries<'a> {
     rest: &'a [u8],
@@ -91,14 +91,14 @@ impl<'a> Entries<'a> {
         Entries { rest: bytes }
     }
 
-    /// Whether nothing is left.
+    /// Whether no bytes remain.
     pub fn is_empty(&self) -> bool
         ensures { IsTrue result ↔ (self.now ≡ []) }
     {
         self.rest.is_empty()
     }
 
-    /// Takes the next entry. `None`: none stands at the front of what is left, and nothing is taken.
+    /// Takes the next entry. `None`: no entry is at the start of the remaining bytes, and nothing is taken.
     pub fn next(&mut self) -> Option<Entry<'a>>
         ensures takes { option_map (λ e. (entry_of e, self.new)) result ≡ entry_at self.old }
         ensures stays { IfNone result (self.new ≡ self.old) }
@@ -111,7 +111,7 @@ impl<'a> Entries<'a> {
     }
 }
 
-/// How many entries the bytes of a record are. `None`: something is left that is no entry.
+/// The number of entries that the bytes of a record consist of. `None`: some bytes are no entry.
 pub fn count_entries(bytes: &[u8]) -> Option<usize>
     ensures { result ≡ option_map length (entries_in bytes.now) }
 {

@@ -1,4 +1,4 @@
-//! The room that entries take in a log, known before they are made.
+//! The room that an entry takes in a log, known before the entry is made.
 ghost use Rattle.std.specs.Prelude.{◌≡◌, ◌≤◌, ◌<◌, ◌+◌, ◌^◌, length, min};
 ghost use Rattle.log_entries.specs.Entries.{Called, entry_bytes};
 ghost use Rattle.log_entries.specs.Entries as specs;
@@ -6,8 +6,8 @@ ghost use Rattle.log_entries.specs.Entries as specs;
 /// Kind, moment, length, at most three bytes of padding, the place of an operation, and the checksum.
 const AROUND_CALL: usize = 4 + 12 + 4 + 3 + 8 + 8;
 
-/// The room that is enough for the entry of a call whose record has at most this many bytes, whatever else it says. So
-/// whoever makes room before a call runs can log it afterwards.
+/// Room that is enough for the entry of a call whose record has at most `len` bytes, whatever its other fields are. A
+/// server that makes it before a call runs can log the call afterwards.
 pub fn call_room(len: usize) -> usize
     ensures enough { (c : Called) → length c.bytes < 2 ^ 32 → length c.bytes ≤ len →
         length (entry_bytes (specs.Call c)) ≤ result }
@@ -19,7 +19,7 @@ pub fn call_room(len: usize) -> usize
 /// Kind, whether there is a text, length, and at most three bytes of padding.
 const AROUND_BOOK: usize = 4 + 4 + 4 + 3;
 
-/// The room that is enough for the entry of a book whose text has this many bytes.
+/// Room that is enough for the entry of a book whose text has `len` bytes.
 pub(crate) fn book_room(len: usize) -> usize
     ensures { result ≡ min (len + 15) usize.MAX }
 {

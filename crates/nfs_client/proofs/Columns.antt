@@ -1,4 +1,4 @@
--- The columns of entries are told apart by the zero bytes after them.
+-- The columns of entries are unambiguous by the zero bytes after them.
 use Rattle.std.proofs.Common.{◌≡◌, ◌<◌, ◌+◌, ◌/◌, ◌%◌, ℕ, Bool, true, false, List, [], ◌∷◌, ◌++◌, Option, Some, None, refl, sym, ap, ◌∙◌, arith, inl, inr, append_assoc}
 use Rattle.std.specs.Prelude.{◌==◌, ◌||◌, if◌then◌else◌, All, option_map, decimal}
 use Rattle.std.specs.List.{flat_map}
@@ -26,7 +26,7 @@ part_from done (b ∷ part) rest free =
     let h = neither (b == 0) (has_zero part) free in
     rw (h.0) (part_from (done ++ b ∷ []) part rest h.1 ∙ ap (λ (p : List ℕ). p ∷ parts rest) (append_assoc done (b ∷ []) part))
 
--- texts whose parts these are, with a part more after them
+-- texts with these parts, and one more part after them
 one_more : (text part : List ℕ) (ps : List (List ℕ)) → ((rest : List ℕ) → parts (text ++ 0 ∷ rest) ≡ ps ++ parts rest) → has_zero part ≡ false
     → (rest : List ℕ) → parts ((text ++ 0 ∷ part) ++ 0 ∷ rest) ≡ (ps ++ part ∷ []) ++ parts rest
 one_more text part ps before free rest =
@@ -58,7 +58,7 @@ size_free : (size : Option ℕ) → IsSize size → has_zero (size_column size) 
 size_free None fits = refl
 size_free (Some size) fits = digits_free (decimal size) (decimal_is_IsNumeral size fits).0.1
 
--- the columns of an entry, and what stands after them
+-- the columns of an entry, and what follows them
 entry_parts : (l : Listed) (rest : List ℕ) → IsSize l.size → is_torn Zeros l ≡ false → parts (columns 0 l ++ 0 ∷ rest) ≡ columns_of l ++ parts rest
 entry_parts l rest fits whole =
     let kind = kind_text l.kind in
@@ -85,10 +85,10 @@ more_parts l ls text None fits whole again is = absurd cc
 more_parts l ls text (Some rest) fits whole again is =
     ap (λ (o : Option (List ℕ)). parts (text_or_none o)) (sym is) ∙ entry_parts l rest fits whole ∙ ap (λ (ps : List (List ℕ)). columns_of l ++ ps) (again rest refl)
 
-pub told_apart : (ls : List Listed) (text : List ℕ) → All (λ l. IsSize l.size) ls → lines_of 0 (line_with Zeros) ls ≡ Some text → parts text ≡ flat_map columns_of ls
-told_apart [] text fit is = ap (λ (o : Option (List ℕ)). parts (text_or_none o)) (sym is)
-told_apart (l ∷ ls) text fit is =
+pub columns_apart : (ls : List Listed) (text : List ℕ) → All (λ l. IsSize l.size) ls → lines_of 0 (line_with Zeros) ls ≡ Some text → parts text ≡ flat_map columns_of ls
+columns_apart [] text fit is = ap (λ (o : Option (List ℕ)). parts (text_or_none o)) (sym is)
+columns_apart (l ∷ ls) text fit is =
     elim (cases_Bool (is_torn Zeros l)) as (λ t. parts text ≡ flat_map columns_of (l ∷ ls)) [
       | inl torn ↦ (let none = rw torn at is in absurd cc)
-      | inr whole ↦ more_parts l ls text (lines_of 0 (line_with Zeros) ls) (All-head (λ (e : Listed). IsSize e.size) l ls fit) whole (λ rest h. told_apart ls rest (All-tail (λ (e : Listed). IsSize e.size) l ls fit) h) (rw whole at is)
+      | inr whole ↦ more_parts l ls text (lines_of 0 (line_with Zeros) ls) (All-head (λ (e : Listed). IsSize e.size) l ls fit) whole (λ rest h. columns_apart ls rest (All-tail (λ (e : Listed). IsSize e.size) l ls fit) h) (rw whole at is)
     ]

@@ -22,7 +22,7 @@ kind_again Deny = refl
 kind_again Audit = refl
 kind_again Alarm = refl
 
--- the pieces of an entry's text
+-- the pieces of an ACE's text
 pieces : (t f g a b c d h i j k : ℕ) (kind : EntryKind) (flags v w x y : ℕ) (who : List ℕ) → kind_in t ≡ Some kind → byte_in f g ≡ Some flags
     → byte_in a b ≡ Some v → byte_in c d ≡ Some w → byte_in h i ≡ Some x → byte_in j k ≡ Some y
     → entry_in (t ∷ 58 ∷ f ∷ g ∷ 58 ∷ a ∷ b ∷ c ∷ d ∷ h ∷ i ∷ j ∷ k ∷ 58 ∷ who) ≡ Some (record { kind = kind; flags = flags; mask = from_be_bytes w32 (v ∷ w ∷ x ∷ y ∷ []); who = who })

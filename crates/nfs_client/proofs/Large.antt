@@ -1,37 +1,37 @@
--- Operations that are too large for a record alone.
+-- Operations that alone are too large for a record.
 use Rattle.std.proofs.Common.{◌≡◌, ℕ, ◌≤◌, ◌<◌, List, ◌++◌, length, replicate, Option, Some, None, Err, refl, arith}
 use Rattle.std.proofs.lemmas.List.{length-append}
 use Rattle.std.specs.Int.{w32, to_be_bytes}
 use Rattle.xdr_wire.specs.Xdr.{padding, padded, spelling}
 use Rattle.nfs_types.specs.Forms.{bitmap, stateid}
 use Rattle.nfs_types.specs.StateIds.{anonymous}
-use Rattle.nfs_types.specs.Seen.{Seen, shown_set, shown_values}
+use Rattle.nfs_types.specs.Seen.{Seen, client_set, client_values}
 use Rattle.nfs_client.specs.Compound.{IsLarge, op_bytes, most_sent}
 use Rattle.nfs_client.specs.Setting.{ValuesGive, set_by, with_size}
 use Rattle.nfs_client.specs.declared.fault.ToolFault.{ToolFault}
 use Rattle.nfs_client.specs.declared.fault.ToolFault.TheVariants as fault
 
-behind : (n : ℕ) (a b : List ℕ) → n ≤ length b → n ≤ length (a ++ b)
-behind n a b le = omega (arith, length-append a b, le)
+longer_after : (n : ℕ) (a b : List ℕ) → n ≤ length b → n ≤ length (a ++ b)
+longer_after n a b le = omega (arith, length-append a b, le)
 
--- an opaque item has its bytes
-within : (front item : List ℕ) → length item ≤ length (front ++ padded item)
-within front item = omega (arith, length-append front (padded item), length-append item (replicate (padding (length item)) 0))
+-- an opaque item includes its bytes
+within : (prefix item : List ℕ) → length item ≤ length (prefix ++ padded item)
+within prefix item = omega (arith, length-append prefix (padded item), length-append item (replicate (padding (length item)) 0))
 
 values_within : (s : Seen) (values : List ℕ) → length values ≤ length (op_bytes (set_by s values))
 values_within s values =
     let n = length values in
     let size : List ℕ = to_be_bytes w32 n in
-    let set : List ℕ = spelling bitmap (shown_set s) in
+    let set : List ℕ = spelling bitmap (client_set s) in
     let id : List ℕ = spelling stateid anonymous in
-    behind n (to_be_bytes w32 34) (id ++ (set ++ (size ++ padded values))) (behind n id (set ++ (size ++ padded values)) (behind n set (size ++ padded values) (within size values)))
+    longer_after n (to_be_bytes w32 34) (id ++ (set ++ (size ++ padded values))) (longer_after n id (set ++ (size ++ padded values)) (longer_after n set (size ++ padded values) (within size values)))
 
 pub setting_is_large : (s : Seen) (values : List ℕ) → most_sent < length values → IsLarge (set_by s values)
 setting_is_large s values large = omega (arith, large, values_within s values)
 
 -- a size alone isn't too large
-size_is_small : (size : Option ℕ) → length (shown_values (with_size size)) ≤ 8
-unfolding shown_values
+size_is_small : (size : Option ℕ) → length (client_values (with_size size)) ≤ 8
+unfolding client_values
 size_is_small None = omega arith
 size_is_small (Some n) = omega arith
 
@@ -39,7 +39,7 @@ pub size_is_sent : {Y : Type 0} (bytes : Y → List ℕ) (size : Option ℕ) (f 
 size_is_sent bytes size fault.Memory h = refl
 size_is_sent bytes size fault.TooLarge h = absurd (no h)
   where
-    no : most_sent < length (shown_values (with_size size)) → ⊥
+    no : most_sent < length (client_values (with_size size)) → ⊥
     no more = omega (arith, more, size_is_small size)
 size_is_sent bytes size fault.Path h = absurd h
 size_is_sent bytes size (fault.Refused op status) h = absurd h

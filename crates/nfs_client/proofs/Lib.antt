@@ -15,6 +15,6 @@ pub mod Listings
 pub mod Walks
 pub mod Reading
 pub mod Putting
-pub mod Telling
+pub mod Printing
 pub mod Columns
 pub mod Reaching

@@ -9,11 +9,11 @@ use Rattle.nfs_client.specs.declared.fault.ToolFault.TheVariants as fault
 use Rattle.nfs_client.specs.declared.client.Client.{Client}
 
 module _ {S A : Type 0} (talks : Talking S) (old mid last new : Client S A) (first : Ends talks (destroy_session old.session) old mid (Ok tt)) where
-  -- the second exchange goes on with the client of the first
-  second : (told : Result (Unit {0}) ToolFault) → Ends talks (destroy_client mid.client) mid last told → Ends talks (destroy_client old.client) mid last told
-  second told h = subst (λ (n : ℕ). Ends talks (destroy_client n) mid last told) first.1.client h
+  -- the second exchange uses the client after the first
+  second : (outcome : Result (Unit {0}) ToolFault) → Ends talks (destroy_client mid.client) mid last outcome → Ends talks (destroy_client old.client) mid last outcome
+  second outcome h = subst (λ (n : ℕ). Ends talks (destroy_client n) mid last outcome) first.1.client h
 
-  pub ended : (told : Result (Unit {0}) ToolFault) → Ends talks (destroy_client mid.client) mid last told → Breaks told last new → EndGives talks old new told
+  pub ended : (outcome : Result (Unit {0}) ToolFault) → Ends talks (destroy_client mid.client) mid last outcome → Breaks outcome last new → EndGives talks old new outcome
   ended (Ok done) h is = (mid, first, subst (λ (c : Client S A). Ends talks (destroy_client old.client) mid c (Ok done)) (sym is) (second (Ok done) h))
   ended (Err fault.Memory) h is = inr (mid, last, first, second (Err fault.Memory) h, is)
   ended (Err fault.Reply) h is = inr (mid, last, first, second (Err fault.Reply) h, is)

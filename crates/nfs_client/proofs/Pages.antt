@@ -1,4 +1,4 @@
--- Page by page.
+-- Requests page by page.
 use Rattle.std.proofs.Common.{◌<◌, inl, Bool, List, length, Err}
 use Rattle.std.specs.Prelude.{Option}
 use Rattle.nfs_ops.specs.Operations.{Operation}
@@ -25,7 +25,7 @@ same_failure talks taken value other in_session ops old new fault.Failed h = h
 same_failure talks taken value other in_session ops old new fault.TooLarge h = h
 
 module _ {S A V : Type 0} (paging : Paging S A V) (old : Client S A) where
-  -- some pages were asked, and none of them is the last
+  -- some pages were requested, and none of them is the last
   pub record Paged (at : Client S A) (before : List V) : Type 0 where
     pub goes : Goes paging old before at
 

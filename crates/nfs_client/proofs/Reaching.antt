@@ -1,11 +1,11 @@
--- A relation of a stream before and after that each exchange keeps is kept by each command.
+-- Each command preserves a relation of the streams before and after, if each exchange preserves it.
 use Rattle.std.proofs.Common.{◌≡◌, inl, inr, ℕ, false, List, [], ◌∷◌, length, drop, Ok, Err, sym, subst}
 use Rattle.std.specs.Prelude.{Some, Result, sum}
 use Rattle.nfs_ops.specs.Operations.{Operation}
-use Rattle.nfs_client.specs.Acls.{GetAclAsks, SetAclAsks, WrongList, acl_in}
+use Rattle.nfs_client.specs.Acls.{GetAclAsks, SetAclAsks, WrongAcl, acl_in}
 use Rattle.nfs_client.specs.Access.{AccessAsks, NoPath, rights_in}
 use Rattle.nfs_client.specs.AccessViews.{rights_value}
-use Rattle.nfs_client.specs.AnswerTexts.{says_text}
+use Rattle.nfs_client.specs.AnswerTexts.{text_of_bytes}
 use Rattle.nfs_client.specs.Approach.{approach, handle_in, Approaches, WalkFails}
 use Rattle.nfs_client.specs.Cat.{CatGives, by_pieces, bytes_of}
 use Rattle.nfs_client.specs.ChMod.{ChModAsks, WrongMode}
@@ -17,15 +17,15 @@ use Rattle.nfs_client.specs.Ls.{LsGives, AreListed, by_listings, text_of}
 use Rattle.nfs_client.specs.MkDir.{MkDirAsks}
 use Rattle.nfs_client.specs.Mv.{MvAsks, WrongNames}
 use Rattle.nfs_client.specs.Paging.{Paging, Goes, Stops, PagesGive, itself}
-use Rattle.nfs_client.specs.Put.{Open, Text, open_in, written_in, write_to, close_it, piece, size_at_open, open_along, OpenAsks, ClosesBehind, Writes, TextGives, FileGives, PutFileGives, PutAlong, PutCommandGives}
+use Rattle.nfs_client.specs.Put.{Open, Text, open_in, written_in, write_to, close_it, piece, size_at_open, open_along, OpenAsks, ClosesAfterWrite, Writes, TextGives, FileGives, PutFileGives, PutAlong, PutCommandGives}
 use Rattle.nfs_client.specs.Paths.{names_in}
 use Rattle.nfs_client.specs.Rm.{RmAsks, WrongPath}
-use Rattle.nfs_client.specs.Routes.{Route, along, near, route_behind, most_names, most_before_two, most_of_both, left_of_first}
-use Rattle.nfs_client.specs.Running.{CatTells, Runs}
+use Rattle.nfs_client.specs.Routes.{Route, along, near, route_after, most_names, most_before_two, most_of_both, left_of_first}
+use Rattle.nfs_client.specs.Running.{CatPrints, Runs}
 use Rattle.nfs_client.specs.Sessions.{ClientOwner, Begins, EndGives, exchange_id, create_session, destroy_session, destroy_client, record_in, record_value, session_in, session_value}
 use Rattle.nfs_client.specs.Taking.{Taking, taking, no_value}
 use Rattle.nfs_client.specs.Talking.{Talking}
-use Rattle.nfs_client.specs.Walking.{Walked, along_both, OrLarge, AnyNames, CommandTells, BothGive}
+use Rattle.nfs_client.specs.Walking.{Walked, along_both, OrLarge, AnyNames, CommandResults, BothGive}
 use Rattle.nfs_client.specs.Words as words
 use Rattle.nfs_client.specs.declared.client.Client.{Client}
 use Rattle.nfs_client.specs.declared.fault.ToolFault.{ToolFault}
@@ -36,7 +36,7 @@ use Rattle.nfs_client.specs.declared.put.OldBytes.TheVariants.{Dropped}
 use Rattle.nfs_client.specs.declared.running.Answer.{Answer}
 use Rattle.nfs_client.specs.declared.sessions.Registration.{Registration}
 
--- a relation of a stream to itself that each exchange keeps
+-- a reflexive and transitive relation between streams that each exchange preserves
 pub record Reaching {S : Type 0} (talks : Talking S) : Type 1 where
   pub reaches : S → S → Type 0
   pub stays : (s : S) → reaches s s
@@ -54,7 +54,7 @@ module _ {S A : Type 0} (talks : Talking S) (to : Reaching talks) where
   same : (old new : Client S A) → new ≡ old → To old new
   same old new is = subst (λ (c : Client S A). To old c) (sym is) (to.stays old.stream)
 
-  -- the client is this one, which differs from the last one in other things than its stream
+  -- the client is the last one, and no longer usable
   left : (old last new : Client S A) → new ≡ record last { usable = false } → To old last → To old new
   left old last new is h = subst (λ (c : Client S A). To old c) (sym is) h
 
@@ -82,7 +82,7 @@ module _ {S A : Type 0} (talks : Talking S) (to : Reaching talks) where
   asked takes ask old new (Err fault.Entry) h = absurd h
   asked takes ask old new (Err fault.Failed) h = absurd h
 
-  spoiled : {X : Type 0} (told : Result X ToolFault) (old last new : Client S A) → Spoils told last new → To old last → To old new
+  spoiled : {X : Type 0} (outcome : Result X ToolFault) (old last new : Client S A) → Spoils outcome last new → To old last → To old new
   spoiled (Ok x) old last new is h = on old last new h (same last new is)
   spoiled (Err fault.Memory) old last new is h = left old last new is h
   spoiled (Err fault.TooLarge) old last new is h = on old last new h (same last new is)
@@ -94,7 +94,7 @@ module _ {S A : Type 0} (talks : Talking S) (to : Reaching talks) where
   spoiled (Err fault.Entry) old last new is h = on old last new h (same last new is)
   spoiled (Err fault.Failed) old last new is h = on old last new h (same last new is)
 
-  broken : {X : Type 0} (told : Result X ToolFault) (old last new : Client S A) → Breaks told last new → To old last → To old new
+  broken : {X : Type 0} (outcome : Result X ToolFault) (old last new : Client S A) → Breaks outcome last new → To old last → To old new
   broken (Ok x) old last new is h = on old last new h (same last new is)
   broken (Err fault.Memory) old last new is h = left old last new is h
   broken (Err fault.TooLarge) old last new is h = left old last new is h
@@ -111,10 +111,10 @@ module _ {S A : Type 0} (talks : Talking S) (to : Reaching talks) where
   approached : (most : ℕ) (names : List (List ℕ)) (old : Client S A) (handles : List (List ℕ)) (new : Client S A) → Approaches talks most names old handles new → To old new
   approached most names old [] new is = same old new is
   approached most names old (handle ∷ before) new (mid, last, goes, _, gives, is) =
-      left old last new is (on old mid last (approached most names old before mid goes) (asked (taking handle_in itself) (within_session (approach mid (near (route_behind names before)))) mid last (Ok handle) gives))
+      left old last new is (on old mid last (approached most names old before mid goes) (asked (taking handle_in itself) (within_session (approach mid (near (route_after names before)))) mid last (Ok handle) gives))
 
   walk_failed : (most : ℕ) (names : List (List ℕ)) (old new : Client S A) (f : ToolFault) → WalkFails talks most names old new f → To old new
-  walk_failed most names old new f w = on old w.mid new (approached most names old w.before w.mid w.goes) (asked {X = List ℕ} (taking handle_in itself) (within_session (approach w.mid (near (route_behind names w.before)))) w.mid new (Err f) w.gives)
+  walk_failed most names old new f w = on old w.mid new (approached most names old w.before w.mid w.goes) (asked {X = List ℕ} (taking handle_in itself) (within_session (approach w.mid (near (route_after names w.before)))) w.mid new (Err f) w.gives)
 
   walked : {X : Type 0} (most : ℕ) (names : List (List ℕ)) (does : Route → Client S A → Result X ToolFault → Type 0) (old new : Client S A) (each : (route : Route) (mid : Client S A) (r : Result X ToolFault) → does route mid r → To mid new)
       → (result : Result X ToolFault) → Walked talks most names does old new result → To old new
@@ -137,15 +137,15 @@ module _ {S A : Type 0} (talks : Talking S) (to : Reaching talks) where
   commanded wrong gives old new each (Err fault.Write) h = each (Err fault.Write) h
   commanded wrong gives old new each (Err (fault.Refused op status)) h = each (Err (fault.Refused op status)) h
 
-  one : {X V : Type 0} (takes : Taking X V) (asks : List (List ℕ) → Operation → Type 0) (old new : Client S A) (told : Result X ToolFault)
-      → (names : List (List ℕ)) × (op : Operation) × asks names op × Walked talks most_names names (λ route mid r. AskGives talks takes (within_session (along mid route op)) mid new r) old new told → To old new
-  one takes asks old new told (names, op, _, w) =
-      walked most_names names (λ route mid r. AskGives talks takes (within_session (along mid route op)) mid new r) old new (λ route mid r g. asked takes (within_session (along mid route op)) mid new r g) told w
+  one : {X V : Type 0} (takes : Taking X V) (asks : List (List ℕ) → Operation → Type 0) (old new : Client S A) (outcome : Result X ToolFault)
+      → (names : List (List ℕ)) × (op : Operation) × asks names op × Walked talks most_names names (λ route mid r. AskGives talks takes (within_session (along mid route op)) mid new r) old new outcome → To old new
+  one takes asks old new outcome (names, op, _, w) =
+      walked most_names names (λ route mid r. AskGives talks takes (within_session (along mid route op)) mid new r) old new (λ route mid r g. asked takes (within_session (along mid route op)) mid new r g) outcome w
 
-  tells : {X V : Type 0} (takes : Taking X V) (asks : List (List ℕ) → Operation → Type 0) (wrong : ToolFault → Type 0) (old new : Client S A) (result : Result X ToolFault) → CommandTells talks takes asks wrong old new result → To old new
-  tells {X = X} takes asks wrong old new result h =
+  answers : {X V : Type 0} (takes : Taking X V) (asks : List (List ℕ) → Operation → Type 0) (wrong : ToolFault → Type 0) (old new : Client S A) (result : Result X ToolFault) → CommandResults talks takes asks wrong old new result → To old new
+  answers {X = X} takes asks wrong old new result h =
       commanded (OrLarge (AnyNames asks) wrong)
-      (λ told. (names : List (List ℕ)) × (op : Operation) × asks names op × Walked talks most_names names (λ route mid r. AskGives talks takes (within_session (along mid route op)) mid new r) old new told)
+      (λ outcome. (names : List (List ℕ)) × (op : Operation) × asks names op × Walked talks most_names names (λ route mid r. AskGives talks takes (within_session (along mid route op)) mid new r) old new outcome)
       old new (one takes asks old new) result h
 
   -- the operation at the ends of two paths, after the walk of the first
@@ -156,14 +156,14 @@ module _ {S A : Type 0} (talks : Talking S) (to : Reaching talks) where
   second_walked op others new first mid r h =
       walked most_of_both others (λ second last s. AskGives talks no_value (within_session (along_both last first second op)) last new s) mid new (λ second last s g. asked no_value (within_session (along_both last first second op)) last new s g) r h
 
-  two : (asks : List (List ℕ) → List (List ℕ) → Operation → Type 0) (old new : Client S A) (told : Result (Unit {0}) ToolFault)
-      → (names : List (List ℕ)) × (others : List (List ℕ)) × (op : Operation) × asks names others op × Walked talks (left_of_first (length names) (length others)) names (Second op others new) old new told → To old new
-  two asks old new told (names, others, op, _, w) = walked (left_of_first (length names) (length others)) names (Second op others new) old new (second_walked op others new) told w
+  two : (asks : List (List ℕ) → List (List ℕ) → Operation → Type 0) (old new : Client S A) (outcome : Result (Unit {0}) ToolFault)
+      → (names : List (List ℕ)) × (others : List (List ℕ)) × (op : Operation) × asks names others op × Walked talks (left_of_first (length names) (length others)) names (Second op others new) old new outcome → To old new
+  two asks old new outcome (names, others, op, _, w) = walked (left_of_first (length names) (length others)) names (Second op others new) old new (second_walked op others new) outcome w
 
   both : (asks : List (List ℕ) → List (List ℕ) → Operation → Type 0) (wrong : ToolFault → Type 0) (old new : Client S A) (result : Result (Unit {0}) ToolFault) → BothGive talks asks wrong old new result → To old new
   both asks wrong old new result h =
       commanded (OrLarge (λ op. (names : List (List ℕ)) × AnyNames (asks names) op) wrong)
-      (λ told. (names : List (List ℕ)) × (others : List (List ℕ)) × (op : Operation) × asks names others op × Walked talks (left_of_first (length names) (length others)) names (Second op others new) old new told)
+      (λ outcome. (names : List (List ℕ)) × (others : List (List ℕ)) × (op : Operation) × asks names others op × Walked talks (left_of_first (length names) (length others)) names (Second op others new) old new outcome)
       old new (two asks old new) result h
 
   -- ---- putting a file
@@ -176,9 +176,9 @@ module _ {S A : Type 0} (talks : Talking S) (to : Reaching talks) where
   text_written over o text old new (Ok done) (counts, goes, _) = wrote over o text old counts new goes
   text_written over o text old new (Err f) (mid, before, goes, gives) = on old mid new (wrote over o text old before mid goes) (asked {X = ℕ} (taking (written_in over (length (piece (drop (sum before) text)))) itself) (within_session (write_to mid over o (sum before) (piece (drop (sum before) text)))) mid new (Err f) gives)
 
-  closed : (o : Open) (told : Result (Unit {0}) ToolFault) (old new : Client S A) (result : Result (Unit {0}) ToolFault) → ClosesBehind talks o told old new result → To old new
+  closed : (o : Open) (outcome : Result (Unit {0}) ToolFault) (old new : Client S A) (result : Result (Unit {0}) ToolFault) → ClosesAfterWrite talks o outcome old new result → To old new
   closed o (Ok done) old new result h = asked no_value (within_session (close_it old o)) old new result h
-  closed o (Err (fault.Refused op status)) old new result (told, h, _) = asked no_value (within_session (close_it old o)) old new told h
+  closed o (Err (fault.Refused op status)) old new result (outcome, h, _) = asked no_value (within_session (close_it old o)) old new outcome h
   closed o (Err fault.Memory) old new result (is, _) = same old new is
   closed o (Err fault.TooLarge) old new result (is, _) = same old new is
   closed o (Err fault.Reply) old new result (is, _) = same old new is
@@ -189,8 +189,8 @@ module _ {S A : Type 0} (talks : Talking S) (to : Reaching talks) where
   closed o (Err fault.Failed) old new result (is, _) = same old new is
 
   filled : (over : OldBytes) (o : Open) (text : List ℕ) (old new : Client S A) (result : Result (Unit {0}) ToolFault) → FileGives talks over o text old new result → To old new
-  filled over o text old new result (told, mid, last, writes, closes, breaks) =
-      broken result old last new breaks (on old mid last (text_written over o text old mid told writes) (closed o told mid last result closes))
+  filled over o text old new result (outcome, mid, last, writes, closes, breaks) =
+      broken result old last new breaks (on old mid last (text_written over o text old mid outcome writes) (closed o outcome mid last result closes))
 
   file_put : (text : Text) (ops : List Operation) (old new : Client S A) (result : Result (Unit {0}) ToolFault) → PutFileGives talks text ops old new result → To old new
   file_put text ops old new (Ok done) (mid, o, opens, fills) = on old mid new (asked (taking open_in itself) (within_session ops) old mid (Ok o) opens) (filled text.over o text.bytes mid new (Ok done) fills)
@@ -199,12 +199,12 @@ module _ {S A : Type 0} (talks : Talking S) (to : Reaching talks) where
 
   -- the names of a directory, and the OPEN at their end
   abbrev FileAt : List ℕ → Text → Client S A → Client S A → Result (Unit {0}) ToolFault → Type 0
-  FileAt path text old new told =
-      (directory : List (List ℕ)) × (op : Operation) × OpenAsks old.client path (size_at_open text.over text.bytes) directory op × PutAlong talks directory (record { opens = op; text = text }) old new told
+  FileAt path text old new outcome =
+      (directory : List (List ℕ)) × (op : Operation) × OpenAsks old.client path (size_at_open text.over text.bytes) directory op × PutAlong talks directory (record { opens = op; text = text }) old new outcome
 
-  file_at : (path : List ℕ) (text : Text) (old new : Client S A) (told : Result (Unit {0}) ToolFault) → FileAt path text old new told → To old new
-  file_at path text old new told (directory, op, _, w) =
-      walked most_before_two directory (λ route mid r. PutFileGives talks text (open_along mid route op) mid new r) old new (λ route mid r g. file_put text (open_along mid route op) mid new r g) told w
+  file_at : (path : List ℕ) (text : Text) (old new : Client S A) (outcome : Result (Unit {0}) ToolFault) → FileAt path text old new outcome → To old new
+  file_at path text old new outcome (directory, op, _, w) =
+      walked most_before_two directory (λ route mid r. PutFileGives talks text (open_along mid route op) mid new r) old new (λ route mid r g. file_put text (open_along mid route op) mid new r g) outcome w
 
   puts : (path : List ℕ) (text : Text) (old new : Client S A) (result : Result (Unit {0}) ToolFault) → PutCommandGives talks path text old new result → To old new
   puts path text old new result h =
@@ -270,42 +270,42 @@ module _ {S A V : Type 0} (paging : Paging S A V) (to : Reaching paging.talks) w
 -- ---- commands
 
 module _ {S A : Type 0} (talks : Talking S) (to : Reaching talks) where
-  pieces_at : {X : Type 0} (value : X → List ℕ) (path : List ℕ) (old new : Client S A) (told : Result X ToolFault)
-      → (names : List (List ℕ)) × (names_in path ≡ Some names) × Walked talks most_names names (λ route mid r. PagesGive (by_pieces talks route) value bytes_of mid new r) old new told → To talks to old new
-  pieces_at value path old new told (names, _, w) =
-      walked talks to most_names names (λ route mid r. PagesGive (by_pieces talks route) value bytes_of mid new r) old new (λ route mid r g. paged (by_pieces talks route) to value bytes_of mid new r g) told w
+  pieces_at : {X : Type 0} (value : X → List ℕ) (path : List ℕ) (old new : Client S A) (outcome : Result X ToolFault)
+      → (names : List (List ℕ)) × (names_in path ≡ Some names) × Walked talks most_names names (λ route mid r. PagesGive (by_pieces talks route) value bytes_of mid new r) old new outcome → To talks to old new
+  pieces_at value path old new outcome (names, _, w) =
+      walked talks to most_names names (λ route mid r. PagesGive (by_pieces talks route) value bytes_of mid new r) old new (λ route mid r g. paged (by_pieces talks route) to value bytes_of mid new r g) outcome w
 
   read_whole : {X : Type 0} (value : X → List ℕ) (path : List ℕ) (old new : Client S A) (result : Result X ToolFault) → CatGives talks value path old new result → To talks to old new
   read_whole value path old new result h =
       commanded talks to (NoPath path)
-      (λ told. (names : List (List ℕ)) × (names_in path ≡ Some names) × Walked talks most_names names (λ route mid r. PagesGive (by_pieces talks route) value bytes_of mid new r) old new told)
+      (λ outcome. (names : List (List ℕ)) × (names_in path ≡ Some names) × Walked talks most_names names (λ route mid r. PagesGive (by_pieces talks route) value bytes_of mid new r) old new outcome)
       old new (pieces_at value path old new) result h
 
-  listings_at : {X : Type 0} (value : X → List ℕ) (path : List ℕ) (old new : Client S A) (told : Result X ToolFault)
-      → (names : List (List ℕ)) × (set : List ℕ) × (names_in path ≡ Some names) × AreListed set × Walked talks most_names names (λ route mid r. PagesGive (by_listings talks Blanks route set) value text_of mid new r) old new told → To talks to old new
-  listings_at value path old new told (names, set, _, _, w) =
-      walked talks to most_names names (λ route mid r. PagesGive (by_listings talks Blanks route set) value text_of mid new r) old new (λ route mid r g. paged (by_listings talks Blanks route set) to value text_of mid new r g) told w
+  listings_at : {X : Type 0} (value : X → List ℕ) (path : List ℕ) (old new : Client S A) (outcome : Result X ToolFault)
+      → (names : List (List ℕ)) × (set : List ℕ) × (names_in path ≡ Some names) × AreListed set × Walked talks most_names names (λ route mid r. PagesGive (by_listings talks Blanks route set) value text_of mid new r) old new outcome → To talks to old new
+  listings_at value path old new outcome (names, set, _, _, w) =
+      walked talks to most_names names (λ route mid r. PagesGive (by_listings talks Blanks route set) value text_of mid new r) old new (λ route mid r g. paged (by_listings talks Blanks route set) to value text_of mid new r g) outcome w
 
   listed : {X : Type 0} (value : X → List ℕ) (path : List ℕ) (old new : Client S A) (result : Result X ToolFault) → LsGives talks value path old new result → To talks to old new
   listed value path old new result h =
       commanded talks to (NoPath path)
-      (λ told. (names : List (List ℕ)) × (set : List ℕ) × (names_in path ≡ Some names) × AreListed set × Walked talks most_names names (λ route mid r. PagesGive (by_listings talks Blanks route set) value text_of mid new r) old new told)
+      (λ outcome. (names : List (List ℕ)) × (set : List ℕ) × (names_in path ≡ Some names) × AreListed set × Walked talks most_names names (λ route mid r. PagesGive (by_listings talks Blanks route set) value text_of mid new r) old new outcome)
       old new (listings_at value path old new) result h
 
-  cat_told : (path : List ℕ) (old new : Client S A) (result : Result (Answer A) ToolFault) → CatTells talks path old new result → To talks to old new
-  cat_told path old new result (inl (told, gives, _)) = read_whole says_text path old new told gives
-  cat_told path old new result (inr (bytes, last, gives, is, _)) = left talks to old last new is (read_whole says_text path old last (Ok bytes) gives)
+  cat_reaches : (path : List ℕ) (old new : Client S A) (result : Result (Answer A) ToolFault) → CatPrints talks path old new result → To talks to old new
+  cat_reaches path old new result (inl (outcome, gives, _)) = read_whole text_of_bytes path old new outcome gives
+  cat_reaches path old new result (inr (bytes, last, gives, is, _)) = left talks to old last new is (read_whole text_of_bytes path old last (Ok bytes) gives)
 
-  -- each command goes on by exchanges alone
+  -- each command consists of exchanges alone
   pub runs : (command : words.CommandLine) (old new : Client S A) (result : Result (Answer A) ToolFault) → Runs talks command old new result → To talks to old new
-  runs (words.Ls path) old new result (told, gives, _) = listed says_text path old new told gives
-  runs (words.Cat path) old new result h = cat_told path old new result h
-  runs (words.Put path text) old new result (told, gives, _) = puts talks to path (record { over = Dropped; bytes = text }) old new told gives
-  runs (words.MkDir path) old new result (told, gives, _) = tells talks to no_value (MkDirAsks path) (WrongPath path) old new told gives
-  runs (words.Ln from onto) old new result (told, gives, _) = both talks to (LnAsks from onto) (WrongPaths from onto) old new told gives
-  runs (words.Mv from onto) old new result (told, gives, _) = both talks to (MvAsks from onto) (WrongNames from onto) old new told gives
-  runs (words.Rm path) old new result (told, gives, _) = tells talks to no_value (RmAsks path) (WrongPath path) old new told gives
-  runs (words.ChMod mode path) old new result (told, gives, _) = tells talks to no_value (ChModAsks mode path) (WrongMode mode path) old new told gives
-  runs (words.GetAcl part path) old new result (told, gives, _) = tells talks to (taking (acl_in part) says_text) (GetAclAsks part path) (NoPath path) old new told gives
-  runs (words.SetAcl part path entries) old new result (told, gives, _) = tells talks to no_value (SetAclAsks part path entries) (WrongList path entries) old new told gives
-  runs (words.Access path) old new result (told, gives, _) = tells talks to (taking rights_in rights_value) (AccessAsks path) (NoPath path) old new told gives
+  runs (words.Ls path) old new result (outcome, gives, _) = listed text_of_bytes path old new outcome gives
+  runs (words.Cat path) old new result h = cat_reaches path old new result h
+  runs (words.Put path text) old new result (outcome, gives, _) = puts talks to path (record { over = Dropped; bytes = text }) old new outcome gives
+  runs (words.MkDir path) old new result (outcome, gives, _) = answers talks to no_value (MkDirAsks path) (WrongPath path) old new outcome gives
+  runs (words.Ln from onto) old new result (outcome, gives, _) = both talks to (LnAsks from onto) (WrongPaths from onto) old new outcome gives
+  runs (words.Mv from onto) old new result (outcome, gives, _) = both talks to (MvAsks from onto) (WrongNames from onto) old new outcome gives
+  runs (words.Rm path) old new result (outcome, gives, _) = answers talks to no_value (RmAsks path) (WrongPath path) old new outcome gives
+  runs (words.ChMod mode path) old new result (outcome, gives, _) = answers talks to no_value (ChModAsks mode path) (WrongMode mode path) old new outcome gives
+  runs (words.GetAcl part path) old new result (outcome, gives, _) = answers talks to (taking (acl_in part) text_of_bytes) (GetAclAsks part path) (NoPath path) old new outcome gives
+  runs (words.SetAcl part path entries) old new result (outcome, gives, _) = answers talks to no_value (SetAclAsks part path entries) (WrongAcl path entries) old new outcome gives
+  runs (words.Access path) old new result (outcome, gives, _) = answers talks to (taking rights_in rights_value) (AccessAsks path) (NoPath path) old new outcome gives

@@ -17,7 +17,7 @@ use Rattle.nfs_client.specs.declared.fault.ToolFault.{ToolFault}
 use Rattle.nfs_client.specs.declared.fault.ToolFault.TheVariants as fault
 use Rattle.nfs_client.specs.declared.request.Request.{Request}
 
--- ---- what a request holds
+-- ---- the operations of a request
 
 -- the bytes of these operations and of one more
 bytes_more : (ops : List Operation) (op : Operation) → flat_map op_bytes (ops ++ op ∷ []) ≡ flat_map op_bytes ops ++ op_bytes op
@@ -29,10 +29,10 @@ all_more (o ∷ ops) op all is = (all.0, all_more ops op all.1 is)
 
 pub holds_more : (old new : Buffer) (wrote : Result (Unit {0}) Full) (ops : List Operation) (op : Operation) → Fits old ops → Puts old new (op_bytes op) wrote → OnOk wrote (IsSpelled op) → Holds (is_err wrote) new (ops ++ op ∷ [])
 holds_more old new (Ok done) ops op fits puts spelled =
-    let more : new.bytes ≡ flat_map op_bytes (ops ++ op ∷ []) = puts.behind ∙ ap (λ (bs : List ℕ). bs ++ op_bytes op) fits.bytes ∙ sym (bytes_more ops op) in
+    let more : new.bytes ≡ flat_map op_bytes (ops ++ op ∷ []) = puts.appended ∙ ap (λ (bs : List ℕ). bs ++ op_bytes op) fits.bytes ∙ sym (bytes_more ops op) in
     record {
       bytes = more;
-      room = omega (arith, fits.room, puts.less_room, ap length puts.behind, length-append old.bytes (op_bytes op));
+      room = omega (arith, fits.room, puts.less_room, ap length puts.appended, length-append old.bytes (op_bytes op));
       spelled = all_more ops op fits.spelled spelled;
     }
 holds_more old new (Err full) ops op fits puts spelled =
@@ -47,12 +47,12 @@ module _ (xid : ℕ) (caller : Identity) (ops : List Operation) where
   abbrev call : Call
   call = record { xid = xid; caller = caller; ops = ops }
 
-  -- the operations stand in the content of their call
+  -- the content of a call includes its operations
   pub operations_within : length (flat_map op_bytes ops) ≤ length (content_of call)
   operations_within =
-      let front : List ℕ = call_bytes xid (Some caller) in
+      let prefix : List ℕ = call_bytes xid (Some caller) in
       let head : List ℕ = head_bytes (length ops) in
-      omega (arith, length-append front (head ++ flat_map op_bytes ops), length-append head (flat_map op_bytes ops))
+      omega (arith, length-append prefix (head ++ flat_map op_bytes ops), length-append head (flat_map op_bytes ops))
 
   pub too_large_call : AreTooLarge ops → IsTooLarge call
   too_large_call large = omega (arith, large, operations_within)
@@ -61,7 +61,7 @@ module _ (xid : ℕ) (caller : Identity) (ops : List Operation) where
 pub fits_small : (body : Buffer) (ops : List Operation) → Fits body ops → length (flat_map op_bytes ops) ≤ most_sent
 fits_small body ops fits = omega (arith, fits.room, ap length fits.bytes)
 
--- a call that isn't spelled isn't sent
+-- a call that isn't encoded isn't sent
 pub unsent : {X : Type 0} (bytes : X → List ℕ) (asked : Call) (f : ToolFault) → SpellGives bytes asked (Err f) → IsUnsent asked f
 unsent bytes asked fault.TooLarge h = h
 unsent bytes asked fault.Memory h = tt
@@ -77,10 +77,10 @@ module _ {A : Type 0} (r : Request A) (xid : ℕ) (caller : Identity) (ops : Lis
   content_is : head ++ r.body.bytes ≡ content_of (record { xid = xid; caller = caller; ops = ops })
   content_is =
       let many : count ≡ length ops = counted ∙ ap length asks.numbers ∙ length-map ops number_of in
-      let front : List ℕ = call_bytes xid (Some caller) in
-      ap (λ (h : List ℕ). h ++ r.body.bytes) head-is ∙ append_assoc front (head_bytes count) r.body.bytes
-      ∙ ap (λ (b : List ℕ). front ++ (head_bytes count ++ b)) fits.bytes
-      ∙ ap (λ (n : ℕ). front ++ (head_bytes n ++ flat_map op_bytes ops)) many
+      let prefix : List ℕ = call_bytes xid (Some caller) in
+      ap (λ (h : List ℕ). h ++ r.body.bytes) head-is ∙ append_assoc prefix (head_bytes count) r.body.bytes
+      ∙ ap (λ (b : List ℕ). prefix ++ (head_bytes count ++ b)) fits.bytes
+      ∙ ap (λ (n : ℕ). prefix ++ (head_bytes n ++ flat_map op_bytes ops)) many
 
   pub spells : {X : Type 0} (bytes : X → List ℕ) (result : Result X ToolFault) → OneRecordGives bytes (head ++ r.body.bytes) result → SpellGives bytes (record { xid = xid; caller = caller; ops = ops }) result
   spells bytes (Ok call) one = record { content = head ++ r.body.bytes; one_record = one; parts = content_is; spelled = fits.spelled }
@@ -102,12 +102,12 @@ lookups_none ops names = append-nil ops
 pub lookups_more : (ops : List Operation) (names : List (Bor (List ℕ))) (i : ℕ) (d : Bor (List ℕ)) → i < length names
     → ops ++ lookups (map (λ n. n.now) (take (i + 1) names)) ≡ (ops ++ lookups (map (λ n. n.now) (take i names))) ++ lookup (get_or names i d).now ∷ []
 lookups_more ops names i d below =
-    let front = take i names in
+    let prefix = take i names in
     let last = get_or names i d ∷ [] in
     ap (λ (t : List (Bor (List ℕ))). ops ++ lookups (map (λ n. n.now) t)) (take_more names i d below)
-    ∙ ap (λ (t : List (List ℕ)). ops ++ lookups t) (map-append (λ n. n.now) front last)
-    ∙ ap (λ (t : List Operation). ops ++ t) (map-append lookup (map (λ n. n.now) front) (map (λ n. n.now) last))
-    ∙ sym (append_assoc ops (lookups (map (λ n. n.now) front)) (lookups (map (λ n. n.now) last)))
+    ∙ ap (λ (t : List (List ℕ)). ops ++ lookups t) (map-append (λ n. n.now) prefix last)
+    ∙ ap (λ (t : List Operation). ops ++ t) (map-append lookup (map (λ n. n.now) prefix) (map (λ n. n.now) last))
+    ∙ sym (append_assoc ops (lookups (map (λ n. n.now) prefix)) (lookups (map (λ n. n.now) last)))
 
 pub lookups_all : (ops : List Operation) (names : List (Bor (List ℕ))) (i : ℕ) → length names ≤ i → ops ++ lookups (map (λ n. n.now) (take i names)) ≡ ops ++ lookups (map (λ n. n.now) names)
 lookups_all ops names i all = ap (λ (t : List (Bor (List ℕ))). ops ++ lookups (map (λ n. n.now) t)) (take_all i names all)

@@ -9,8 +9,8 @@ use Rattle.std.proofs.lemmas.List.Folds.{concat-append}
 use Rattle.std.proofs.Math.Seq.{take-add}
 use Rattle.rpc_record.specs.Records.{IsRecord, IsUnfinished}
 use Rattle.rpc_record.specs.Frame.{Frame}
-use Rattle.rpc_record.specs.Framer.{Stands}
-use Rattle.nfs_client.specs.Streams.{Directions, WritesFront, IsPiece, Reads, ReadsRecord, most_reads, IsFollowed, IsFrameFault, IsReadFault, RecordGives, TalkFails, TalkGives}
+use Rattle.rpc_record.specs.Framer.{HasRead}
+use Rattle.nfs_client.specs.Streams.{Directions, WritesPrefix, IsPiece, Reads, ReadsRecord, most_reads, IsFollowed, IsFrameFault, IsReadFault, RecordGives, TalkFails, TalkGives}
 use Rattle.nfs_client.specs.Talking.{as_read, IsTalkFault}
 use Rattle.nfs_client.specs.declared.fault.ToolFault.{ToolFault}
 use Rattle.nfs_client.specs.declared.fault.ToolFault.TheVariants as faults
@@ -32,8 +32,8 @@ pub written_more : (a b c : Option (List ℕ)) (done n : ℕ) (bytes : List ℕ)
 written_more a b c done n bytes p q = rw (take-add done n bytes) (appends_trans a b c (take done bytes) (take n (drop done bytes)) p q)
 
 -- the stream failed after these bytes
-pub front_written : (a b c : Option (List ℕ)) (done : ℕ) (bytes : List ℕ) → Appends a b (take done bytes) → Keeps b c → WritesFront a c bytes
-front_written a b c done bytes p q = (take done bytes, drop done bytes, sym (take-append-drop done bytes), keeps a b c (take done bytes) p q)
+pub prefix_written : (a b c : Option (List ℕ)) (done : ℕ) (bytes : List ℕ) → Appends a b (take done bytes) → Keeps b c → WritesPrefix a c bytes
+prefix_written a b c done bytes p q = (take done bytes, drop done bytes, sym (take-append-drop done bytes), keeps a b c (take done bytes) p q)
   where
     keeps : (a b c : Option (List ℕ)) (bs : List ℕ) → Appends a b bs → Keeps b c → Appends a c bs
     keeps None b c bs p q = tt
@@ -42,10 +42,10 @@ front_written a b c done bytes p q = (take done bytes, drop done bytes, sym (tak
     keeps (Some x) (Some y) (Some z) bs p q = q ∙ p
 
 -- the stream took nothing
-pub keeps_front : (a b c : Option (List ℕ)) (bs : List ℕ) → Appends a b bs → Appends b c [] → Keeps b c
-keeps_front a None c bs p q = tt
-keeps_front a (Some y) None bs p q = absurd q
-keeps_front a (Some y) (Some z) bs p q = q ∙ append-nil y
+pub keeps_prefix : (a b c : Option (List ℕ)) (bs : List ℕ) → Appends a b bs → Appends b c [] → Keeps b c
+keeps_prefix a None c bs p q = tt
+keeps_prefix a (Some y) None bs p q = absurd q
+keeps_prefix a (Some y) (Some z) bs p q = q ∙ append-nil y
 
 -- ---- reading
 
@@ -63,28 +63,28 @@ consumes_none (Some x) = refl
 bytes_more : (pieces : List (List ℕ)) (piece : List ℕ) → concat (pieces ++ piece ∷ []) ≡ concat pieces ++ piece
 bytes_more pieces piece = concat-append pieces (piece ∷ []) ∙ ap (λ (bs : List ℕ). concat pieces ++ bs) (append-nil piece)
 
--- a front of a buffer is a piece
+-- a prefix of a buffer is a piece
 pub piece_of : (n : ℕ) (buf : List ℕ) → (n ≡ 0 → ⊥) → n ≤ length buf → length buf ≤ 4096 → IsPiece (take n buf)
 piece_of n buf some within short = let e = length-take-le n buf within in (omega (arith, e, some), omega (arith, e, within, short))
 
--- a part of a record was read by this many reads
+-- a part of a record was read by `count` reads
 pub record Reading (frame : Frame) (content : List ℕ) (count : ℕ) (left left' : Option (List ℕ)) : Type 0 where
   pub pieces : List (List ℕ)
   pub are : All IsPiece pieces
   pub few : length pieces ≤ count
-  pub stands : Stands frame content (concat pieces)
+  pub has_read : HasRead frame content (concat pieces)
   pub read : Consumes left left' (concat pieces)
 
-pub reading_none : (frame : Frame) (left : Option (List ℕ)) → Stands frame [] [] → Reading frame [] 0 left left
-reading_none frame left s = record { pieces = []; are = All-nil IsPiece; few = omega arith; stands = s; read = consumes_none left }
+pub reading_none : (frame : Frame) (left : Option (List ℕ)) → HasRead frame [] [] → Reading frame [] 0 left left
+reading_none frame left s = record { pieces = []; are = All-nil IsPiece; few = omega arith; has_read = s; read = consumes_none left }
 
 module _ {frame : Frame} {content : List ℕ} {count : ℕ} {left left' : Option (List ℕ)} (r : Reading frame content count left left') where
-  pub reading_more : (new : Frame) (content' piece : List ℕ) (left'' : Option (List ℕ)) → IsPiece piece → Stands new content' (concat r.pieces ++ piece) → Consumes left' left'' piece → Reading new content' (count + 1) left left''
+  pub reading_more : (new : Frame) (content' piece : List ℕ) (left'' : Option (List ℕ)) → IsPiece piece → HasRead new content' (concat r.pieces ++ piece) → Consumes left' left'' piece → Reading new content' (count + 1) left left''
   reading_more new content' piece left'' is s c = record {
     pieces = r.pieces ++ piece ∷ [];
     are = All-append IsPiece r.pieces (piece ∷ []) r.are (All-cons IsPiece piece [] is (All-nil IsPiece));
     few = let long = length-append r.pieces (piece ∷ []) in omega (arith, long, r.few);
-    stands = subst (λ (bs : List ℕ). Stands new content' bs) (sym (bytes_more r.pieces piece)) s;
+    has_read = subst (λ (bs : List ℕ). HasRead new content' bs) (sym (bytes_more r.pieces piece)) s;
     read = subst (λ (bs : List ℕ). Consumes left left'' bs) (sym (bytes_more r.pieces piece)) (consumes_trans left left' left'' (concat r.pieces) piece r.read c);
   }
 
@@ -123,7 +123,7 @@ to_end r piece at = append_assoc r (take at piece) (drop at piece) ∙ ap (λ (t
 pub at_start : (r piece : List ℕ) → r ++ take 0 piece ≡ r
 at_start r piece = append-nil r
 
--- a fault of framing is a fault of reading
+-- a framing fault is a fault of reading
 frame_fault : (bytes : List ℕ) (fault : ToolFault) → IsFrameFault bytes fault → IsReadFault bytes fault
 frame_fault bytes faults.Path h = absurd h
 frame_fault bytes (faults.Refused op status) h = absurd h
@@ -147,21 +147,21 @@ consumes_keeps (Some x) None c bs p q = absurd p
 consumes_keeps (Some x) (Some y) None bs p q = absurd q
 consumes_keeps (Some x) (Some y) (Some z) bs p q = p ∙ ap (λ (l : List ℕ). bs ++ l) (sym q)
 
-module _ (unfinished : (f : Frame) (content bytes : List ℕ) → Stands f content bytes → IsUnfinished bytes) {frame : Frame} {content : List ℕ} {count : ℕ} {left left' : Option (List ℕ)} (r : Reading frame content count left left') where
+module _ (unfinished : (f : Frame) (content bytes : List ℕ) → HasRead f content bytes → IsUnfinished bytes) {frame : Frame} {content : List ℕ} {count : ℕ} {left left' : Option (List ℕ)} (r : Reading frame content count left left') where
   -- the stream fails
   pub reading_fails : (left'' : Option (List ℕ)) → count ≤ most_reads → Keeps left' left'' → NoneRead left left'' faults.Read
   reading_fails left'' below k =
-      (concat r.pieces, no_more r left'' below (consumes_keeps left left' left'' (concat r.pieces) r.read k), unfinished frame content (concat r.pieces) r.stands)
+      (concat r.pieces, no_more r left'' below (consumes_keeps left left' left'' (concat r.pieces) r.read k), unfinished frame content (concat r.pieces) r.has_read)
 
   -- the stream ends
   pub reading_ends : (left'' : Option (List ℕ)) → count ≤ most_reads → Consumes left' left'' [] → NoneRead left left'' faults.Read
   reading_ends left'' below k =
       let read = subst (λ (bs : List ℕ). Consumes left left'' bs) (append-nil (concat r.pieces)) (consumes_trans left left' left'' (concat r.pieces) [] r.read k) in
-      (concat r.pieces, no_more r left'' below read, unfinished frame content (concat r.pieces) r.stands)
+      (concat r.pieces, no_more r left'' below read, unfinished frame content (concat r.pieces) r.has_read)
 
-  -- there were the most reads
+  -- the most reads were made
   pub reading_stops : count ≤ most_reads → NoneRead left left' faults.Read
-  reading_stops below = (concat r.pieces, no_more r left' below r.read, unfinished frame content (concat r.pieces) r.stands)
+  reading_stops below = (concat r.pieces, no_more r left' below r.read, unfinished frame content (concat r.pieces) r.has_read)
 
 -- the piece can't be framed
 pub reading_breaks : {frame : Frame} {content : List ℕ} {count : ℕ} {left left' : Option (List ℕ)} (r : Reading frame content count left left') (piece : List ℕ) (left'' : Option (List ℕ)) (fault : ToolFault)
@@ -193,7 +193,7 @@ unheard directions old mid new call faults.Entry wrote (bytes, read, is) = absur
 unheard directions old mid new call faults.Failed wrote (bytes, read, is) = absurd is
 unheard directions old mid new call faults.TooLarge wrote (bytes, read, is) = absurd is
 
--- the call was written, and what was read after it is a record, or is none
+-- the call was written, and the bytes read after it are a record, or are none
 pub talked : {S X : Type 0} (directions : Directions S) (bytes : X → List ℕ) (old mid new : S) (call : List ℕ) (result : Result X ToolFault) → Appends (directions.contents old) (directions.contents mid) call
     → RecordGives bytes (directions.remaining mid) (directions.remaining new) result → TalkGives directions old call (as_read bytes result) new
 talked directions bytes old mid new call (Ok x) wrote read = record { mid = mid; wrote = wrote; read = read }

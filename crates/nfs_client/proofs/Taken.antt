@@ -8,25 +8,25 @@ use Rattle.nfs_ops.specs.declared.OpResult.{OpResult}
 use Rattle.nfs_client.specs.CompoundViews.{outcomes}
 use Rattle.nfs_client.specs.Taking.{last_of, last_two}
 
-pub last_behind : (front : List Outcome) (o : Outcome) → last_of (front ++ o ∷ []) ≡ Some o
-last_behind [] o = refl
-last_behind (p ∷ []) o = refl
-last_behind (p ∷ q ∷ front) o = last_behind (q ∷ front) o
+pub last_after : (prefix : List Outcome) (o : Outcome) → last_of (prefix ++ o ∷ []) ≡ Some o
+last_after [] o = refl
+last_after (p ∷ []) o = refl
+last_after (p ∷ q ∷ prefix) o = last_after (q ∷ prefix) o
 
 -- the popped result is the last
 pub popped : (items rest : List OpResult) (last : Option OpResult) → items ≡ rest ++ option_to_list last → (last ≡ None → items ≡ []) → option_map read_view last ≡ last_of (outcomes items)
 popped items rest None is none = ap (λ (os : List OpResult). last_of (outcomes os)) (sym (none refl))
 popped items rest (Some o) is none =
-    sym (ap (λ (os : List OpResult). last_of (outcomes os)) is ∙ ap last_of (map-append read_view rest (o ∷ [])) ∙ last_behind (outcomes rest) (read_view o))
+    sym (ap (λ (os : List OpResult). last_of (outcomes os)) is ∙ ap last_of (map-append read_view rest (o ∷ [])) ∙ last_after (outcomes rest) (read_view o))
 
-two_behind : (front : List Outcome) (o p : Outcome) → last_two (front ++ o ∷ p ∷ []) ≡ Some (o, p)
-two_behind [] o p = refl
-two_behind (q ∷ []) o p = refl
-two_behind (q ∷ r ∷ []) o p = refl
-two_behind (q ∷ r ∷ s ∷ front) o p = two_behind (r ∷ s ∷ front) o p
+last_two_after : (prefix : List Outcome) (o p : Outcome) → last_two (prefix ++ o ∷ p ∷ []) ≡ Some (o, p)
+last_two_after [] o p = refl
+last_two_after (q ∷ []) o p = refl
+last_two_after (q ∷ r ∷ []) o p = refl
+last_two_after (q ∷ r ∷ s ∷ prefix) o p = last_two_after (r ∷ s ∷ prefix) o p
 
 -- the two popped results are the last two
 pub popped_two : (items rest rest' : List OpResult) (last before : OpResult) → items ≡ rest ++ last ∷ [] → rest ≡ rest' ++ before ∷ [] → Some (read_view before, read_view last) ≡ last_two (outcomes items)
 popped_two items rest rest' last before is was =
     let both : items ≡ rest' ++ before ∷ last ∷ [] = is ∙ ap (λ (os : List OpResult). os ++ last ∷ []) was ∙ append_assoc rest' (before ∷ []) (last ∷ []) in
-    sym (ap (λ (os : List OpResult). last_two (outcomes os)) both ∙ ap last_two (map-append read_view rest' (before ∷ last ∷ [])) ∙ two_behind (outcomes rest') (read_view before) (read_view last))
+    sym (ap (λ (os : List OpResult). last_two (outcomes os)) both ∙ ap last_two (map-append read_view rest' (before ∷ last ∷ [])) ∙ last_two_after (outcomes rest') (read_view before) (read_view last))

@@ -3,17 +3,17 @@ use Rattle.std.proofs.Common.{◌≡◌, ◌<◌, ◌≤◌, ◌+◌, ◌-◌, i
 use Rattle.std.specs.Prelude.{IfOk, Result}
 use Rattle.std.specs.Borrow.{Bor}
 use Rattle.std.proofs.lemmas.List.{take-map, drop-map, drop-drop, drop_min, length-map, length-take, length-drop}
-use Rattle.nfs_types.specs.Seen.{Seen, shown_values}
+use Rattle.nfs_types.specs.Seen.{Seen, client_values}
 use Rattle.nfs_ops.specs.Operations.{Operation}
 use Rattle.nfs_client.specs.Approach.{approach, handle_in, ApproachGives, Approaches, WalkFails, WalkGives}
 use Rattle.nfs_client.specs.Commands.{AskGives, within_session, Commanded}
 use Rattle.nfs_client.specs.Paging.{itself}
 use Rattle.nfs_client.specs.Requests.{Asks, PutGives}
-use Rattle.nfs_client.specs.Routes.{Start, Object, Route, near, far, route_behind, along, most_names, most_of_both, left_of_first}
+use Rattle.nfs_client.specs.Routes.{Start, Object, Route, near, far, route_after, along, most_names, most_of_both, left_of_first}
 use Rattle.nfs_client.specs.Setting.{ValuesGive, set_attributes}
 use Rattle.nfs_client.specs.Talking.{Talking}
 use Rattle.nfs_client.specs.Taking.{Taking, taking, no_value}
-use Rattle.nfs_client.specs.Walking.{Walked, OrLarge, AnyNames, CommandTells, BothGive, ReadyGives, BothReady, along_both}
+use Rattle.nfs_client.specs.Walking.{Walked, OrLarge, AnyNames, CommandResults, BothGive, ReadyGives, BothReady, along_both}
 use Rattle.nfs_client.specs.declared.client.Client.{Client}
 use Rattle.nfs_client.specs.declared.request.Request.{Request}
 use Rattle.nfs_client.specs.declared.fault.ToolFault.{ToolFault}
@@ -22,36 +22,36 @@ use Rattle.nfs_client.proofs.Large.{setting_is_large}
 use Rattle.nfs_client.proofs.Pages.{same_failure}
 
 module _ {S A : Type 0} (talks : Talking S) where
-  -- one approach more
+  -- one more approach
   pub further : (most : ℕ) (names : List (List ℕ)) (old mid last new : Client S A) (handles : List (List ℕ)) (route first : Route) (handle : List ℕ) → Approaches talks most names old handles mid
-      → route ≡ route_behind names handles → first ≡ near route → most < length route.names → AskGives talks (taking handle_in itself) (within_session (approach mid first)) mid last (Ok handle)
-      → new ≡ record last { usable = false } → Approaches talks most names old (handle ∷ handles) new × (far route handle ≡ route_behind names (handle ∷ handles))
-  further most names old mid last new handles route first handle goes so is below gives left = (
+      → route ≡ route_after names handles → first ≡ near route → most < length route.names → AskGives talks (taking handle_in itself) (within_session (approach mid first)) mid last (Ok handle)
+      → new ≡ record last { usable = false } → Approaches talks most names old (handle ∷ handles) new × (far route handle ≡ route_after names (handle ∷ handles))
+  further most names old mid last new handles route first handle goes holds is below gives left = (
     (
       mid,
       last,
       goes,
-      subst (λ (r : Route). most < length r.names) so below,
-      subst (λ (r : Route). ApproachGives talks r mid last (Ok handle)) so (subst (λ (r : Route). AskGives talks (taking handle_in itself) (within_session (approach mid r)) mid last (Ok handle)) is gives),
+      subst (λ (r : Route). most < length r.names) holds below,
+      subst (λ (r : Route). ApproachGives talks r mid last (Ok handle)) holds (subst (λ (r : Route). AskGives talks (taking handle_in itself) (within_session (approach mid r)) mid last (Ok handle)) is gives),
       left,
     ),
-    ap (λ (r : Route). far r handle) so,
+    ap (λ (r : Route). far r handle) holds,
   )
 
   -- an approach fails after earlier approaches
   pub no_further : {X : Type 0} (value : X → List ℕ) (most : ℕ) (names : List (List ℕ)) (old mid new : Client S A) (handles : List (List ℕ)) (route first : Route) (f : ToolFault) → Approaches talks most names old handles mid
-      → route ≡ route_behind names handles → first ≡ near route → most < length route.names → AskGives talks (taking handle_in value) (within_session (approach mid first)) mid new (Err f)
+      → route ≡ route_after names handles → first ≡ near route → most < length route.names → AskGives talks (taking handle_in value) (within_session (approach mid first)) mid new (Err f)
       → WalkFails talks most names old new f
-  no_further value most names old mid new handles route first f goes so is below gives =
-      let under = subst (λ (r : Route). most < length r.names) so below in
-      let told = same_failure talks handle_in value itself true (approach mid first) mid new f gives in
+  no_further value most names old mid new handles route first f goes holds is below gives =
+      let under = subst (λ (r : Route). most < length r.names) holds below in
+      let outcome = same_failure talks handle_in value itself true (approach mid first) mid new f gives in
       let here =
-      subst (λ (r : Route). ApproachGives talks r mid new (Err f)) so (subst (λ (r : Route). AskGives {X = List ℕ} talks (taking handle_in itself) (within_session (approach mid r)) mid new (Err f)) is told) in
+      subst (λ (r : Route). ApproachGives talks r mid new (Err f)) holds (subst (λ (r : Route). AskGives {X = List ℕ} talks (taking handle_in itself) (within_session (approach mid r)) mid new (Err f)) is outcome) in
       record { mid = mid; before = handles; goes = goes; needed = under; gives = here }
 
--- ---- the names that are left
+-- ---- the remaining names
 
--- a walk from its start along lent names
+-- a walk from its start along borrowed names
 abbrev pub route_of : Start → List (Bor (List ℕ)) → Route
 route_of start names = record { start = start; names = map (λ n. n.now) names }
 
@@ -64,20 +64,20 @@ near_is start left first is = ap (route_of start) is ∙ ap (with_names start) (
 pub far_is : (start : Start) (left rest : List (Bor (List ℕ))) (handle : List ℕ) → rest ≡ drop most_names left → route_of (Object handle) rest ≡ far (route_of start left) handle
 far_is start left rest handle is = ap (route_of (Object handle)) is ∙ ap (with_names (Object handle)) (sym (drop-map (λ n. n.now) most_names left))
 
--- the first names of the names left, as they are lent
+-- the first of the remaining names, as borrowed
 pub nearest_of : (done : ℕ) (names left first : List (Bor (List ℕ))) → first ≡ take most_names left → left ≡ drop done names → first ≡ take most_names (drop done names)
-nearest_of done names left first is so = is ∙ ap (take most_names) so
+nearest_of done names left first is holds = is ∙ ap (take most_names) holds
 
--- the number of names left that an approach walks, after this many names
+-- how many of the remaining names an approach walks, after `done` names
 pub near_length : (done : ℕ) (names first : List (Bor (List ℕ))) → first ≡ take most_names (drop done names) → length first ≡ min most_names (length (drop done names))
 near_length done names first is = ap length is ∙ length-take most_names (drop done names)
 
--- the names that are left after the names of an approach
+-- the remaining names after those of an approach
 pub stepped : (done : ℕ) (names first : List (Bor (List ℕ))) → first ≡ take most_names (drop done names) → drop (done + length first) names ≡ drop most_names (drop done names)
 stepped done names first is =
     sym (drop-drop (length first) done names) ∙ ap (λ (n : ℕ). drop n (drop done names)) (near_length done names first is) ∙ drop_min most_names (drop done names)
 
--- An approach walks at least one name, and no more than are left.
+-- An approach walks at least one name, and at most all remaining ones.
 pub near_bounds : (done most : ℕ) (names first : List (Bor (List ℕ))) → first ≡ take most_names (drop done names) → most < length names - done → (1 ≤ length first) × (done + length first ≤ length names)
 near_bounds done most names first is below =
     (omega (arith, near_length done names first is, length-drop done names, below), omega (arith, near_length done names first is, length-drop done names, below))
@@ -85,14 +85,14 @@ near_bounds done most names first is below =
 pub some_left : (most done : ℕ) (start : Start) (names : List (Bor (List ℕ))) → most < length names - done → most < length (route_of start (drop done names)).names
 some_left most done start names below = subst (λ (n : ℕ). most < n) (sym (length-map (drop done names) (λ n. n.now) ∙ length-drop done names)) below
 
--- at most this many names are left
+-- at most `most` names remain
 pub arrived : {S A : Type 0} (talks : Talking S) (most : ℕ) (names : List (List ℕ)) (old new : Client S A) (handles : List (List ℕ)) (start : Start) (done : ℕ) (all left : List (Bor (List ℕ)))
-    → Approaches talks most names old handles new → route_of start (drop done all) ≡ route_behind names handles → left ≡ drop done all → length all - done ≤ most
+    → Approaches talks most names old handles new → route_of start (drop done all) ≡ route_after names handles → left ≡ drop done all → length all - done ≤ most
     → WalkGives talks itself most names old new (Ok (route_of start left))
-arrived talks most names old new handles start done all left goes so is few =
-    (handles, goes, ap (route_of start) is ∙ so, subst (λ (n : ℕ). n ≤ most) (sym (length-map left (λ n. n.now) ∙ ap length is ∙ length-drop done all)) few)
+arrived talks most names old new handles start done all left goes holds is few =
+    (handles, goes, ap (route_of start) is ∙ holds, subst (λ (n : ℕ). n ≤ most) (sym (length-map left (λ n. n.now) ∙ ap length is ∙ length-drop done all)) few)
 
--- the number of names of the first of two lent paths that are left
+-- how many names of the first of two borrowed paths remain
 pub first_left : (names others : List (Bor (List ℕ))) (n : ℕ) → n ≡ left_of_first (length names) (length others) → n ≡ left_of_first (length (map (λ n. n.now) names)) (length (map (λ n. n.now) others))
 first_left names others n is =
     is ∙ ap (λ (k : ℕ). left_of_first k (length others)) (sym (length-map names (λ n. n.now)))
@@ -129,37 +129,37 @@ module _ {S A X : Type 0} (talks : Talking S) (most : ℕ) (names : List (List �
   no_failed none h = walked_none fault.Failed (λ w. w.gives) none h
 
   -- the outcome after a walk
-  pub behind : (mid : Client S A) (route : Route) (result : Result X ToolFault) → WalkGives talks itself most names old mid (Ok route) → does route mid result
+  pub walked_after : (mid : Client S A) (route : Route) (result : Result X ToolFault) → WalkGives talks itself most names old mid (Ok route) → does route mid result
       → Walked talks most names does old new result
-  behind mid route (Ok x) walk h = (mid, route, walk, h)
-  behind mid route (Err f) walk h = inr (mid, route, walk, h)
+  walked_after mid route (Ok x) walk h = (mid, route, walk, h)
+  walked_after mid route (Err f) walk h = inr (mid, route, walk, h)
 
 -- ---- a command of one path
 
 module _ {S A X V : Type 0} (talks : Talking S) (takes : Taking X V) (asks : List (List ℕ) → Operation → Type 0) (wrong : ToolFault → Type 0) (old new : Client S A) where
-  -- the operation is asked at the end of a route
+  -- the operation is sent at the end of a route
   abbrev There : Operation → Route → Client S A → Result X ToolFault → Type 0
   There op route mid r = AskGives talks takes (within_session (along mid route op)) mid new r
 
-  -- the command asks an operation at the end of a path
+  -- the command sends an operation at the end of a path
   abbrev Asked : Result X ToolFault → Type 0
-  Asked told = (names : List (List ℕ)) × (op : Operation) × asks names op × Walked talks most_names names (There op) old new told
+  Asked outcome = (names : List (List ℕ)) × (op : Operation) × asks names op × Walked talks most_names names (There op) old new outcome
 
-  tells : (result : Result X ToolFault) → Asked result → CommandTells talks takes asks wrong old new result
-  tells result h =
+  answers : (result : Result X ToolFault) → Asked result → CommandResults talks takes asks wrong old new result
+  answers result h =
       commanded (OrLarge (AnyNames asks) wrong) Asked old new result (λ a. no_path talks most_names a.0 (There a.1) old new (λ route mid i. i) a.3) (λ a. no_entry talks most_names a.0 (There a.1) old new (λ route mid i. i) a.3)
       (λ a. no_failed talks most_names a.0 (There a.1) old new (λ route mid i. i) a.3) h
 
   -- the outcome of the request of a command is the outcome of the command
   pub command_runs : (mid : Client S A) (request : Request A) (names : List (List ℕ)) (op : Operation) (result : Result X ToolFault) → asks names op → ReadyGives talks names op old mid (Ok request)
-      → ((ops : List Operation) → Asks request ops → AskGives talks takes (within_session ops) mid new result) → CommandTells talks takes asks wrong old new result
+      → ((ops : List Operation) → Asks request ops → AskGives talks takes (within_session ops) mid new result) → CommandResults talks takes asks wrong old new result
   command_runs mid request names op result asked ready ran =
-      tells result (names, op, asked, behind talks most_names names (There op) old new mid ready.0 result ready.1 (ran (along mid ready.0 op) ready.2))
+      answers result (names, op, asked, walked_after talks most_names names (There op) old new mid ready.0 result ready.1 (ran (along mid ready.0 op) ready.2))
 
-  -- memory is refused for the values that are set, or they are too large
-  pub command_unset : {Y : Type 0} (bytes : Y → List ℕ) (names : List (List ℕ)) (s : Seen) (f : ToolFault) → asks names (set_attributes s) → ValuesGive bytes s (Err f) → CommandTells talks takes asks wrong old old (Err f)
+  -- the allocation for the values that are set fails, or they are too large
+  pub command_unset : {Y : Type 0} (bytes : Y → List ℕ) (names : List (List ℕ)) (s : Seen) (f : ToolFault) → asks names (set_attributes s) → ValuesGive bytes s (Err f) → CommandResults talks takes asks wrong old old (Err f)
   command_unset bytes names s fault.Memory asked h = inl refl
-  command_unset bytes names s fault.TooLarge asked h = inl ((set_attributes s, (names, asked), setting_is_large s (shown_values s) h), refl)
+  command_unset bytes names s fault.TooLarge asked h = inl ((set_attributes s, (names, asked), setting_is_large s (client_values s) h), refl)
   command_unset bytes names s fault.Path asked h = absurd h
   command_unset bytes names s (fault.Refused op status) asked h = absurd h
   command_unset bytes names s fault.Reply asked h = absurd h
@@ -168,16 +168,16 @@ module _ {S A X V : Type 0} (talks : Talking S) (takes : Taking X V) (asks : Lis
   command_unset bytes names s fault.Entry asked h = absurd h
   command_unset bytes names s fault.Failed asked h = absurd h
 
-  -- an approach fails, or memory is refused for the request
-  pub command_stops : (names : List (List ℕ)) (op : Operation) (f : ToolFault) → asks names op → ReadyGives talks names op old new (Err f) → CommandTells talks takes asks wrong old new (Err f)
-  command_stops names op f asked (inl fails) = tells (Err f) (names, op, asked, inl fails)
+  -- an approach fails, or the allocation for the request does
+  pub command_stops : (names : List (List ℕ)) (op : Operation) (f : ToolFault) → asks names op → ReadyGives talks names op old new (Err f) → CommandResults talks takes asks wrong old new (Err f)
+  command_stops names op f asked (inl fails) = answers (Err f) (names, op, asked, inl fails)
   command_stops names op f asked (inr h) =
       let there = subst (λ (g : ToolFault). AskGives {X = X} talks takes (within_session (along new h.route op)) new new (Err g)) (sym h.is_memory) (inl refl) in
-      tells (Err f) (names, op, asked, inr (new, h.route, h.walk, there))
+      answers (Err f) (names, op, asked, inr (new, h.route, h.walk, there))
 
 -- ---- a command of two paths
 
--- the most names of the first path that may be left at the end of its approaches
+-- the most names of the first path that may remain at the end of its approaches
 abbrev first_most : List (List ℕ) → List (List ℕ) → ℕ
 first_most names others = left_of_first (length names) (length others)
 
@@ -189,7 +189,7 @@ module _ {S A : Type 0} (talks : Talking S) (asks : List (List ℕ) → List (Li
   Second others op first mid r = Walked talks most_of_both others (ThereBoth op first) mid new r
 
   abbrev AskedBoth : Result (Unit {0}) ToolFault → Type 0
-  AskedBoth told = (names : List (List ℕ)) × (others : List (List ℕ)) × (op : Operation) × asks names others op × Walked talks (first_most names others) names (Second others op) old new told
+  AskedBoth outcome = (names : List (List ℕ)) × (others : List (List ℕ)) × (op : Operation) × asks names others op × Walked talks (first_most names others) names (Second others op) old new outcome
 
   gives_both : (result : Result (Unit {0}) ToolFault) → AskedBoth result → BothGive talks asks wrong old new result
   gives_both result h =
@@ -201,8 +201,8 @@ module _ {S A : Type 0} (talks : Talking S) (asks : List (List ℕ) → List (Li
   pub both_run : (last : Client S A) (request : Request A) (names others : List (List ℕ)) (op : Operation) (result : Result (Unit {0}) ToolFault) → asks names others op → BothReady talks names others op old last (Ok request)
       → ((ops : List Operation) → Asks request ops → AskGives talks no_value (within_session ops) last new result) → BothGive talks asks wrong old new result
   both_run last request names others op result asked ready ran =
-      let there = behind talks most_of_both others (ThereBoth op ready.1) ready.0 new last ready.2 result ready.4 (ran (along_both last ready.1 ready.2 op) ready.5) in
-      gives_both result (names, others, op, asked, behind talks (first_most names others) names (Second others op) old new ready.0 ready.1 result ready.3 there)
+      let there = walked_after talks most_of_both others (ThereBoth op ready.1) ready.0 new last ready.2 result ready.4 (ran (along_both last ready.1 ready.2 op) ready.5) in
+      gives_both result (names, others, op, asked, walked_after talks (first_most names others) names (Second others op) old new ready.0 ready.1 result ready.3 there)
 
   pub both_stop : (names others : List (List ℕ)) (op : Operation) (f : ToolFault) → asks names others op → BothReady talks names others op old new (Err f) → BothGive talks asks wrong old new (Err f)
   both_stop names others op f asked (inl h) = gives_both (Err f) (names, others, op, asked, inl h)
@@ -213,7 +213,7 @@ module _ {S A : Type 0} (talks : Talking S) (asks : List (List ℕ) → List (Li
 
 -- ---- the request of a command
 
--- After a walk the request is made, or memory is refused for the request.
+-- After a walk the request is made, or its allocation fails.
 module _ {S A : Type 0} (talks : Talking S) where
   pub made_ready : (names : List (List ℕ)) (op : Operation) (old new : Client S A) (route : Route) (result : Result (Request A) ToolFault) → WalkGives talks itself most_names names old new (Ok route)
       → IfOk result (λ r. Asks r (along new route op)) → PutGives result → ReadyGives talks names op old new result

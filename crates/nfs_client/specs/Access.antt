@@ -1,4 +1,4 @@
--- access: the rights of the caller, of six.
+-- access: the permissions of the caller, of six.
 use Rattle.std.specs.Prelude.{◌≡◌, ℕ, List, Option, Some, None, option_and_then}
 use Rattle.nfs_ops.specs.Operations.{Operation, Known}
 use Rattle.nfs_ops.specs.Results.{Outcome, Done}
@@ -21,7 +21,7 @@ abbrev pub NoPath : List ℕ → ToolFault → Type 0
 NoPath path Path = names_in path ≡ None
 NoPath path fault = ⊥
 
--- the rights that are supported, and the rights that are granted
+-- the supported permissions, and the granted ones
 abbrev pub rights_of : Outcome → Option (ℕ × ℕ)
 rights_of (Done kinds.Access v) = Some (v.0, v.1)
 rights_of _ = None

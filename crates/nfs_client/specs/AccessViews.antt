@@ -1,4 +1,4 @@
--- The rights, as they are answered.
+-- The permissions, as they are answered.
 use Rattle.std.specs.Prelude.{ℕ}
 use Rattle.nfs_ops.specs.declared.access.AccessResult.{AccessResult}
 

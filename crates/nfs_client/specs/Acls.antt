@@ -1,4 +1,5 @@
--- getacl, getdacl and getsacl, and setacl, setdacl and setsacl: an access control list, or a part of it, as text.
+-- getacl, getdacl and getsacl, and setacl, setdacl and setsacl: an ACL (access control list), or a part of it, as
+-- text.
 use Rattle.std.specs.Prelude.{◌≡◌, ◌⊎◌, ◌<◌, ℕ, length, nat_lt, ◌==◌, if◌then◌else◌, List, ◌++◌, map, Contains}
 use Rattle.std.specs.Prelude.{Option, Some, None, option_and_then, option_map, Result, Ok, Err}
 use Rattle.acl_list.specs.declared.entry.EntryKind.{EntryKind}
@@ -17,11 +18,11 @@ use Rattle.nfs_client.specs.Lines.{lines_of}
 use Rattle.nfs_client.specs.Taking.{last_of}
 use Rattle.nfs_client.specs.Setting.{set_attributes, of_entries}
 use Rattle.nfs_client.specs.declared.fault.ToolFault.{ToolFault}
-use Rattle.nfs_client.specs.declared.list_part.ListPart.{ListPart}
-use Rattle.nfs_client.specs.declared.list_part.ListPart.TheVariants.{Acl, Dacl, Sacl}
+use Rattle.nfs_client.specs.declared.acl_part.AclPart.{AclPart}
+use Rattle.nfs_client.specs.declared.acl_part.AclPart.TheVariants.{Acl, Dacl, Sacl}
 use Rattle.nfs_client.specs.declared.fault.ToolFault.TheVariants.{Path, Reply, Memory, Entry}
 
--- ---- entries
+-- ---- ACEs (access control entries)
 
 -- acetype4
 abbrev pub kind_number : EntryKind → ℕ
@@ -42,7 +43,7 @@ kind_numbered n =
 abbrev pub ace_of : EntryLine → Value ace
 ace_of e = (kind_number e.kind, (e.flags, (e.mask, e.who)))
 
--- An entry that can be written as text: it has one of the four types, and its flags take two digits.
+-- An ACE that can be written as text: it has one of the four types, and its flags take two digits.
 abbrev pub line_of : Value ace → Option EntryLine
 line_of v =
     option_and_then
@@ -53,17 +54,17 @@ line_of v =
 abbrev pub text_of : Value ace → Option (List ℕ)
 text_of v = option_map entry_text (line_of v)
 
--- entries as lines, each with a newline after it
+-- ACEs as lines, each with a newline after it
 abbrev pub list_text : List (Value ace) → Option (List ℕ)
 list_text values = lines_of 10 text_of values
 
--- ---- setting a list
+-- ---- setting an ACL
 
--- entries that can be read, and the entries that are sent
+-- texts that can be read, and the ACEs that are sent
 abbrev pub AreRead : List (List ℕ) → List (Value ace) → Type 0
 AreRead texts values = (lines : List EntryLine) × (map entry_in texts ≡ map Some lines) × (values ≡ map ace_of lines)
 
--- one of the entries can't be read
+-- one of the texts can't be read
 abbrev pub SomeUnread : List (List ℕ) → Type 0
 SomeUnread texts = (text : List ℕ) × Contains texts text × (entry_in text ≡ None)
 
@@ -74,53 +75,53 @@ EntriesGive values texts (Err Memory) = Unit {0}
 EntriesGive values texts (Err fault) = ⊥
 
 -- the path's names, and the operation at their end
-abbrev pub SetAclAsks : ListPart → List ℕ → List (List ℕ) → List (List ℕ) → Operation → Type 0
+abbrev pub SetAclAsks : AclPart → List ℕ → List (List ℕ) → List (List ℕ) → Operation → Type 0
 SetAclAsks part path texts names op =
     (values : List (Value ace)) × (names_in path ≡ Some names) × (0 < length texts) × AreRead texts values
     × (op ≡ set_attributes (of_entries part values))
 
--- The path is read before the entries, of which there is at least one.
-abbrev pub WrongList : List ℕ → List (List ℕ) → ToolFault → Type 0
-WrongList path texts Path = names_in path ≡ None
-WrongList path texts Entry =
+-- The path is read before the ACEs, of which there is at least one.
+abbrev pub WrongAcl : List ℕ → List (List ℕ) → ToolFault → Type 0
+WrongAcl path texts Path = names_in path ≡ None
+WrongAcl path texts Entry =
     (names : List (List ℕ)) × (names_in path ≡ Some names) × ((length texts ≡ 0) ⊎ SomeUnread texts)
-WrongList path texts fault = ⊥
+WrongAcl path texts fault = ⊥
 
--- ---- reading a list
+-- ---- reading an ACL
 
-abbrev pub attribute_of : ListPart → ℕ
+abbrev pub attribute_of : AclPart → ℕ
 attribute_of Acl = 12
 attribute_of Dacl = 58
 attribute_of Sacl = 59
 
 -- the set of this attribute alone
-abbrev pub IsAlone : ListPart → List ℕ → Type 0
+abbrev pub IsAlone : AclPart → List ℕ → Type 0
 IsAlone part set = (n : ℕ) → has_number set n ≡ (n == attribute_of part)
 
 -- the path's names, and the operation at their end
-abbrev pub GetAclAsks : ListPart → List ℕ → List (List ℕ) → Operation → Type 0
+abbrev pub GetAclAsks : AclPart → List ℕ → List (List ℕ) → Operation → Type 0
 GetAclAsks part path names op =
     (set : List ℕ) × (names_in path ≡ Some names) × IsAlone part set × (op ≡ Known kinds.GetAttr set)
 
--- the entries among the given attributes, without the flags of a part
-abbrev pub entries_of : ListPart → Seen → Option (List (Value ace))
+-- the ACEs among the returned attributes, without the flags of a part
+abbrev pub entries_of : AclPart → Seen → Option (List (Value ace))
 entries_of Acl seen = seen.entries
 entries_of Dacl seen = option_map (λ a. a.1) seen.dacl
 entries_of Sacl seen = option_map (λ a. a.1) seen.sacl
 
-abbrev pub list_in : ListPart → Result Seen XdrFault → Option (List (Value ace))
+abbrev pub list_in : AclPart → Result Seen XdrFault → Option (List (Value ace))
 list_in part (Ok seen) = entries_of part seen
 list_in part (Err fault) = None
 
--- the list as text
-abbrev pub acl_of : ListPart → Outcome → Option (List ℕ)
+-- the ACL as text
+abbrev pub acl_of : AclPart → Outcome → Option (List ℕ)
 acl_of part (Done kinds.GetAttr v) = option_and_then list_text (list_in part (seen_of v.0 v.1))
 acl_of part _ = None
 
-abbrev pub acl_in : ListPart → List Outcome → Option (List ℕ)
+abbrev pub acl_in : AclPart → List Outcome → Option (List ℕ)
 acl_in part results = option_and_then (acl_of part) (last_of results)
 
--- the lines are put after the earlier ones
+-- the lines are appended to the earlier ones
 abbrev pub PutsList : List ℕ → List ℕ → List (Value ace) → Result (Unit {0}) ToolFault → Type 0
 PutsList old new values (Ok done) = (text : List ℕ) × (list_text values ≡ Some text) × (new ≡ old ++ text)
 PutsList old new values (Err Reply) = list_text values ≡ None

@@ -16,32 +16,32 @@ answer_text Done = ok_line
 answer_text (Rights line) = line
 answer_text (Text text) = text.items
 
--- the rights that are supported, and the rights that are granted, by eight digits each
+-- the supported permissions, and the granted ones, by eight digits each
 abbrev pub rights_line : AccessResult → List ℕ
 rights_line r = codes "access " ++ hex_word r.supported ++ codes " " ++ hex_word r.granted ++ 10 ∷ []
 
 -- ---- the text of a command's answer
 
-abbrev pub says_ok : Unit {0} → List ℕ
-says_ok done = ok_line
+abbrev pub ok_text : Unit {0} → List ℕ
+ok_text done = ok_line
 
-abbrev pub says_rights : AccessResult → List ℕ
-says_rights r = rights_line r
+abbrev pub rights_text : AccessResult → List ℕ
+rights_text r = rights_line r
 
-abbrev pub says_text : {A : Type 0} → Vec ℕ A → List ℕ
-says_text v = v.items
+abbrev pub text_of_bytes : {A : Type 0} → Vec ℕ A → List ℕ
+text_of_bytes v = v.items
 
-abbrev pub says_line : {A : Type 0} → Vec ℕ A → List ℕ
-says_line v = v.items ++ 10 ∷ []
+abbrev pub line_text : {A : Type 0} → Vec ℕ A → List ℕ
+line_text v = v.items ++ 10 ∷ []
 
--- The answer is this text of the value, and a fault stays unchanged.
-abbrev pub SaysAs : {A V : Type 0} → (V → List ℕ) → Result V ToolFault → Result (Answer A) ToolFault → Type 0
-SaysAs text (Ok v) (Ok answer) = answer_text answer ≡ text v
-SaysAs text (Err fault) (Err fault') = fault' ≡ fault
-SaysAs text (Ok v) (Err fault') = ⊥
-SaysAs text (Err fault) (Ok answer) = ⊥
+-- The answer is this text of the value. A fault is unchanged.
+abbrev pub PrintsAs : {A V : Type 0} → (V → List ℕ) → Result V ToolFault → Result (Answer A) ToolFault → Type 0
+PrintsAs text (Ok v) (Ok answer) = answer_text answer ≡ text v
+PrintsAs text (Err fault) (Err fault') = fault' ≡ fault
+PrintsAs text (Ok v) (Err fault') = ⊥
+PrintsAs text (Err fault) (Ok answer) = ⊥
 
--- a newline is put after bytes, or memory is refused
+-- a newline is appended to the bytes, or an allocation fails
 abbrev pub NewlineGives : {A : Type 0} → List ℕ → Result (Answer A) ToolFault → Type 0
 NewlineGives bytes (Ok answer) = answer_text answer ≡ bytes ++ 10 ∷ []
 NewlineGives bytes (Err fault) = fault ≡ Memory

@@ -7,7 +7,7 @@ use Rattle.nfs_ops.specs.Results.{Outcome, Done}
 use Rattle.nfs_ops.specs.declared.OpKind.TheVariants as kinds
 use Rattle.nfs_client.specs.Commands.{AskGives, within_session}
 use Rattle.nfs_client.specs.Paging.{itself}
-use Rattle.nfs_client.specs.Routes.{Route, near, along, route_behind}
+use Rattle.nfs_client.specs.Routes.{Route, near, along, route_after}
 use Rattle.nfs_client.specs.Talking.{Talking}
 use Rattle.nfs_client.specs.Taking.{last_of, taking}
 use Rattle.nfs_client.specs.declared.client.Client.{Client}
@@ -33,27 +33,27 @@ module _ {S A : Type 0} (talks : Talking S) where
   ApproachGives route old new result =
       AskGives talks (taking handle_in itself) (within_session (approach old (near route))) old new result
 
-  -- An approach for each of these filehandles, the last first: each got its filehandle, and more
-  -- than this many names were left before it. No other command runs until this command is over.
+  -- An approach for each of these filehandles, the last first: each returned its filehandle, and more than `most`
+  -- names remained before it. No other command runs until this command is over.
   abbrev pub Approaches : ℕ → List (List ℕ) → Client S A → List (List ℕ) → Client S A → Type 0
   Approaches most names old [] new = new ≡ old
   Approaches most names old (handle ∷ before) new =
       (mid : Client S A) × (last : Client S A) × Approaches most names old before mid
-      × (most < length (route_behind names before).names)
-      × ApproachGives (route_behind names before) mid last (Ok handle) × (new ≡ record last { usable = false })
+      × (most < length (route_after names before).names)
+      × ApproachGives (route_after names before) mid last (Ok handle) × (new ≡ record last { usable = false })
 
-  -- The next approach fails, where one is still needed.
+  -- The next approach fails, while one is still needed.
   pub record WalkFails (most : ℕ) (names : List (List ℕ)) (old new : Client S A) (fault : ToolFault) : Type 0 where
     pub mid : Client S A
     pub before : List (List ℕ)
     pub goes : Approaches most names old before mid
-    pub needed : most < length (route_behind names before).names
-    pub gives : ApproachGives (route_behind names before) mid new (Err fault)
+    pub needed : most < length (route_after names before).names
+    pub gives : ApproachGives (route_after names before) mid new (Err fault)
 
-  -- Approaches lead to a route with at most this many names left; or an approach fails.
+  -- Approaches reach a route with at most `most` remaining names; or an approach fails.
   abbrev pub WalkGives : {X : Type 0} → (X → Route) → ℕ → List (List ℕ) → Client S A → Client S A → Result X ToolFault
       → Type 0
   WalkGives value most names old new (Ok x) =
-      (handles : List (List ℕ)) × Approaches most names old handles new × (value x ≡ route_behind names handles)
+      (handles : List (List ℕ)) × Approaches most names old handles new × (value x ≡ route_after names handles)
       × (length (value x).names ≤ most)
   WalkGives value most names old new (Err fault) = WalkFails most names old new fault

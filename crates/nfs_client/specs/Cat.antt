@@ -7,12 +7,12 @@ use Rattle.nfs_ops.specs.Results.{Outcome, Done}
 use Rattle.nfs_ops.specs.declared.OpKind.TheVariants as kinds
 use Rattle.nfs_ops.specs.declared.read.ReadResult.{ReadResult}
 use Rattle.nfs_client.specs.Access.{NoPath}
-use Rattle.nfs_client.specs.Compound.{Said}
+use Rattle.nfs_client.specs.Compound.{ReplyResults}
 use Rattle.nfs_client.specs.Paths.{names_in}
 use Rattle.nfs_client.specs.Talking.{Talking}
-use Rattle.nfs_client.specs.Taking.{last_of, taking, SaidGives}
+use Rattle.nfs_client.specs.Taking.{last_of, taking, ReplyResultsGive}
 use Rattle.nfs_client.specs.Commands.{AskGives, within_session, Commanded}
-use Rattle.nfs_client.specs.Paging.{Paging, PagesGive, SoFar, itself}
+use Rattle.nfs_client.specs.Paging.{Paging, PagesGive, Gathered, itself}
 use Rattle.nfs_client.specs.Routes.{Route, along, most_names}
 use Rattle.nfs_client.specs.Walking.{Walked}
 use Rattle.nfs_client.specs.declared.client.Client.{Client}
@@ -46,14 +46,14 @@ bytes_of (p ∷ before) = bytes_of before ++ p.bytes
 abbrev pub read_from : {S A : Type 0} → Route → Client S A → ℕ → List Operation
 read_from route client offset = along client route (read offset)
 
--- Each READ begins after the bytes read so far.
-abbrev pub read_behind : {S A : Type 0} → Route → Client S A → List ℕ → List Operation
-read_behind route client bytes = read_from route client (length bytes)
+-- Each READ begins after the bytes read before it.
+abbrev pub read_after : {S A : Type 0} → Route → Client S A → List ℕ → List Operation
+read_after route client bytes = read_from route client (length bytes)
 
 abbrev pub by_pieces : {S A : Type 0} → Talking S → Route → Paging S A Piece
 by_pieces talks route = record {
   talks = talks;
-  asks = λ client before. read_behind route client (bytes_of before);
+  asks = λ client before. read_after route client (bytes_of before);
   taken = piece_in;
   ends = λ p. p.eof;
 }
@@ -61,29 +61,29 @@ by_pieces talks route = record {
 abbrev pub piece_with : List ℕ → Bool → Piece
 piece_with bytes eof = record { bytes = bytes; eof = eof }
 
--- a piece that is put after the bytes read so far
-abbrev pub PieceTaken : Said → List ℕ → List ℕ → Result Bool ToolFault → Type 0
-PieceTaken said old new (Ok eof) =
-    (bytes : List ℕ) × SaidGives (taking piece_in (piece_with bytes)) said (Ok eof) × (new ≡ old ++ bytes)
-PieceTaken said old new (Err fault) = SaidGives (taking piece_in (piece_with [])) said (Err fault)
+-- a piece that is appended to the bytes read before it
+abbrev pub PieceTaken : ReplyResults → List ℕ → List ℕ → Result Bool ToolFault → Type 0
+PieceTaken reply_results old new (Ok eof) =
+    (bytes : List ℕ) × ReplyResultsGive (taking piece_in (piece_with bytes)) reply_results (Ok eof) × (new ≡ old ++ bytes)
+PieceTaken reply_results old new (Err fault) = ReplyResultsGive (taking piece_in (piece_with [])) reply_results (Err fault)
 
--- the exchange of a piece, which is put after the bytes read so far
-abbrev pub ReadGives : {S A : Type 0} → Talking S → Route → SoFar S A (List ℕ) → SoFar S A (List ℕ)
+-- the exchange of a piece, which is appended to the bytes read before it
+abbrev pub ReadGives : {S A : Type 0} → Talking S → Route → Gathered S A (List ℕ) → Gathered S A (List ℕ)
     → Result Bool ToolFault → Type 0
 ReadGives talks route old new (Ok eof) =
     (bytes : List ℕ)
-    × AskGives talks (taking piece_in itself) (within_session (read_behind route old.client old.gathered))
+    × AskGives talks (taking piece_in itself) (within_session (read_after route old.client old.gathered))
     old.client new.client (Ok (piece_with bytes eof))
     × (new.gathered ≡ old.gathered ++ bytes)
 ReadGives talks route old new (Err fault) =
     AskGives {X = Piece} talks (taking piece_in itself)
-    (within_session (read_behind route old.client old.gathered)) old.client new.client (Err fault)
+    (within_session (read_after route old.client old.gathered)) old.client new.client (Err fault)
 
--- the bytes of the file at the path; or the path is wrong, and no operation is asked
+-- the bytes of the file at the path; or the path is wrong, and no operation is sent
 abbrev pub CatGives : {S A X : Type 0} → Talking S → (X → List ℕ) → List ℕ → Client S A → Client S A
     → Result X ToolFault → Type 0
 CatGives talks value path old new result =
-    Commanded (NoPath path) (λ told. (names : List (List ℕ)) × (names_in path ≡ Some names)
+    Commanded (NoPath path) (λ outcome. (names : List (List ℕ)) × (names_in path ≡ Some names)
     × Walked talks most_names names
     (λ route mid r. PagesGive (by_pieces talks route) value bytes_of mid new r) old new
-    told) old new result
+    outcome) old new result

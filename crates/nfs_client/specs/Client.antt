@@ -18,14 +18,14 @@ caller_of client = identity client.uid client.gid []
 abbrev pub call_of : {S A : Type 0} → Client S A → List Operation → Call
 call_of client ops = record { xid = client.xid; caller = caller_of client; ops = ops }
 
--- One exchange over a transport: the call is sent, and a record comes after it.
+-- One exchange over a transport: the call is sent, and a record is received after it.
 pub record Exchange {S : Type 0} (talks : Talking S) (old new : S) (call : Call)
     (content : List ℕ) : Type 0 where
   pub bytes : List ℕ
   pub is_call : IsCall call bytes
   pub talked : talks old bytes (Ok content) new
 
--- An exchange that failed: no record came after the call.
+-- An exchange that failed: no record was received after the call.
 pub record Failing {S : Type 0} (talks : Talking S) (old new : S) (call : Call)
     (fault : ToolFault) : Type 0 where
   pub bytes : List ℕ
@@ -33,7 +33,7 @@ pub record Failing {S : Type 0} (talks : Talking S) (old new : S) (call : Call)
   pub failed : talks old bytes (Err fault) new
   pub of_talk : IsTalkFault fault
 
--- the next number
+-- the next sequence ID
 abbrev pub next : ℕ → ℕ
 next number = (number + 1) % 2 ^ 32
 
@@ -47,13 +47,13 @@ pub record Begun {S A : Type 0} (old new : Client S A) : Type 0 where
   pub session : new.session ≡ old.session
   pub number : new.number ≡ old.number
 
--- Nothing of the call is written: memory is refused, or the call is too large for a record.
+-- Nothing of the call is written: an allocation fails, or the call is too large for a record.
 abbrev pub IsUnsent : Call → ToolFault → Type 0
 IsUnsent call Memory = Unit {0}
 IsUnsent call TooLarge = IsTooLarge call
 IsUnsent call fault = ⊥
 
--- the record that was read; or the fault for which no bytes were written, or no record was read
+-- the record that was read; or the fault, if no bytes were written or no record was read
 abbrev pub ExchangeGives : {S A : Type 0} → Talking S → List Operation → Client S A → Client S A
     → Result (ReplyOf A) ToolFault → Type 0
 ExchangeGives talks ops old new (Ok reply) =

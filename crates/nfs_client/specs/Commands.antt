@@ -6,7 +6,7 @@ use Rattle.nfs_ops.specs.Operations.{Operation, Known}
 use Rattle.nfs_ops.specs.Results.{Outcome}
 use Rattle.nfs_ops.specs.declared.OpKind.TheVariants as kinds
 use Rattle.nfs_client.specs.Paths.{names_in}
-use Rattle.nfs_client.specs.Compound.{Answer, AllDone, LastRefused, NoReply, said, IsTooLarge}
+use Rattle.nfs_client.specs.Compound.{Answer, AllDone, LastRefused, NoReply, results_to, IsTooLarge}
 use Rattle.nfs_client.specs.Requests.{asked_of}
 use Rattle.nfs_client.specs.Client.{Begun, Exchange, Failing, call_of, next}
 use Rattle.nfs_client.specs.Talking.{Talking}
@@ -18,7 +18,7 @@ use Rattle.nfs_client.specs.declared.fault.ToolFault.TheVariants.{Failed, TooLar
 
 -- ---- operations
 
--- SEQUENCE on slot 0, the only slot, by the slot's next number
+-- SEQUENCE on slot 0, the only slot, by its next sequence ID
 abbrev pub sequence : {S A : Type 0} → Client S A → Operation
 sequence client = Known kinds.Sequence (client.session, (client.number, (0, (0, false))))
 
@@ -30,7 +30,7 @@ lookups names = map lookup names
 
 -- ---- words
 
--- the path is the directory's path from the root on, with this name after it
+-- the path is the names of the directory, from the root on, and then this name
 abbrev pub IsIn : List ℕ → List (List ℕ) → List ℕ → Type 0
 IsIn path directory name = names_in path ≡ Some (directory ++ name ∷ [])
 
@@ -44,44 +44,43 @@ HasNoName path = (names_in path ≡ None) ⊎ (names_in path ≡ Some [])
 abbrev pub Answered : {S A : Type 0} → Talking S → List Operation → Client S A → Client S A → Answer → Type 0
 Answered talks ops old new answer =
     (content : List ℕ) × Exchange talks old.stream new.stream (call_of old ops) content
-    × ((said old.xid (asked_of ops) content).answer ≡ answer)
+    × ((results_to old.xid (asked_of ops) content).answer ≡ answer)
 
--- an exchange whose reply has all operations OK, and this value, taken of its results
-abbrev pub Told : {S A V : Type 0} → Talking S → (List Outcome → Option V) → List Operation → Client S A
+-- an exchange whose reply has all operations OK, and this value in its results
+abbrev pub ReplyHas : {S A V : Type 0} → Talking S → (List Outcome → Option V) → List Operation → Client S A
     → Client S A → Option V → Type 0
-Told talks taken ops old new v =
+ReplyHas talks taken ops old new v =
     (content : List ℕ) × Exchange talks old.stream new.stream (call_of old ops) content
-    × ((said old.xid (asked_of ops) content).answer ≡ AllDone)
-    × (taken (said old.xid (asked_of ops) content).results ≡ v)
+    × ((results_to old.xid (asked_of ops) content).answer ≡ AllDone)
+    × (taken (results_to old.xid (asked_of ops) content).results ≡ v)
 
--- The number of the slot's next call after a call in the session, or after any other call.
-abbrev pub number_behind : Bool → ℕ → ℕ
-number_behind in_session number = if in_session then next number else number
+-- The sequence ID of the slot's next call after a call in the session, or after any other call.
+abbrev pub number_after : Bool → ℕ → ℕ
+number_after in_session number = if in_session then next number else number
 
--- A refused SEQUENCE (53) doesn't take the number.
+-- A refused SEQUENCE (53) doesn't consume the sequence ID.
 abbrev pub takes_number : Bool → ℕ → Bool
 takes_number in_session op = in_session && not (op == 53)
 
 -- the client's state after an exchange by its reply
 abbrev pub Concludes : {S A X : Type 0} → Bool → Result X ToolFault → Client S A → Client S A → Type 0
-Concludes in_session (Ok x) old new = new ≡ record old { usable = true; number = number_behind in_session old.number }
+Concludes in_session (Ok x) old new = new ≡ record old { usable = true; number = number_after in_session old.number }
 Concludes in_session (Err (Refused op status)) old new =
-    new ≡ record old { usable = true; number = number_behind (takes_number in_session op) old.number }
+    new ≡ record old { usable = true; number = number_after (takes_number in_session op) old.number }
 Concludes in_session (Err fault) old new = new ≡ old
 
--- Where memory was refused after an exchange, no other command runs in the end.
+-- If an allocation failed after an exchange, no other command runs afterwards.
 abbrev pub Spoils : {S A X : Type 0} → Result X ToolFault → Client S A → Client S A → Type 0
 Spoils (Err Memory) old new = new ≡ record old { usable = false }
-Spoils told old new = new ≡ old
+Spoils outcome old new = new ≡ old
 
--- The command ends in the middle, since memory was refused or a call of it is too large: then no
--- other command runs.
+-- If an allocation failed or a call was too large in the middle of the command, no other command runs.
 abbrev pub Breaks : {S A X : Type 0} → Result X ToolFault → Client S A → Client S A → Type 0
 Breaks (Err Memory) old new = new ≡ record old { usable = false }
 Breaks (Err TooLarge) old new = new ≡ record old { usable = false }
-Breaks told old new = new ≡ old
+Breaks outcome old new = new ≡ old
 
--- the exchange is over, and the next call of the slot has this number
+-- the exchange is over, and the next call of the slot has this sequence ID
 pub record Settled {S A : Type 0} (old new : Client S A) (number : ℕ) : Type 0 where
   pub usable : new.usable ≡ true
   pub advanced : new.xid ≡ next old.xid
@@ -96,18 +95,19 @@ abbrev pub GivesUp : {S A : Type 0} → Talking S → List Operation → Client 
 GivesUp talks ops old new fault =
     Begun old new × Failing talks old.stream new.stream (call_of old ops) fault
 
--- A record was read that is no reply to the call, or a reply whose results have no such value; no other command runs.
+-- A record was read that is no reply to the call, or a reply whose results don't have the value; no other command
+-- runs.
 abbrev pub NoAnswer : {S A V : Type 0} → Talking S → (List Outcome → Option V) → List Operation → Client S A
     → Client S A → Type 0
 NoAnswer talks taken ops old new =
-    Begun old new × (Answered talks ops old new NoReply ⊎ Told talks taken ops old new None)
+    Begun old new × (Answered talks ops old new NoReply ⊎ ReplyHas talks taken ops old new None)
 
--- A record was read, and memory was refused for what it says; no other command runs.
+-- A record was read, and an allocation for its content failed; no other command runs.
 abbrev pub Unjudged : {S A : Type 0} → Talking S → List Operation → Client S A → Client S A → Type 0
 Unjudged talks ops old new =
     Begun old new × (content : List ℕ) × Exchange talks old.stream new.stream (call_of old ops) content
 
--- Memory was refused: before the first byte of the call, as the record after it was read, or for what the record says.
+-- An allocation failed: before the first byte of the call, while the record after it was read, or for its content.
 abbrev pub NoMemory : {S A : Type 0} → Talking S → List Operation → Client S A → Client S A → Type 0
 NoMemory talks ops old new =
     (new ≡ old) ⊎ (GivesUp talks ops old new Memory ⊎ Unjudged talks ops old new)
@@ -123,16 +123,16 @@ within_session ops = record { ops = ops; in_session = true }
 abbrev pub outside_session : List Operation → Asked
 outside_session ops = record { ops = ops; in_session = false }
 
--- The outcome of operations with a value of their results: the value was taken, the last operation
--- run was refused, or no other command runs.
+-- The outcome of operations with a value of their results. The value was taken, the last operation run was refused,
+-- or no other command runs.
 abbrev pub AskGives : {S A X V : Type 0} → Talking S → Taking X V → Asked → Client S A → Client S A
     → Result X ToolFault → Type 0
 AskGives talks takes asked old new (Ok x) =
-    Told talks takes.taken asked.ops old new (Some (takes.value x))
-    × Settled old new (number_behind asked.in_session old.number)
+    ReplyHas talks takes.taken asked.ops old new (Some (takes.value x))
+    × Settled old new (number_after asked.in_session old.number)
 AskGives talks takes asked old new (Err (Refused op status)) =
     Answered talks asked.ops old new (LastRefused op (statuses.number_of status))
-    × Settled old new (number_behind (takes_number asked.in_session op) old.number)
+    × Settled old new (number_after (takes_number asked.in_session op) old.number)
 AskGives talks takes asked old new (Err Memory) = NoMemory talks asked.ops old new
 AskGives talks takes asked old new (Err TooLarge) = IsTooLarge (call_of old asked.ops) × (new ≡ old)
 AskGives talks takes asked old new (Err Reply) =
@@ -143,9 +143,9 @@ AskGives talks takes asked old new (Err Path) = ⊥
 AskGives talks takes asked old new (Err Entry) = ⊥
 AskGives talks takes asked old new (Err Failed) = ⊥
 
--- The outcome of a command, unless its words are wrong: then no operation is asked. On a client
--- that isn't usable no command runs. Memory may be refused before an operation is asked. Neither is
--- one asked where the operation of the words is too large alone.
+-- The outcome of a command, unless its words are wrong: then no operation is sent. On a client that isn't usable no
+-- command runs. An allocation may fail before an operation is sent. No operation is sent either if the one of the
+-- words is too large alone.
 abbrev pub Commanded : {S A X : Type 0} → (ToolFault → Type 0) → (Result X ToolFault → Type 0) → Client S A
     → Client S A → Result X ToolFault → Type 0
 Commanded wrong gives old new (Err Failed) = (old.usable ≡ false) × (new ≡ old)

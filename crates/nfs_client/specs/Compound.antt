@@ -29,17 +29,17 @@ op_bytes o = item_spelling (op_item o)
 abbrev pub compound_bytes : List Operation → List ℕ
 compound_bytes ops = head_bytes (length ops) ++ flat_map op_bytes ops
 
--- an operation can be spelled, and is in normal form
+-- an operation can be encoded, and is in normal form
 abbrev pub IsSpelled : Operation → Type 0
 IsSpelled o = ItemHasSpelling (op_item o) × ItemIsNormal (op_item o)
 
--- a call: its transaction, its caller, and the operations that it asks
+-- a call: its transaction, its caller, and its operations
 pub record Call : Type 0 where
   pub xid : ℕ
   pub caller : Identity
   pub ops : List Operation
 
--- the bytes of a call, as they stand in its record
+-- the bytes of a call in its record
 abbrev pub content_of : Call → List ℕ
 content_of call = call_bytes call.xid (Some call.caller) ++ compound_bytes call.ops
 
@@ -58,11 +58,11 @@ most_sent = 131072
 abbrev pub IsTooLarge : Call → Type 0
 IsTooLarge call = most_sent < length (content_of call)
 
--- an operation has more bytes alone
+-- an operation alone has more bytes
 abbrev pub IsLarge : Operation → Type 0
 IsLarge op = most_sent < length (op_bytes op)
 
--- the operations have more bytes alone
+-- the operations alone have more bytes
 abbrev pub AreTooLarge : List Operation → Type 0
 AreTooLarge ops = most_sent < length (flat_map op_bytes ops)
 
@@ -79,20 +79,20 @@ compound_at bytes =
     read_at uint bytes >>= λ status. read_at (opaque 4294967295) status.1 >>= λ tag. read_at uint tag.1 >>= λ count.
     items_at result_at count.0 count.1 >>= λ results. Ok (record { status = status.0; results = results.0 }, results.1)
 
--- no bytes come after it
+-- no bytes follow it
 abbrev pub all_of : Read Compound → Option Compound
 all_of (Ok (compound, [])) = Some compound
 all_of (Ok (compound, b ∷ rest)) = None
 all_of (Err fault) = None
 
--- the answer to a call: all operations are OK; the last one run, of this number, has this status;
--- or the record is no reply
+-- the answer to a call: all operations are OK; the last one run, of this number, has this status; or the record is no
+-- reply
 pub data Answer : Type 0 where
   AllDone : Answer
   LastRefused : ℕ → ℕ → Answer
   NoReply : Answer
 
--- After the last result no operation is left where that result is OK. Its status is the status of the COMPOUND.
+-- After the last result no operation is left if that result is OK. Its status is the status of the COMPOUND.
 abbrev pub ended_by : List ℕ → ℕ → Outcome → Answer
 ended_by left status last =
     if outcome_status last == status
@@ -100,7 +100,7 @@ ended_by left status last =
     else LastRefused (outcome_number last) status)
     else NoReply
 
--- The results are results of the first operations asked, at least of one, and all but the last are OK.
+-- The results are those of the first operations sent, at least of one, and all but the last are OK.
 abbrev pub answer_of : List ℕ → ℕ → List Outcome → Answer
 answer_of asked status [] = NoReply
 answer_of [] status (o ∷ os) = NoReply
@@ -111,21 +111,21 @@ answer_of (n ∷ left) status (o ∷ os) =
     else NoReply
 
 -- the results of a COMPOUND of the operations of these numbers, with their answer
-pub record Said : Type 0 where
+pub record ReplyResults : Type 0 where
   pub results : List Outcome
   pub answer : Answer
 
-abbrev pub no_reply : Said
+abbrev pub no_reply : ReplyResults
 no_reply = record { results = []; answer = NoReply }
 
-abbrev pub said_of : List ℕ → Option Compound → Said
-said_of asked (Some c) = record { results = c.results; answer = answer_of asked c.status c.results }
-said_of asked None = no_reply
+abbrev pub results_of_compound : List ℕ → Option Compound → ReplyResults
+results_of_compound asked (Some c) = record { results = c.results; answer = answer_of asked c.status c.results }
+results_of_compound asked None = no_reply
 
-abbrev pub said_by : List ℕ → ReplyResult → Said
-said_by asked (Ok results) = said_of asked (all_of (compound_at results))
-said_by asked (Err fault) = no_reply
+abbrev pub results_by : List ℕ → ReplyResult → ReplyResults
+results_by asked (Ok results) = results_of_compound asked (all_of (compound_at results))
+results_by asked (Err fault) = no_reply
 
 -- the answer of a record to the call of this transaction with the operations of these numbers
-abbrev pub said : ℕ → List ℕ → List ℕ → Said
-said xid asked content = said_by asked (answered xid content)
+abbrev pub results_to : ℕ → List ℕ → List ℕ → ReplyResults
+results_to xid asked content = results_by asked (answered xid content)

@@ -1,4 +1,4 @@
--- Entries of lists as text, `TYPE:FLAGS:MASK:WHO`.
+-- ACEs (access control entries) as text, `TYPE:FLAGS:MASK:WHO`.
 use Rattle.std.specs.Prelude.{ℕ, ◌==◌, if◌then◌else◌, List, [], ◌∷◌, ◌++◌, Option, Some, None, option_and_then}
 use Rattle.std.specs.Prelude.{option_map}
 use Rattle.std.specs.Int.{w32, from_be_bytes}
@@ -27,12 +27,12 @@ kind_in b =
     else if b == 76 then Some Alarm
     else None
 
--- two digits at the front, and the rest after them
+-- two digits at the start, and the rest after them
 abbrev pub byte_at : List ℕ → Option (ℕ × List ℕ)
 byte_at (high ∷ low ∷ rest) = option_map (λ n. (n, rest)) (byte_in high low)
 byte_at _ = None
 
--- eight digits at the front, and the rest after them
+-- eight digits at the start, and the rest after them
 abbrev pub word_at : List ℕ → Option (ℕ × List ℕ)
 word_at text =
     option_and_then
@@ -47,21 +47,22 @@ abbrev pub kind_at : List ℕ → Option (EntryKind × List ℕ)
 kind_at (b ∷ rest) = option_map (λ kind. (kind, rest)) (kind_in b)
 kind_at [] = None
 
--- the rest after a colon at the front
-abbrev pub behind_colon : List ℕ → Option (List ℕ)
-behind_colon (b ∷ rest) = if b == 58 then Some rest else None
-behind_colon [] = None
+-- the rest after a colon at the start
+abbrev pub after_colon : List ℕ → Option (List ℕ)
+after_colon (b ∷ rest) = if b == 58 then Some rest else None
+after_colon [] = None
 
--- A letter, two and eight hexadecimal digits in either case, with a colon after each; the who is all of the rest.
+-- A letter, two and eight hexadecimal digits in either case, with a colon after each; the principal is all of the
+-- rest.
 abbrev pub entry_in : List ℕ → Option EntryLine
 entry_in text =
     option_and_then (λ kind. option_and_then (λ a.
     option_and_then (λ flags. option_and_then (λ b.
     option_and_then
     (λ mask. option_and_then (λ who. Some (record { kind = kind.0; flags = flags.0; mask = mask.0; who = who }))
-    (behind_colon mask.1)) (word_at b)) (behind_colon flags.1)) (byte_at a)) (behind_colon kind.1)) (kind_at text)
+    (after_colon mask.1)) (word_at b)) (after_colon flags.1)) (byte_at a)) (after_colon kind.1)) (kind_at text)
 
--- the text of an entry, in lower case
+-- the text of an ACE, in lower case
 abbrev pub entry_head : EntryLine → List ℕ
 entry_head e = letter e.kind ∷ 58 ∷ hex_byte e.flags ++ 58 ∷ hex_word e.mask ++ 58 ∷ []
 

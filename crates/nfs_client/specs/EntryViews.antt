@@ -1,4 +1,4 @@
--- An entry's parts, without the place of its who.
+-- The parts of an ACE, without the place of its principal in memory.
 use Rattle.nfs_client.specs.Entries.{EntryLine}
 use Rattle.nfs_client.specs.declared.entry_text.EntryText.{EntryText}
 

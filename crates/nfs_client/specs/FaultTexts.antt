@@ -8,7 +8,7 @@ use Rattle.nfs_client.specs.Faults.{number_of}
 use Rattle.nfs_client.specs.declared.fault.ToolFault.{ToolFault}
 use Rattle.nfs_client.specs.declared.fault.ToolFault.TheVariants.{Refused}
 
--- the name of an operation that this client knows, and the decimal digits of any other number
+-- the name of an operation that this client knows, or the decimal digits of any other number
 abbrev pub operation_text : ℕ → List ℕ
 operation_text op = option_map_or (λ name. name) (operation_name op) (decimal op)
 

@@ -1,4 +1,4 @@
--- The attributes that were given, as they are answered.
+-- The returned attributes, as they are answered.
 use Rattle.std.specs.Prelude.{ℕ, List}
 use Rattle.nfs_types.specs.Views.{bitmap_value}
 use Rattle.nfs_client.specs.declared.attributes.Given.{Given}

@@ -1,4 +1,4 @@
--- The known attributes of an entry, without their place.
+-- The known attributes of an entry, without their place in memory.
 use Rattle.std.specs.Prelude.{option_map}
 use Rattle.nfs_client.specs.Lines as specs
 use Rattle.nfs_client.specs.declared.listing.Listed.{Listed}

@@ -1,4 +1,4 @@
--- A line of a listing: kind, mode, owner, group, size, name.
+-- A line of a listing: type, mode, owner, group, size, name.
 use Rattle.std.specs.Prelude.{ℕ, ◌<◌, ◌^◌, ◌==◌, Bool, false, ◌||◌, if◌then◌else◌, List, [], ◌∷◌, ◌++◌, Option, Some}
 use Rattle.std.specs.Prelude.{None, option_and_then, option_map, decimal}
 use Rattle.std.specs.List.{list_any}
@@ -15,7 +15,7 @@ pub record Listed : Type 0 where
   pub size : Option ℕ
   pub name : List ℕ
 
--- `?`, for an attribute that isn't known
+-- `?`, for an unknown attribute
 abbrev pub unknown : List ℕ
 unknown = 63 ∷ []
 
@@ -37,13 +37,13 @@ abbrev pub size_column : Option ℕ → List ℕ
 size_column (Some size) = decimal size
 size_column None = unknown
 
--- with this byte between two columns
+-- the columns, with this byte between two
 abbrev pub columns : ℕ → Listed → List ℕ
 columns end l =
     kind_text l.kind ++ end ∷ mode_column l.mode ++ end ∷ text_column l.owner ++ end ∷ text_column l.group ++ end
     ∷ size_column l.size ++ end ∷ l.name
 
--- with a space between two columns
+-- the columns, with a space between two
 abbrev pub line : Listed → List ℕ
 line l = columns 32 l
 
@@ -62,8 +62,8 @@ line_end Zeros = 0
 abbrev pub has_zero : List ℕ → Bool
 has_zero bytes = list_any (λ byte. byte == 0) bytes
 
--- Whether a column has the byte that ends columns, where these can be told apart otherwise: a zero
--- byte. A name or an owner may have a space in it.
+-- Whether a column has a zero byte, if zero bytes end the columns. If spaces do, no column is torn, though a name or
+-- an owner may have a space.
 abbrev pub is_torn : Ends → Listed → Bool
 is_torn Blanks l = false
 is_torn Zeros l = has_zero (text_column l.owner) || has_zero (text_column l.group) || has_zero l.name
@@ -72,7 +72,7 @@ is_torn Zeros l = has_zero (text_column l.owner) || has_zero (text_column l.grou
 abbrev pub line_with : Ends → Listed → Option (List ℕ)
 line_with ends l = if is_torn ends l then None else Some (columns (column_end ends) l)
 
--- items as lines, each with this byte after it, where each item has a line
+-- items as lines, each with this byte after it, if each item has a line
 abbrev pub lines_of : {X : Type 0} → ℕ → (X → Option (List ℕ)) → List X → Option (List ℕ)
 lines_of end text [] = Some []
 lines_of end text (x ∷ xs) = option_and_then (λ t. option_map (λ rest. t ++ end ∷ rest) (lines_of end text xs)) (text x)
@@ -85,8 +85,7 @@ columns_of l =
     kind_text l.kind ∷ mode_column l.mode ∷ text_column l.owner ∷ text_column l.group ∷ size_column l.size ∷ l.name
     ∷ []
 
--- a text's parts, each of which has a zero byte after it; the first of them begins with bytes that
--- stand before the text
+-- a text's parts, each with a zero byte after it; the first part begins with the bytes `part`, which precede the text
 abbrev pub parts_from : List ℕ → List ℕ → List (List ℕ)
 parts_from part [] = []
 parts_from part (byte ∷ text) = if byte == 0 then part ∷ parts_from [] text else parts_from (part ++ byte ∷ []) text

@@ -9,14 +9,14 @@ use Rattle.nfs_ops.specs.Forms.{set_of, values_of, entry, entry_cookie, entry_na
 use Rattle.nfs_ops.specs.Operations.{Operation, Known}
 use Rattle.nfs_ops.specs.Results.{Outcome, Done}
 use Rattle.nfs_ops.specs.declared.OpKind.TheVariants as kinds
-use Rattle.nfs_client.specs.Compound.{Said}
+use Rattle.nfs_client.specs.Compound.{ReplyResults}
 use Rattle.nfs_client.specs.Paths.{names_in}
 use Rattle.nfs_client.specs.Lines.{Listed, line_with, line_end, lines_of}
 use Rattle.nfs_client.specs.Talking.{Talking}
-use Rattle.nfs_client.specs.Taking.{last_of, taking, SaidGives}
+use Rattle.nfs_client.specs.Taking.{last_of, taking, ReplyResultsGive}
 use Rattle.nfs_client.specs.Access.{NoPath}
 use Rattle.nfs_client.specs.Commands.{AskGives, within_session, Commanded}
-use Rattle.nfs_client.specs.Paging.{Paging, PagesGive, SoFar, itself}
+use Rattle.nfs_client.specs.Paging.{Paging, PagesGive, Gathered, itself}
 use Rattle.nfs_client.specs.Routes.{Route, along, most_names}
 use Rattle.nfs_client.specs.Walking.{Walked}
 use Rattle.nfs_client.specs.declared.client.Client.{Client}
@@ -36,8 +36,8 @@ is_listed n = (n == 1) || (n == 4) || (n == 11) || (n == 33) || (n == 36) || (n 
 abbrev pub AreListed : List ℕ → Type 0
 AreListed set = (n : ℕ) → has_number set n ≡ is_listed n
 
--- READDIR of the entries after a cookie, of at most 32,768 bytes. The verifier is zero, as in each
--- reply that is taken; a dircount of zero sets no bound.
+-- READDIR of the entries after a cookie, of at most 32,768 bytes. The verifier is zero, as in each accepted reply; a
+-- dircount of zero sets no bound.
 abbrev pub readdir : List ℕ → ℕ → Operation
 readdir set cookie = Known kinds.ReadDir (cookie, (replicate 8 0, (0, (32768, set))))
 
@@ -89,7 +89,7 @@ abbrev pub text_of : List Page → List ℕ
 text_of [] = []
 text_of (p ∷ before) = text_of before ++ p.text
 
--- the last of some cookies, or this one where there are none
+-- the last of some cookies, or `cookie` if there are none
 abbrev pub last_or : ℕ → List ℕ → ℕ
 last_or cookie [] = cookie
 last_or cookie (c ∷ cookies) = last_or c cookies
@@ -99,7 +99,7 @@ abbrev pub cookie_of : List Page → ℕ
 cookie_of [] = 0
 cookie_of (p ∷ before) = last_or (cookie_of before) p.cookies
 
--- Each READDIR begins after the last entry of the pages so far.
+-- Each READDIR begins after the last entry of the pages before it.
 abbrev pub by_listings : {S A : Type 0} → Talking S → Ends → Route → List ℕ → Paging S A Page
 by_listings talks ends route set = record {
   talks = talks;
@@ -110,10 +110,10 @@ by_listings talks ends route set = record {
 
 -- ---- outcomes
 
--- lines are put after the earlier ones
+-- lines are appended to the earlier ones
 pub record GoesOn {A : Type 0} (old new : Listing A) (text cookies : List ℕ) : Type 0 where
   pub lines : new.text.items ≡ old.text.items ++ text
-  pub behind : new.cookie ≡ last_or old.cookie cookies
+  pub cookie_is : new.cookie ≡ last_or old.cookie cookies
   pub ends : new.ends ≡ old.ends
 
 -- an entry's line, if it has one
@@ -142,15 +142,15 @@ PutsPage old new page (Err Memory) = Unit {0}
 PutsPage old new page (Err fault) = ⊥
 
 -- the lines of the page in a reply
-abbrev pub PageTaken : {A : Type 0} → Said → Listing A → Listing A → Result Bool ToolFault → Type 0
-PageTaken said old new (Ok eof) =
+abbrev pub PageTaken : {A : Type 0} → ReplyResults → Listing A → Listing A → Result Bool ToolFault → Type 0
+PageTaken reply_results old new (Ok eof) =
     (text : List ℕ) × (cookies : List ℕ)
-    × SaidGives (taking (page_in old.ends) (page_with text cookies)) said (Ok eof)
+    × ReplyResultsGive (taking (page_in old.ends) (page_with text cookies)) reply_results (Ok eof)
     × GoesOn old new text cookies
-PageTaken said old new (Err fault) = SaidGives (taking (page_in old.ends) (page_with [] [])) said (Err fault)
+PageTaken reply_results old new (Err fault) = ReplyResultsGive (taking (page_in old.ends) (page_with [] [])) reply_results (Err fault)
 
--- the exchange of a page, whose lines are put after those of the pages before it
-abbrev pub ListGives : {S A : Type 0} → Talking S → Route → List ℕ → SoFar S A (Listing A) → SoFar S A (Listing A)
+-- the exchange of a page, whose lines are appended to those of the pages before it
+abbrev pub ListGives : {S A : Type 0} → Talking S → Route → List ℕ → Gathered S A (Listing A) → Gathered S A (Listing A)
     → Result Bool ToolFault → Type 0
 ListGives talks route set old new (Ok eof) =
     (text : List ℕ) × (cookies : List ℕ)
@@ -167,15 +167,15 @@ pub record LinesAt : Type 0 where
   pub path : List ℕ
   pub ends : Ends
 
--- the lines of all entries of the directory at the path; or the path is wrong, and no operation is asked
+-- the lines of all entries of the directory at the path; or the path is wrong, and no operation is sent
 abbrev pub LinesGive : {S A X : Type 0} → Talking S → (X → List ℕ) → LinesAt → Client S A → Client S A
     → Result X ToolFault → Type 0
 LinesGive talks value lines old new result =
     Commanded (NoPath lines.path)
-    (λ told. (names : List (List ℕ)) × (set : List ℕ) × (names_in lines.path ≡ Some names) × AreListed set
+    (λ outcome. (names : List (List ℕ)) × (set : List ℕ) × (names_in lines.path ≡ Some names) × AreListed set
     × Walked talks most_names names
     (λ route mid r. PagesGive (by_listings talks lines.ends route set) value text_of mid new r) old new
-    told) old new result
+    outcome) old new result
 
 -- with a space between two columns, and a newline after each line
 abbrev pub LsGives : {S A X : Type 0} → Talking S → (X → List ℕ) → List ℕ → Client S A → Client S A

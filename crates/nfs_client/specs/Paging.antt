@@ -1,4 +1,4 @@
--- Commands that ask page by page up to an end. The operations of each page depend on the pages
+-- Commands that request one page after the other, up to an end. The operations of each page depend on the pages
 -- before it, the last of them first.
 use Rattle.std.specs.Prelude.{◌≡◌, ◌⊎◌, ◌<◌, ℕ, Bool, true, false, List, [], ◌∷◌, length, Option, Result, Ok, Err}
 use Rattle.nfs_ops.specs.Operations.{Operation}
@@ -17,20 +17,21 @@ most_calls = 10000
 abbrev pub itself : {V : Type 0} → V → V
 itself v = v
 
--- Pages: the operations after earlier pages, the value of their results, and whether it is the last page.
+-- The pages of a command: the operations after earlier pages, the value of their results, and whether it is the last
+-- page.
 pub record Paging (S A V : Type 0) : Type 1 where
   pub talks : Talking S
   pub asks : Client S A → List V → List Operation
   pub taken : List Outcome → Option V
   pub ends : V → Bool
 
--- a client, and what it has gathered of the pages so far
-pub record SoFar (S A X : Type 0) : Type 0 where
+-- a client, and what it has gathered from the pages before
+pub record Gathered (S A X : Type 0) : Type 0 where
   pub client : Client S A
   pub gathered : X
 
-abbrev pub so_far : {S A X : Type 0} → Client S A → X → SoFar S A X
-so_far client gathered = record { client = client; gathered = gathered }
+abbrev pub gathered_so_far : {S A X : Type 0} → Client S A → X → Gathered S A X
+gathered_so_far client gathered = record { client = client; gathered = gathered }
 
 module _ {S A V : Type 0} (paging : Paging S A V) where
   -- the outcome of the exchange after these pages
@@ -44,19 +45,19 @@ module _ {S A V : Type 0} (paging : Paging S A V) where
   Goes old (v ∷ before) new =
       (mid : Client S A) × Goes old before mid × (paging.ends v ≡ false) × PageGives before mid new (Ok v)
 
-  -- The exchange after some pages fails. Where memory was refused no other command runs.
+  -- The exchange after some pages fails. If an allocation failed no other command runs.
   abbrev pub Stops : Client S A → Client S A → ToolFault → Type 0
   Stops old new fault =
       (mid : Client S A) × (last : Client S A) × (before : List V) × Goes old before mid
       × (length before < most_calls) × PageGives before mid last (Err fault) × Spoils {X = V} (Err fault) last new
 
-  -- the most pages came, and none of them was the last
+  -- the most pages were received, and none of them was the last
   abbrev pub IsTooLong : Client S A → Client S A → Type 0
   IsTooLong old new =
       (mid : Client S A) × (before : List V) × Goes old before mid × (length before ≡ most_calls)
       × (new ≡ record mid { usable = false })
 
-  -- All pages up to the last, which are no more than the most calls; or an exchange fails; or there are too many.
+  -- All pages up to the last, at most as many as the most calls; or an exchange fails; or there are too many pages.
   abbrev pub PagesGive : {X W : Type 0} → (X → W) → (List V → W) → Client S A → Client S A → Result X ToolFault → Type 0
   PagesGive value whole old new (Ok x) =
       (mid : Client S A) × (before : List V) × (last : V) × Goes old before mid × (length before < most_calls)

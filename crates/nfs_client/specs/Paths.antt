@@ -1,4 +1,4 @@
--- Paths: `/`, or names each with `/` in front.
+-- Paths: `/`, or names each with `/` before it.
 use Rattle.std.specs.Prelude.{ℕ, Bool, ◌==◌, not, if◌then◌else◌, List, [], ◌∷◌, length, Option, Some, None}
 use Rattle.std.specs.Prelude.{option_and_then}
 use Rattle.std.specs.List.{slice_split, list_all, flat_map}
@@ -13,14 +13,14 @@ is_name name = not (length name == 0)
 abbrev pub parts_of : List ℕ → Option (List (List ℕ))
 parts_of text = if list_all is_name (slice_split is_slash text) then Some (slice_split is_slash text) else None
 
--- the rest after a slash at the front
-abbrev pub behind_slash : List ℕ → Option (List ℕ)
-behind_slash [] = None
-behind_slash (b ∷ rest) = if is_slash b then Some rest else None
+-- the rest after a slash at the start
+abbrev pub after_slash : List ℕ → Option (List ℕ)
+after_slash [] = None
+after_slash (b ∷ rest) = if is_slash b then Some rest else None
 
--- the names of a path, from the root on: after the first slash there is nothing in `/`, else the names
+-- the names of a path, from the root on: none for `/`, else those after the first slash
 abbrev pub names_in : List ℕ → Option (List (List ℕ))
-names_in text = option_and_then (λ rest. if length rest == 0 then Some [] else parts_of rest) (behind_slash text)
+names_in text = option_and_then (λ rest. if length rest == 0 then Some [] else parts_of rest) (after_slash text)
 
 -- the path of names
 abbrev pub path_text : List (List ℕ) → List ℕ

@@ -1,13 +1,13 @@
--- put: a file is emptied as it is opened for writing. A text is written to it piece by piece, and
--- the file is closed. replace: the same, but the file keeps its bytes until others are written, and
--- each piece has the size after it.
+-- put: a file is truncated when it is opened for writing. A text is written to it piece by piece, and the file is
+-- closed. replace: the same, but the file keeps its bytes until others are written, and the size is set after each
+-- piece.
 use Rattle.std.specs.Prelude.{◌≡◌, ◌⊎◌, ℕ, ◌+◌, nat_le, ◌==◌, ◌&&◌, if◌then◌else◌, sum, codes, List, [], ◌∷◌}
 use Rattle.std.specs.Prelude.{◌++◌, length, take, drop, Option, Some, None, option_and_then, option_map, Result, Ok}
 use Rattle.std.specs.Prelude.{Err}
 use Rattle.std.proofs.Common.{inl, inr}
 use Rattle.xdr_wire.specs.Xdr.{Value}
 use Rattle.nfs_types.specs.Forms.{stateid}
-use Rattle.nfs_types.specs.Seen.{Seen, shown_set, shown_values}
+use Rattle.nfs_types.specs.Seen.{Seen, client_set, client_values}
 use Rattle.nfs_types.specs.declared.status.Status.{Status}
 use Rattle.nfs_ops.specs.Operations.{Operation, Known}
 use Rattle.nfs_ops.specs.Results.{Outcome, Done}
@@ -33,20 +33,20 @@ use Rattle.nfs_client.specs.declared.fault.ToolFault.TheVariants.{Refused}
 abbrev pub owner : List ℕ
 owner = codes "nfsc"
 
--- OPEN of the file of this name for writing (2), which denies others no access, with the set of
--- these attributes and these values. The file is created where there is none (UNCHECKED4).
+-- OPEN of the file of this name for writing (2), which denies others no access, with the set of these attributes and
+-- these values. The file is created if there is none (UNCHECKED4).
 abbrev pub open_by : Seen → List ℕ → ℕ → List ℕ → Operation
 open_by s values client name =
-    Known kinds.Open (0, (2, (0, (client, (owner, (inr (inl (inl (shown_set s, values))), inl name))))))
+    Known kinds.Open (0, (2, (0, (client, (owner, (inr (inl (inl (client_set s, values))), inl name))))))
 
--- The size that a file gets as it is opened, if it gets one. A file that keeps its bytes gets the
--- size 0 where the text is empty.
+-- The size that a file gets when it is opened, if it gets one. A file that keeps its bytes gets the size 0 if the
+-- text is empty.
 abbrev pub size_at_open : OldBytes → List ℕ → Option ℕ
 size_at_open Dropped text = Some 0
 size_at_open Kept text = if length text == 0 then Some 0 else None
 
 abbrev pub open_sized : Option ℕ → ℕ → List ℕ → Operation
-open_sized size client name = open_by (with_size size) (shown_values (with_size size)) client name
+open_sized size client name = open_by (with_size size) (client_values (with_size size)) client name
 
 abbrev pub put_handle : List ℕ → Operation
 put_handle handle = Known kinds.PutFh handle
@@ -76,7 +76,7 @@ open_of p = option_and_then (λ s. option_map (λ h. record { stateid = s; handl
 abbrev pub open_in : List Outcome → Option Open
 open_in results = option_and_then open_of (last_two results)
 
--- The count of a WRITE, of this many bytes that were sent: at least one.
+-- The count of a WRITE of `sent` bytes, if it is at least one and at most `sent`.
 abbrev pub count_within : ℕ → ℕ → Option ℕ
 count_within sent n = if nat_le 1 n && nat_le n sent then Some n else None
 
@@ -103,8 +103,8 @@ OpenAsks client path size directory op = (name : List ℕ) × IsIn path director
 abbrev pub open_along : {S A : Type 0} → Client S A → Route → Operation → List Operation
 open_along client route op = sequence client ∷ walk route ++ op ∷ get_handle ∷ []
 
--- The operations after a WRITE. A file that kept its bytes gets the size that makes the bytes of the WRITE
--- its last: so it is never shorter than what was written to it.
+-- The operations after a WRITE. A file that kept its bytes gets the size that makes the bytes of the WRITE its last.
+-- So it is never shorter than what was written to it.
 abbrev pub with_write : OldBytes → Value stateid → ℕ → List Operation
 with_write Dropped s size = []
 with_write Kept s size = set_size s size ∷ []
@@ -124,21 +124,21 @@ piece left = take 32768 left
 -- ---- outcomes
 
 -- the answer to a refused WRITE after its CLOSE: the refusal, unless the CLOSE ends by a fault that is no refusal
-abbrev pub told_behind : ℕ → Status → Result (Unit {0}) ToolFault → Result (Unit {0}) ToolFault
-told_behind op status (Ok done) = Err (Refused op status)
-told_behind op status (Err (Refused n s)) = Err (Refused op status)
-told_behind op status (Err fault) = Err fault
+abbrev pub result_after_close : ℕ → Status → Result (Unit {0}) ToolFault → Result (Unit {0}) ToolFault
+result_after_close op status (Ok done) = Err (Refused op status)
+result_after_close op status (Err (Refused n s)) = Err (Refused op status)
+result_after_close op status (Err fault) = Err fault
 
 module _ {S A : Type 0} (talks : Talking S) (o : Open) where
   abbrev pub CloseGives : Client S A → Client S A → Result (Unit {0}) ToolFault → Type 0
   CloseGives old new result = AskGives talks no_value (within_session (close_it old o)) old new result
 
-  -- The file is closed where the text is written, and where a WRITE was refused.
-  abbrev pub ClosesBehind : Result (Unit {0}) ToolFault → Client S A → Client S A → Result (Unit {0}) ToolFault → Type 0
-  ClosesBehind (Ok done) old new result = CloseGives old new result
-  ClosesBehind (Err (Refused op status)) old new result =
-      (closed : Result (Unit {0}) ToolFault) × CloseGives old new closed × (result ≡ told_behind op status closed)
-  ClosesBehind (Err fault) old new result = (new ≡ old) × (result ≡ Err fault)
+  -- The file is closed if the text is written, and if a WRITE was refused.
+  abbrev pub ClosesAfterWrite : Result (Unit {0}) ToolFault → Client S A → Client S A → Result (Unit {0}) ToolFault → Type 0
+  ClosesAfterWrite (Ok done) old new result = CloseGives old new result
+  ClosesAfterWrite (Err (Refused op status)) old new result =
+      (closed : Result (Unit {0}) ToolFault) × CloseGives old new closed × (result ≡ result_after_close op status closed)
+  ClosesAfterWrite (Err fault) old new result = (new ≡ old) × (result ≡ Err fault)
 
 module _ {S A : Type 0} (talks : Talking S) (over : OldBytes) (o : Open) where
   abbrev pub WriteGives : ℕ → List ℕ → Client S A → Client S A → Result ℕ ToolFault → Type 0
@@ -146,7 +146,7 @@ module _ {S A : Type 0} (talks : Talking S) (over : OldBytes) (o : Open) where
       AskGives talks (taking (written_in over (length bytes)) itself)
       (within_session (write_to old over o offset bytes)) old new result
 
-  -- Each WRITE begins after the bytes written so far. The counts of the WRITEs, the last first.
+  -- Each WRITE begins after the bytes written before it. The counts of the WRITEs, the last first.
   abbrev pub Writes : List ℕ → Client S A → List ℕ → Client S A → Type 0
   Writes text old [] new = new ≡ old
   Writes text old (n ∷ before) new =
@@ -160,12 +160,12 @@ module _ {S A : Type 0} (talks : Talking S) (over : OldBytes) (o : Open) where
       (mid : Client S A) × (before : List ℕ) × Writes text old before mid
       × WriteGives (sum before) (piece (drop (sum before) text)) mid new (Err fault)
 
-  -- The text is written to the open file, which is closed. No other command runs where memory was
-  -- refused or a call is too large.
+  -- The text is written to the open file, which is closed. No other command runs if an allocation failed or a call is
+  -- too large.
   abbrev pub FileGives : List ℕ → Client S A → Client S A → Result (Unit {0}) ToolFault → Type 0
   FileGives text old new result =
-      (told : Result (Unit {0}) ToolFault) × (mid : Client S A) × (last : Client S A) × TextGives text old mid told
-      × ClosesBehind talks o told mid last result × Breaks result last new
+      (outcome : Result (Unit {0}) ToolFault) × (mid : Client S A) × (last : Client S A) × TextGives text old mid outcome
+      × ClosesAfterWrite talks o outcome mid last result × Breaks result last new
 
 -- a text that is written over the bytes of a file
 pub record Text : Type 0 where
@@ -184,7 +184,7 @@ PutFileGives {S} {A} talks text ops old new (Err fault) =
     × AskGives talks (taking open_in itself) (within_session ops) old mid (Ok o)
     × FileGives talks text.over o text.bytes mid new (Err fault))
 
--- a file that is put: the operation that opens it, and its text
+-- a file and its new text: the operation that opens it, and the text
 pub record FilePut : Type 0 where
   pub opens : Operation
   pub text : Text
@@ -196,11 +196,11 @@ PutAlong talks names file old new result =
     Walked talks most_before_two names
     (λ route mid r. PutFileGives talks file.text (open_along mid route file.opens) mid new r) old new result
 
--- The file is put in its directory; or the path is wrong, and no operation is asked.
+-- The text is put in its directory's file; or the path is wrong, and no operation is sent.
 abbrev pub PutCommandGives : {S A : Type 0} → Talking S → List ℕ → Text → Client S A → Client S A
     → Result (Unit {0}) ToolFault → Type 0
 PutCommandGives talks path text old new result =
     Commanded (OrLarge (AnyNames (OpenAsks old.client path (size_at_open text.over text.bytes))) (WrongPath path))
-    (λ told. (directory : List (List ℕ)) × (op : Operation)
+    (λ outcome. (directory : List (List ℕ)) × (op : Operation)
     × OpenAsks old.client path (size_at_open text.over text.bytes) directory op
-    × PutAlong talks directory (record { opens = op; text = text }) old new told) old new result
+    × PutAlong talks directory (record { opens = op; text = text }) old new outcome) old new result

@@ -1,4 +1,4 @@
--- An open, without the place of its handle.
+-- An open, without the place of its filehandle in memory.
 use Rattle.nfs_types.specs.Views.{stateid_value}
 use Rattle.nfs_client.specs.Put.{Open}
 use Rattle.nfs_client.specs.declared.put.Opened.{Opened}

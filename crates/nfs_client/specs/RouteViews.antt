@@ -1,4 +1,4 @@
--- A route, without the place of its names and its filehandle.
+-- A route, without the place of its names and its filehandle in memory.
 use Rattle.std.specs.Prelude.{ℕ, List, map}
 use Rattle.std.specs.Borrow.{Bor}
 use Rattle.nfs_client.specs.Routes as specs
@@ -10,7 +10,7 @@ abbrev pub start_value : {A : Type 0} → Start A → specs.Start
 start_value code.Root = specs.Root
 start_value (code.Object handle) = specs.Object handle.items
 
--- a route from its start along lent names
+-- a route from its start along borrowed names
 abbrev pub route_from : {A : Type 0} → Start A → List (Bor (List ℕ)) → specs.Route
 route_from start names = record { start = start_value start; names = map (λ n. n.now) names }
 

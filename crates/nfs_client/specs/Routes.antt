@@ -1,5 +1,5 @@
--- The start of a walk, and the names that are left of it. A session takes 16 operations in a
--- COMPOUND, and SEQUENCE is one of them.
+-- The start of a walk, and its remaining names. A session takes 16 operations in a COMPOUND, and SEQUENCE is one of
+-- them.
 use Rattle.std.specs.Prelude.{ℕ, ◌+◌, nat_le, if◌then◌else◌, List, [], ◌∷◌, ◌++◌, take, drop}
 use Rattle.nfs_ops.specs.Operations.{Operation, Known}
 use Rattle.nfs_ops.specs.declared.OpKind.TheVariants as kinds
@@ -20,9 +20,9 @@ most_before_two = 12
 abbrev pub most_of_both : ℕ
 most_of_both = 11
 
--- The most names of the first of two paths that may be left at the end of its approaches. The paths
--- have `names` and `others` names. Where one COMPOUND can walk both paths there is no approach.
--- Else the first is walked to its end, before a name of the second is.
+-- The most names of the first of two paths that may remain at the end of its approaches. The paths have `names` and
+-- `others` names. If one COMPOUND can walk both paths there is no approach. Else the first is walked to its end,
+-- before a name of the second is.
 abbrev pub left_of_first : ℕ → ℕ → ℕ
 left_of_first names others = if nat_le (names + others) most_of_both then most_of_both else 0
 
@@ -45,7 +45,7 @@ abbrev pub begins : Start → Operation
 begins Root = Known kinds.PutRootFh tt
 begins (Object handle) = Known kinds.PutFh handle
 
--- from the start of a walk along the names left
+-- from the start of a walk along the remaining names
 abbrev pub walk : Route → List Operation
 walk route = begins route.start ∷ lookups route.names
 
@@ -57,10 +57,10 @@ near route = record { start = route.start; names = take most_names route.names }
 abbrev pub far : Route → List ℕ → Route
 far route handle = record { start = Object handle; names = drop most_names route.names }
 
--- the route that is left of a path after walks of its first names that ended at these filehandles, the last first
-abbrev pub route_behind : List (List ℕ) → List (List ℕ) → Route
-route_behind names [] = from_root names
-route_behind names (handle ∷ before) = far (route_behind names before) handle
+-- the rest of a path's route after walks of its first names that ended at these filehandles, the last first
+abbrev pub route_after : List (List ℕ) → List (List ℕ) → Route
+route_after names [] = from_root names
+route_after names (handle ∷ before) = far (route_after names before) handle
 
 -- an operation at the end of a route
 abbrev pub along : {S A : Type 0} → Client S A → Route → Operation → List Operation

@@ -17,12 +17,12 @@ use Rattle.nfs_client.specs.declared.fault.ToolFault.TheVariants.{Failed, TooLar
 
 -- ---- operations
 
--- a client's owner by its id, and the verifier of one start of it (client_owner4: RFC 8881, section 2.4)
+-- a client's owner by its ID, and the verifier of one start of it (client_owner4: RFC 8881, section 2.4)
 pub record ClientOwner : Type 0 where
   pub id : List ℕ
   pub verifier : List ℕ
 
--- EXCHANGE_ID of this owner at this start, without flags, without state protection, without an implementation id
+-- EXCHANGE_ID of this owner at this start, without flags, without state protection, without an implementation ID
 abbrev pub exchange_id : ClientOwner → Operation
 exchange_id owner = Known kinds.ExchangeId (owner.verifier, (owner.id, (0, (inl tt, []))))
 
@@ -34,7 +34,7 @@ fore = (0, (65536, (65536, (65536, (16, (1, []))))))
 abbrev pub back : Value channel
 back = (0, (4096, (4096, (0, (2, (1, []))))))
 
--- CREATE_SESSION of this client by this sequence id, without flags and without callbacks
+-- CREATE_SESSION of this client by this sequence ID, without flags and without callbacks
 abbrev pub create_session : ℕ → ℕ → Operation
 create_session client number = Known kinds.CreateSession (client, (number, (0, (fore, (back, (0, []))))))
 
@@ -46,7 +46,7 @@ destroy_client client = Known kinds.DestroyClientId client
 
 -- ---- results
 
--- the client id, and the sequence id of its next CREATE_SESSION
+-- the client ID, and the sequence ID of its next CREATE_SESSION
 abbrev pub record_of : Outcome → Option (ℕ × ℕ)
 record_of (Done kinds.ExchangeId v) = Some (v.0, v.1.0)
 record_of _ = None
@@ -57,7 +57,7 @@ record_in results = option_and_then record_of (last_of results)
 abbrev pub record_value : Registration → ℕ × ℕ
 record_value r = (r.client, r.number)
 
--- the session's id
+-- the session ID
 abbrev pub session_of : Outcome → Option (List ℕ)
 session_of (Done kinds.CreateSession v) = Some v.0
 session_of _ = None
@@ -87,13 +87,12 @@ SessionMade talks r old new result =
     AskGives talks (taking session_in session_value) (outside_session (create_session r.client r.number ∷ []))
     old new result
 
--- the most bytes of an owner's id (NFS4_OPAQUE_LIMIT: RFC 8881, section 3.1)
+-- the most bytes of an owner's ID (NFS4_OPAQUE_LIMIT: RFC 8881, section 3.1)
 abbrev pub most_of_owner : ℕ
 most_of_owner = 1024
 
--- EXCHANGE_ID gives a client id, and CREATE_SESSION by its numbers a session, on which the client
--- calls by number 1 then. Or the owner's id is too long, and nothing is sent; or the first exchange
--- fails, or the second.
+-- EXCHANGE_ID returns a client ID, and CREATE_SESSION by its numbers a session, in which the client's first call has
+-- sequence ID 1. Or the owner's ID is too long, and nothing is sent; or the first exchange fails, or the second.
 abbrev pub Begins : {S A : Type 0} → Talking S → ClientOwner → Client S A → Client S A → Result (Unit {0}) ToolFault
     → Type 0
 Begins {S} {A} talks owner old new (Ok done) =
@@ -120,8 +119,8 @@ abbrev pub Ends : {S A : Type 0} → Talking S → Operation → Client S A → 
     → Type 0
 Ends talks op old new result = AskGives talks no_value (outside_session (op ∷ [])) old new result
 
--- DESTROY_SESSION is OK, and then DESTROY_CLIENTID; or the first exchange fails, or the second.
--- Where memory was refused for the second, or its call is too large, no other command runs.
+-- DESTROY_SESSION is OK, and then DESTROY_CLIENTID; or the first exchange fails, or the second. If an allocation
+-- failed for the second, or its call is too large, no other command runs.
 abbrev pub EndGives : {S A : Type 0} → Talking S → Client S A → Client S A → Result (Unit {0}) ToolFault → Type 0
 EndGives {S} {A} talks old new (Ok done) =
     (mid : Client S A) × Ends talks (destroy_session old.session) old mid (Ok tt)

@@ -1,4 +1,4 @@
--- Some attributes of an object, read from what a server gave (RFC 8881, section 3.3.9).
+-- Some attributes of an object, read from what a server returned (RFC 8881, section 3.3.9).
 use Rattle.std.specs.Prelude.{◌≡◌, ◌==◌, ◌||◌, ℕ, Bool, if◌then◌else◌, List, [], ◌∷◌, Option, Some, None, Ok}
 use Rattle.std.specs.Prelude.{Err}
 use Rattle.xdr_wire.specs.Xdr.{Value, uint, hyper}
@@ -8,7 +8,7 @@ use Rattle.nfs_types.specs.Forms.{time}
 use Rattle.nfs_types.specs.Sent.{chosen_at}
 use Rattle.nfs_types.specs.Sets.{has_number}
 
--- the values, each if it is there
+-- the values, each if it was returned
 pub record StatValues : Type 0 where
   pub kind : Option ℕ
   pub change : Option ℕ
@@ -60,13 +60,13 @@ stat_at set bytes =
       j.1,
     )
 
--- nothing stands after the values
+-- no bytes follow the values
 abbrev pub whole : Read StatValues → Option StatValues
 whole (Ok (stat, [])) = Some stat
 whole (Ok (stat, b ∷ bytes)) = None
 whole (Err fault) = None
 
--- The values that the bytes spell, all of the bytes, of a set that has none but these attributes.
+-- The values that the bytes encode, all of the bytes, of a set that has only these attributes.
 abbrev pub stat_of : List ℕ → List ℕ × List ℕ → Option StatValues
 stat_of known given = if is_within given.0 known then whole (stat_at given.0 given.1) else None
 

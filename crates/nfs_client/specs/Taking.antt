@@ -1,7 +1,7 @@
--- The value that a command takes of the results of operations that are all OK.
+-- The value that a command takes from the results of operations that are all OK.
 use Rattle.std.specs.Prelude.{◌≡◌, ◌⊎◌, List, [], ◌∷◌, Option, Some, None, option_map, Result, Ok, Err}
 use Rattle.nfs_ops.specs.Results.{Outcome}
-use Rattle.nfs_client.specs.Compound.{AllDone, NoReply, Said}
+use Rattle.nfs_client.specs.Compound.{AllDone, NoReply, ReplyResults}
 use Rattle.nfs_client.specs.CompoundViews.{FaultIs}
 use Rattle.nfs_client.specs.declared.fault.ToolFault.{ToolFault}
 use Rattle.nfs_client.specs.declared.fault.ToolFault.TheVariants.{Reply, Memory}
@@ -20,14 +20,14 @@ last_two (o ∷ p ∷ q ∷ os) = last_two (p ∷ q ∷ os)
 abbrev pub before_last : List Outcome → Option Outcome
 before_last results = option_map (λ p. p.0) (last_two results)
 
--- The value is taken; or there is none, since the results are others; or memory is refused.
+-- The value is taken; or the results don't have it; or an allocation fails.
 abbrev pub TakeGives : {X V : Type 0} → (X → V) → Option V → Result X ToolFault → Type 0
 TakeGives value taken (Ok x) = taken ≡ Some (value x)
 TakeGives value taken (Err Reply) = taken ≡ None
 TakeGives value taken (Err Memory) = Unit {0}
 TakeGives value taken (Err fault) = ⊥
 
--- what is taken of the results of operations that are all OK, and the value that an answer must have for it
+-- what a command takes from the results of operations that are all OK, and the value that its answer represents
 pub record Taking (X V : Type 0) : Type 0 where
   pub taken : List Outcome → Option V
   pub value : X → V
@@ -35,14 +35,14 @@ pub record Taking (X V : Type 0) : Type 0 where
 abbrev pub taking : {X V : Type 0} → (List Outcome → Option V) → (X → V) → Taking X V
 taking taken value = record { taken = taken; value = value }
 
--- The value of the results of a reply where all is done, else its fault. A reply whose results have
--- no such value is no reply.
-abbrev pub SaidGives : {X V : Type 0} → Taking X V → Said → Result X ToolFault → Type 0
-SaidGives takes said (Ok x) = (said.answer ≡ AllDone) × (takes.taken said.results ≡ Some (takes.value x))
-SaidGives takes said (Err Reply) =
-    (said.answer ≡ NoReply) ⊎ ((said.answer ≡ AllDone) × (takes.taken said.results ≡ None))
-SaidGives takes said (Err Memory) = Unit {0}
-SaidGives takes said (Err fault) = FaultIs fault said.answer
+-- The value of the results of a reply if all is done, else its fault. A reply whose results don't have the value is
+-- no reply.
+abbrev pub ReplyResultsGive : {X V : Type 0} → Taking X V → ReplyResults → Result X ToolFault → Type 0
+ReplyResultsGive takes reply_results (Ok x) = (reply_results.answer ≡ AllDone) × (takes.taken reply_results.results ≡ Some (takes.value x))
+ReplyResultsGive takes reply_results (Err Reply) =
+    (reply_results.answer ≡ NoReply) ⊎ ((reply_results.answer ≡ AllDone) × (takes.taken reply_results.results ≡ None))
+ReplyResultsGive takes reply_results (Err Memory) = Unit {0}
+ReplyResultsGive takes reply_results (Err fault) = FaultIs fault reply_results.answer
 
 -- no value: all is OK
 abbrev pub nothing : {X : Type 0} → X → Unit {0}

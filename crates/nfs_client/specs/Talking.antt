@@ -1,10 +1,10 @@
--- A call to a server and the record after it, over a transport of any kind.
+-- A call to a server and the record received after it, over any transport.
 use Rattle.std.specs.Prelude.{ℕ, List, Result, Ok, Err}
 use Rattle.nfs_client.specs.declared.fault.ToolFault.{ToolFault}
 use Rattle.nfs_client.specs.declared.fault.ToolFault.TheVariants.{Write, Read, Reply, Memory}
 
--- The relation of a transport before a call, the bytes of the call, the record that was read after
--- it or a fault, and the transport after that.
+-- A transport's relation: the transport before a call, the bytes of the call, the result, and the transport after it.
+-- The result is the record that was read after the call, or a fault.
 abbrev pub Talking : Type 0 → Type 1
 Talking S = S → List ℕ → Result (List ℕ) ToolFault → S → Type 0
 

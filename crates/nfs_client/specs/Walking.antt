@@ -1,4 +1,4 @@
--- Commands along paths: approaches, and then the COMPOUND of the command, which walks the names left.
+-- Commands along paths: approaches, and then the COMPOUND of the command, which walks the remaining names.
 use Rattle.std.specs.Prelude.{◌≡◌, ◌⊎◌, ℕ, List, [], ◌∷◌, ◌++◌, length, Result, Ok, Err}
 use Rattle.nfs_ops.specs.Operations.{Operation, Known}
 use Rattle.nfs_ops.specs.declared.OpKind.TheVariants as kinds
@@ -22,18 +22,18 @@ save = Known kinds.SaveFh tt
 abbrev pub along_both : {S A : Type 0} → Client S A → Route → Route → Operation → List Operation
 along_both client first second op = sequence client ∷ walk first ++ save ∷ walk second ++ op ∷ []
 
--- what may be wrong with words: an operation of them can also be too large alone
+-- what may be wrong with words: the operation that they make can also be too large alone
 abbrev pub OrLarge : (Operation → Type 0) → (ToolFault → Type 0) → ToolFault → Type 0
 OrLarge asks wrong TooLarge = (op : Operation) × asks op × IsLarge op
 OrLarge asks wrong fault = wrong fault
 
--- the operation of a command, at the end of whatever names
+-- the operation of a command, at the end of any names
 abbrev pub AnyNames : (List (List ℕ) → Operation → Type 0) → Operation → Type 0
 AnyNames asks op = (names : List (List ℕ)) × asks names op
 
 module _ {S A : Type 0} (talks : Talking S) where
-  -- The outcome of approaches until at most this many names are left, and then of a step with the
-  -- route left; or an approach fails.
+  -- The outcome of approaches until at most `most` names remain, and then of a step with the rest of the route; or an
+  -- approach fails.
   abbrev pub Walked : {X : Type 0} → ℕ → List (List ℕ) → (Route → Client S A → Result X ToolFault → Type 0)
       → Client S A → Client S A → Result X ToolFault → Type 0
   Walked most names does old new (Ok x) =
@@ -44,42 +44,42 @@ module _ {S A : Type 0} (talks : Talking S) where
       ⊎ ((mid : Client S A) × (route : Route) × WalkGives talks itself most names old mid (Ok route)
       × does route mid (Err fault))
 
-  -- The outcome of a command that asks an operation at the end of a path, unless its words are
-  -- wrong. It takes a value of the results.
-  abbrev pub CommandTells : {X V : Type 0} → Taking X V → (List (List ℕ) → Operation → Type 0)
+  -- The outcome of a command that sends an operation at the end of a path, unless its words are wrong. It takes a
+  -- value of the results.
+  abbrev pub CommandResults : {X V : Type 0} → Taking X V → (List (List ℕ) → Operation → Type 0)
       → (ToolFault → Type 0) → Client S A → Client S A → Result X ToolFault → Type 0
-  CommandTells takes asks wrong old new result =
+  CommandResults takes asks wrong old new result =
       Commanded (OrLarge (AnyNames asks) wrong)
-      (λ told. (names : List (List ℕ)) × (op : Operation) × asks names op × Walked most_names names
+      (λ outcome. (names : List (List ℕ)) × (op : Operation) × asks names op × Walked most_names names
       (λ route mid r. AskGives talks takes (within_session (along mid route op)) mid new r) old new
-      told) old new result
+      outcome) old new result
 
   -- the outcome of a command that takes no value
   abbrev pub CommandGives : (List (List ℕ) → Operation → Type 0) → (ToolFault → Type 0) → Client S A → Client S A
       → Result (Unit {0}) ToolFault → Type 0
-  CommandGives asks wrong old new result = CommandTells no_value asks wrong old new result
+  CommandGives asks wrong old new result = CommandResults no_value asks wrong old new result
 
-  -- The outcome of a command that asks an operation at the ends of two paths, and takes no value.
-  -- It is that of the walk of the first, and after it of the second.
+  -- The outcome of a command that sends an operation at the ends of two paths, and takes no value. The first path is
+  -- walked before the second.
   abbrev pub BothGive : (List (List ℕ) → List (List ℕ) → Operation → Type 0) → (ToolFault → Type 0) → Client S A
       → Client S A → Result (Unit {0}) ToolFault → Type 0
   BothGive asks wrong old new result =
       Commanded (OrLarge (λ op. (names : List (List ℕ)) × AnyNames (asks names) op) wrong)
-      (λ told. (names : List (List ℕ)) × (others : List (List ℕ)) × (op : Operation) × asks names others op
+      (λ outcome. (names : List (List ℕ)) × (others : List (List ℕ)) × (op : Operation) × asks names others op
       × Walked (left_of_first (length names) (length others)) names
       (λ first mid r. Walked most_of_both others
       (λ second last s. AskGives talks no_value (within_session (along_both last first second op)) last new s)
       mid new r)
-      old new told) old new result
+      old new outcome) old new result
 
-  -- after a walk memory is refused for the request
+  -- the walk succeeds, and an allocation for the request fails
   pub record Unready (most : ℕ) (names : List (List ℕ)) (old new : Client S A) (fault : ToolFault) : Type 0 where
     pub is_memory : fault ≡ Memory
     pub route : Route
     pub walk : WalkGives talks itself most names old new (Ok route)
 
-  -- The request of an operation at the end of a path, which walks the names left. Or an approach
-  -- fails, or memory is refused for the request.
+  -- The request of an operation at the end of a path, which walks the remaining names. Or an approach fails, or an
+  -- allocation for the request does.
   abbrev pub ReadyGives : List (List ℕ) → Operation → Client S A → Client S A → Result (Request A) ToolFault → Type 0
   ReadyGives names op old new (Ok request) =
       (route : Route) × WalkGives talks itself most_names names old new (Ok route)
@@ -87,8 +87,8 @@ module _ {S A : Type 0} (talks : Talking S) where
   ReadyGives names op old new (Err fault) =
       WalkFails talks most_names names old new fault ⊎ Unready most_names names old new fault
 
-  -- The request of an operation at the ends of two paths. Or an approach of the first or of the
-  -- second fails, or memory is refused.
+  -- The request of an operation at the ends of two paths. Or an approach of the first or of the second fails, or an
+  -- allocation does.
   abbrev pub BothReady : List (List ℕ) → List (List ℕ) → Operation → Client S A → Client S A
       → Result (Request A) ToolFault → Type 0
   BothReady names others op old new (Ok request) =

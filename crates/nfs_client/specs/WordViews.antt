@@ -1,4 +1,4 @@
--- A command, without the place of its words.
+-- A command, without the place of its words in memory.
 use Rattle.std.specs.Prelude.{map}
 use Rattle.nfs_client.specs.Words as specs
 use Rattle.nfs_client.specs.declared.words.Command.{Command}

@@ -1,8 +1,8 @@
 -- A command as words.
 use Rattle.std.specs.Prelude.{ℕ, ◌==◌, length, if◌then◌else◌, List, [], ◌∷◌, Option, Some, None, codes}
 use Rattle.std.specs.Str.{bytes_eq}
-use Rattle.nfs_client.specs.declared.list_part.ListPart.{ListPart}
-use Rattle.nfs_client.specs.declared.list_part.ListPart.TheVariants.{Acl, Dacl, Sacl}
+use Rattle.nfs_client.specs.declared.acl_part.AclPart.{AclPart}
+use Rattle.nfs_client.specs.declared.acl_part.AclPart.TheVariants.{Acl, Dacl, Sacl}
 
 pub data CommandLine : Type 0 where
   Ls : List ℕ → CommandLine
@@ -16,10 +16,10 @@ pub data CommandLine : Type 0 where
   Rm : List ℕ → CommandLine
   -- the mode and the path
   ChMod : List ℕ → List ℕ → CommandLine
-  -- the list or its part, and the path
-  GetAcl : ListPart → List ℕ → CommandLine
-  -- the list or its part, the path and the entries, of which there is at least one
-  SetAcl : ListPart → List ℕ → List (List ℕ) → CommandLine
+  -- the ACL (access control list) or its part, and the path
+  GetAcl : AclPart → List ℕ → CommandLine
+  -- the ACL or its part, the path and the ACEs, of which there is at least one
+  SetAcl : AclPart → List ℕ → List (List ℕ) → CommandLine
   Access : List ℕ → CommandLine
 
 -- a command of one path
@@ -35,7 +35,7 @@ of_one name path =
     else if bytes_eq name (codes "access") then Some (Access path)
     else None
 
--- a command of two words that doesn't set a list
+-- a command of two words that doesn't set an ACL
 abbrev pub of_two : List ℕ → List ℕ → List ℕ → Option CommandLine
 of_two name first second =
     if bytes_eq name (codes "put") then Some (Put first second)
@@ -48,23 +48,23 @@ abbrev pub exactly_two : List ℕ → List ℕ → List (List ℕ) → Option Co
 exactly_two name first (second ∷ []) = of_two name first second
 exactly_two name first _ = None
 
--- the list that a command sets, if the command sets a list
-abbrev pub set_by : List ℕ → Option ListPart
+-- the ACL or part that a command sets, if it sets one
+abbrev pub set_by : List ℕ → Option AclPart
 set_by name =
     if bytes_eq name (codes "setacl") then Some Acl
     else if bytes_eq name (codes "setdacl") then Some Dacl
     else if bytes_eq name (codes "setsacl") then Some Sacl
     else None
 
--- a command that sets a list takes at least one entry, any other command one word more
-abbrev pub setting_or_two : Option ListPart → List ℕ → List ℕ → List (List ℕ) → Option CommandLine
+-- a command that sets an ACL takes at least one ACE, any other command exactly two words
+abbrev pub setting_or_two : Option AclPart → List ℕ → List ℕ → List (List ℕ) → Option CommandLine
 setting_or_two (Some part) name first others = if length others == 0 then None else Some (SetAcl part first others)
 setting_or_two None name first others = exactly_two name first others
 
 abbrev pub of_more : List ℕ → List ℕ → List (List ℕ) → Option CommandLine
 of_more name first others = setting_or_two (set_by name) name first others
 
--- the command of words, by their number
+-- the command of words, by their count
 abbrev pub command_in : List (List ℕ) → Option CommandLine
 command_in (name ∷ path ∷ []) = of_one name path
 command_in (name ∷ first ∷ second ∷ others) = of_more name first (second ∷ others)

@@ -1,14 +1,14 @@
-//! The rights of the caller.
+//! The permissions of the caller.
 ghost use Rattle.std.specs.Prelude.{◌≡◌, false, Err, option_map, option_and_then};
 ghost use Rattle.nfs_ops.specs.ResultViews.{read_view};
 ghost use Rattle.nfs_client.specs.Access.{AccessAsks, NoPath, rights_of, rights_in};
 ghost use Rattle.nfs_client.specs.AccessViews.{rights_value};
 ghost use Rattle.nfs_client.specs.Commands.{AskGives, within_session};
-ghost use Rattle.nfs_client.specs.Compound.{said};
+ghost use Rattle.nfs_client.specs.Compound.{results_to};
 ghost use Rattle.nfs_client.specs.Requests.{Asks};
 ghost use Rattle.nfs_client.specs.CompoundViews.{outcomes};
-ghost use Rattle.nfs_client.specs.Taking.{SaidGives, TakeGives, taking};
-ghost use Rattle.nfs_client.specs.Walking.{CommandTells};
+ghost use Rattle.nfs_client.specs.Taking.{ReplyResultsGive, TakeGives, taking};
+ghost use Rattle.nfs_client.specs.Walking.{CommandResults};
 ghost use Rattle.nfs_client.specs.declared.fault.ToolFault.TheVariants.{Failed};
 
 use crate::client::{Client, Reply};
@@ -20,10 +20,10 @@ use crate::transport::Transport;
 use nfs_ops::{AccessArgs, AccessResult, Op, OpResult};
 use std::alloc::Allocator;
 
-/// The rights that ACCESS asks for: READ, LOOKUP, MODIFY, EXTEND, DELETE and EXECUTE.
+/// The permissions that ACCESS requests: READ, LOOKUP, MODIFY, EXTEND, DELETE and EXECUTE.
 const ALL_RIGHTS: u32 = 0x3f;
 
-/// The rights of a result.
+/// The permissions in a result.
 fn rights(found: Option<OpResult<'_>>) -> Option<AccessResult>
     ensures { option_map rights_value result ≡ option_and_then rights_of (option_map read_view found.entry) }
 {
@@ -33,8 +33,8 @@ fn rights(found: Option<OpResult<'_>>) -> Option<AccessResult>
     }
 }
 
-/// The rights at the end of results.
-fn rights_told<A: Allocator>(results: Vec<OpResult<'_>, A>) -> Result<AccessResult, ToolFault>
+/// The permissions at the end of results.
+fn access_result<A: Allocator>(results: Vec<OpResult<'_>, A>) -> Result<AccessResult, ToolFault>
     ensures { TakeGives rights_value (rights_in (outcomes results.entry.items)) result }
 {
     match rights(last(results)) {
@@ -44,13 +44,13 @@ fn rights_told<A: Allocator>(results: Vec<OpResult<'_>, A>) -> Result<AccessResu
 }
 
 impl<A: Allocator + Copy> Reply<A> {
-    /// The rights at the end of the results.
+    /// The permissions at the end of the results.
     fn rights(&self, alloc: A) -> Result<AccessResult, ToolFault>
-        ensures { SaidGives (taking rights_in rights_value)
-            (said self.now.xid self.now.asked.items self.now.content.items) result }
+        ensures { ReplyResultsGive (taking rights_in rights_value)
+            (results_to self.now.xid self.now.asked.items self.now.content.items) result }
     {
         match self.results(alloc) {
-            Ok(results) => rights_told(results),
+            Ok(results) => access_result(results),
             Err(fault) => Err(fault),
         }
     }
@@ -69,15 +69,15 @@ impl<S: Transport, A: Allocator + Copy> Client<S, A> {
             Ok(reply) => reply,
             Err(fault) => return Err(fault),
         };
-        let told = reply.rights(self.alloc);
-        self.conclude(&told, true);
-        told
+        let outcome = reply.rights(self.alloc);
+        self.conclude(&outcome, true);
+        outcome
     }
 
-    /// The rights of ACCESS that are supported for an object, of six, and those of them that the caller has.
+    /// The permissions of ACCESS that are supported for an object, of six, and those of them that the caller has.
     pub fn access(&mut self, path: &[u8]) -> Result<AccessResult, ToolFault>
         ensures failed { self.old.usable ≡ false → result ≡ Err Failed }
-        ensures gives { CommandTells S.talks (taking rights_in rights_value)
+        ensures gives { CommandResults S.talks (taking rights_in rights_value)
             (AccessAsks path.now) (NoPath path.now) self.old self.new result }
     {
         self.start()?;

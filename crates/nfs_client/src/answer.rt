@@ -1,8 +1,8 @@
-//! The answer of a reply to the operations that were asked.
+//! The answer of a reply to the operations that were sent.
 ghost use Rattle.std.specs.Prelude.{◌≡◌, MatchResult, Ok, Err};
 ghost use Rattle.nfs_ops.specs.ResultViews.{read_view};
-ghost use Rattle.nfs_client.specs.Compound.{ended_by, answer_of, all_of, compound_at, said};
-ghost use Rattle.nfs_client.specs.CompoundViews.{outcomes, ItemsGive, CompoundGives, Judges, Says};
+ghost use Rattle.nfs_client.specs.Compound.{ended_by, answer_of, all_of, compound_at, results_to};
+ghost use Rattle.nfs_client.specs.CompoundViews.{outcomes, ItemsGive, CompoundGives, Judges, ResultsGive};
 ghost use Rattle.nfs_client.specs.declared.fault.ToolFault.TheVariants as fault;
 
 use crate::fault::ToolFault;
@@ -15,7 +15,7 @@ use xdr_wire::{Reader, XdrFault};
 const MAX_TAG: usize = 0xffff_ffff;
 
 /// A record that can't be read is no reply.
-fn told<T>(read: Result<T, XdrFault>) -> Result<T, ToolFault>
+fn as_reply_fault<T>(read: Result<T, XdrFault>) -> Result<T, ToolFault>
     ensures { MatchResult read (λ x. result ≡ Ok x) (λ _. result ≡ Err fault.Reply) }
 {
     match read {
@@ -24,7 +24,7 @@ fn told<T>(read: Result<T, XdrFault>) -> Result<T, ToolFault>
     }
 }
 
-/// Reads this many results.
+/// Reads `count` results.
 fn read_results<'a, A: Allocator>(
     alloc: A,
     count: u32,
@@ -50,9 +50,9 @@ fn read_compound<A: Allocator>(
     ensures { CompoundGives (λ v. outcomes v.items) (all_of (compound_at bytes.now)) result }
 {
     let mut reader = Reader::new(bytes);
-    let status = told(reader.u32())?;
-    let _tag = told(reader.opaque(MAX_TAG))?;
-    let count = told(reader.u32())?;
+    let status = as_reply_fault(reader.u32())?;
+    let _tag = as_reply_fault(reader.opaque(MAX_TAG))?;
+    let count = as_reply_fault(reader.u32())?;
     let results = read_results(alloc, count, &mut reader)?;
     if !reader.is_empty() {
         return Err(ToolFault::Reply);
@@ -64,12 +64,12 @@ fn read_compound<A: Allocator>(
 fn judge_last(left: &[u32], status: u32, last: &OpResult<'_>) -> Result<(), ToolFault>
     ensures { Judges result (ended_by left.now status (read_view last.now)) }
 {
-    let told = last.status();
-    if told.number() != status {
+    let as_reply_fault = last.status();
+    if as_reply_fault.number() != status {
         return Err(ToolFault::Reply);
     }
     if status != 0 {
-        return Err(ToolFault::Refused(last.number(), told));
+        return Err(ToolFault::Refused(last.number(), as_reply_fault));
     }
     if !left.is_empty() {
         return Err(ToolFault::Reply);
@@ -100,7 +100,7 @@ fn judge(asked: &[u32], status: u32, results: &[OpResult<'_>]) -> Result<(), Too
 }
 
 /// The results in a record for the call of this transaction with the operations of these numbers,
-/// where each operation is OK. `Refused`: the last operation that was run has another status.
+/// if each operation is OK. `Refused`: the last operation that was run has another status.
 /// `Reply`: the record is no reply to the call.
 pub(crate) fn read_answer<'a, A: Allocator>(
     alloc: A,
@@ -108,7 +108,7 @@ pub(crate) fn read_answer<'a, A: Allocator>(
     asked: &[u32],
     content: &'a [u8],
 ) -> Result<Vec<OpResult<'a>, A>, ToolFault>
-    ensures { Says (λ v. outcomes v.items) (said xid asked.now content.entry.now) result }
+    ensures { ResultsGive (λ v. outcomes v.items) (results_to xid asked.now content.entry.now) result }
 {
     let Ok(found) = read_reply(content, xid) else {
         return Err(ToolFault::Reply);

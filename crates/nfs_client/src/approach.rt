@@ -1,15 +1,15 @@
-//! Walking a path by several COMPOUNDs: approaches of its first names, and the request of a command at its end.
+//! Walking a path by several COMPOUNDs: approaches along its first names, and the request of a command at its end.
 ghost use Rattle.std.specs.Prelude.{◌≡◌, IfOk, map, true, option_map, option_and_then};
 ghost use Rattle.nfs_types.specs.Views.{handle_value};
 ghost use Rattle.nfs_ops.specs.OpViews.{op_view};
 ghost use Rattle.nfs_ops.specs.ResultViews.{read_view};
 ghost use Rattle.nfs_client.specs.Approach.{approach, handle_of, handle_in, WalkGives};
 ghost use Rattle.nfs_client.specs.Commands.{AskGives, within_session};
-ghost use Rattle.nfs_client.specs.Compound.{said};
+ghost use Rattle.nfs_client.specs.Compound.{results_to};
 ghost use Rattle.nfs_client.specs.Requests.{Asks, PutGives};
 ghost use Rattle.nfs_client.specs.Routes.{along};
 ghost use Rattle.nfs_client.specs.RouteViews.{route_from, route_value};
-ghost use Rattle.nfs_client.specs.Taking.{SaidGives, TakeGives, taking};
+ghost use Rattle.nfs_client.specs.Taking.{ReplyResultsGive, TakeGives, taking};
 ghost use Rattle.nfs_client.specs.Walking.{along_both, BothReady, ReadyGives};
 
 use crate::client::{Client, Reply};
@@ -23,11 +23,11 @@ use nfs_types::Handle;
 use std::alloc::{AllocError, Allocator};
 
 /// The filehandle in the result of a GETFH.
-pub(crate) fn handle_told(found: OpResult<'_>) -> Option<Handle<'_>>
+pub(crate) fn handle_from(found: OpResult<'_>) -> Option<Handle<'_>>
     ensures { option_map handle_value result ≡ handle_of (read_view found.entry) }
 {
     match found {
-        OpResult::GetFh(told) => Some(told.handle),
+        OpResult::GetFh(outcome) => Some(outcome.handle),
         _ => None,
     }
 }
@@ -57,7 +57,7 @@ fn reached<A: Allocator>(alloc: A, found: Option<OpResult<'_>>) -> Result<Vec<u8
     let Some(found) = found else {
         return Err(ToolFault::Reply);
     };
-    let Some(handle) = handle_told(found) else {
+    let Some(handle) = handle_from(found) else {
         return Err(ToolFault::Reply);
     };
     Ok(handle_bytes(alloc, handle)?)
@@ -66,8 +66,8 @@ fn reached<A: Allocator>(alloc: A, found: Option<OpResult<'_>>) -> Result<Vec<u8
 impl<A: Allocator + Copy> Reply<A> {
     /// The filehandle at the end of the results.
     fn reached(&self, alloc: A) -> Result<Vec<u8, A>, ToolFault>
-        ensures { SaidGives (taking handle_in (λ v. v.items))
-            (said self.now.xid self.now.asked.items self.now.content.items) result }
+        ensures { ReplyResultsGive (taking handle_in (λ v. v.items))
+            (results_to self.now.xid self.now.asked.items self.now.content.items) result }
     {
         match self.results(alloc) {
             Ok(results) => reached(alloc, last(results)),
@@ -77,7 +77,7 @@ impl<A: Allocator + Copy> Reply<A> {
 }
 
 impl<S: Transport, A: Allocator + Copy> Client<S, A> {
-    /// The request of the filehandle at the end of these names.
+    /// The request for the filehandle at the end of these names.
     fn prepare_approach(&self, start: &Start<A>, names: &[&[u8]]) -> Result<Request<A>, ToolFault>
         ensures asks { IfOk result (λ r. Asks r (approach self.now (route_from start.now names.now))) }
         ensures memory { PutGives result }
@@ -89,7 +89,7 @@ impl<S: Transport, A: Allocator + Copy> Client<S, A> {
         Ok(request)
     }
 
-    /// Walks these names by a COMPOUND of their own. The filehandle at their end.
+    /// Walks these names by a COMPOUND of their own. Returns the filehandle at their end.
     fn approach(&mut self, start: &Start<A>, names: &[&[u8]]) -> Result<Vec<u8, A>, ToolFault>
         ensures { AskGives S.talks (taking handle_in (λ v. v.items))
             (within_session (approach self.old (route_from start.now names.now))) self.old self.new result }
@@ -99,13 +99,13 @@ impl<S: Transport, A: Allocator + Copy> Client<S, A> {
             Ok(reply) => reply,
             Err(fault) => return Err(fault),
         };
-        let told = reply.reached(self.alloc);
-        self.conclude(&told, true);
-        told
+        let outcome = reply.reached(self.alloc);
+        self.conclude(&outcome, true);
+        outcome
     }
 
-    /// Approaches the end of a path until at most this many names are left. After an approach the
-    /// client isn't usable until the command is over.
+    /// Approaches the end of a path until at most `most` names remain. After an approach the client isn't usable
+    /// until the command is over.
     pub(crate) fn reach<'a>(
         &mut self,
         names: &'a [&'a [u8]],
@@ -146,7 +146,7 @@ impl<S: Transport, A: Allocator + Copy> Client<S, A> {
         Ok(request)
     }
 
-    /// Approaches the end of a path. The request of an operation there, which walks the names left.
+    /// Approaches the end of a path. Returns the request of an operation there, which walks the remaining names.
     pub(crate) fn ready(&mut self, names: &[&[u8]], op: Op<'_>) -> Result<Request<A>, ToolFault>
         ensures { ReadyGives S.talks (map (λ n. n.now) names.now) (op_view op.entry)
             self.old self.new result }
@@ -177,8 +177,8 @@ impl<S: Transport, A: Allocator + Copy> Client<S, A> {
         Ok(request)
     }
 
-    /// Approaches the ends of two paths, the end of the first path first. The request of an
-    /// operation there, which walks the names left of both.
+    /// Approaches the ends of two paths, the end of the first path first. Returns the request of an operation there,
+    /// which walks the remaining names of both.
     pub(crate) fn ready_both(
         &mut self,
         names: &[&[u8]],

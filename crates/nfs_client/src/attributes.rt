@@ -1,16 +1,16 @@
-//! The attributes of an object, as a server gives them (RFC 8881, section 18.7).
+//! The attributes of an object, as a server returns them (RFC 8881, section 18.7).
 ghost use Rattle.std.specs.Prelude.{◌≡◌, false, Err, option_map, option_and_then};
 ghost use Rattle.nfs_types.specs.Views.{bitmap_value};
 ghost use Rattle.nfs_ops.specs.ResultViews.{read_view};
 ghost use Rattle.nfs_client.specs.Access.{NoPath};
 ghost use Rattle.nfs_client.specs.Commands.{AskGives, within_session};
-ghost use Rattle.nfs_client.specs.Compound.{said};
+ghost use Rattle.nfs_client.specs.Compound.{results_to};
 ghost use Rattle.nfs_client.specs.CompoundViews.{outcomes};
 ghost use Rattle.nfs_client.specs.GetAttr.{GetAttrAsks, attributes_of, attributes_in};
 ghost use Rattle.nfs_client.specs.GetAttrViews.{given_value};
 ghost use Rattle.nfs_client.specs.Requests.{Asks};
-ghost use Rattle.nfs_client.specs.Taking.{SaidGives, TakeGives, taking};
-ghost use Rattle.nfs_client.specs.Walking.{CommandTells};
+ghost use Rattle.nfs_client.specs.Taking.{ReplyResultsGive, TakeGives, taking};
+ghost use Rattle.nfs_client.specs.Walking.{CommandResults};
 ghost use Rattle.nfs_client.specs.declared.fault.ToolFault.TheVariants.{Failed};
 
 use crate::client::{Client, Reply};
@@ -23,11 +23,11 @@ use nfs_ops::{GetAttrArgs, Op, OpResult};
 use nfs_types::{Attributes, Bitmap};
 use std::alloc::{Allocator, Global};
 
-/// The attributes of an object that a server gave: which, and their values, one after the other by
-/// rising number (RFC 8881, section 3.3.9).
+/// The attributes of an object that a server returned: which, and their values, one after the other by rising number
+/// (RFC 8881, section 3.3.9).
 #[derive(Drop)]
 pub struct Given<A: Allocator = Global> {
-    /// The attributes that are given.
+    /// The attributes that were returned.
     pub set: Bitmap,
     /// The bytes of their values.
     pub values: Vec<u8, A>,
@@ -37,10 +37,10 @@ pub struct Given<A: Allocator = Global> {
 fn given_in<A: Allocator>(alloc: A, found: Option<OpResult<'_>>) -> Result<Given<A>, ToolFault>
     ensures { TakeGives given_value (option_and_then attributes_of (option_map read_view found.entry)) result }
 {
-    let Some(OpResult::GetAttr(told)) = found else {
+    let Some(OpResult::GetAttr(outcome)) = found else {
         return Err(ToolFault::Reply);
     };
-    let Attributes { set, values: lent } = told.attributes;
+    let Attributes { set, values: lent } = outcome.attributes;
     let mut values = Vec::new(alloc);
     values.extend_from_slice(lent.bytes)?;
     Ok(Given { set, values })
@@ -49,8 +49,8 @@ fn given_in<A: Allocator>(alloc: A, found: Option<OpResult<'_>>) -> Result<Given
 impl<A: Allocator + Copy> Reply<A> {
     /// The attributes at the end of the results.
     fn given(&self, alloc: A) -> Result<Given<A>, ToolFault>
-        ensures { SaidGives (taking attributes_in given_value)
-            (said self.now.xid self.now.asked.items self.now.content.items) result }
+        ensures { ReplyResultsGive (taking attributes_in given_value)
+            (results_to self.now.xid self.now.asked.items self.now.content.items) result }
     {
         match self.results(alloc) {
             Ok(results) => given_in(alloc, last(results)),
@@ -72,16 +72,15 @@ impl<S: Transport, A: Allocator + Copy> Client<S, A> {
             Ok(reply) => reply,
             Err(fault) => return Err(fault),
         };
-        let told = reply.given(self.alloc);
-        self.conclude(&told, true);
-        told
+        let outcome = reply.given(self.alloc);
+        self.conclude(&outcome, true);
+        outcome
     }
 
-    /// The attributes of an object that are asked for, as far as the server gives them.
-    /// `Stat::read` reads some of them.
+    /// The requested attributes of an object, as far as the server returns them. `Stat::read` reads some of them.
     pub fn attributes(&mut self, path: &[u8], asked: Bitmap) -> Result<Given<A>, ToolFault>
         ensures failed { self.old.usable ≡ false → result ≡ Err Failed }
-        ensures gives { CommandTells S.talks (taking attributes_in given_value)
+        ensures gives { CommandResults S.talks (taking attributes_in given_value)
             (GetAttrAsks path.now (bitmap_value asked)) (NoPath path.now) self.old self.new result }
     {
         self.start()?;

@@ -3,11 +3,11 @@ ghost use Rattle.std.specs.Prelude.{◌≡◌, false, Err, option_map, option_an
 ghost use Rattle.nfs_ops.specs.ResultViews.{read_view};
 ghost use Rattle.nfs_client.specs.Cat.{read_from, bytes_of, piece_of, piece_in, piece_value, by_pieces, PieceTaken};
 ghost use Rattle.nfs_client.specs.Cat.{ReadGives, CatGives};
-ghost use Rattle.nfs_client.specs.Compound.{said};
-ghost use Rattle.nfs_client.specs.Paging.{PagesGive, so_far};
+ghost use Rattle.nfs_client.specs.Compound.{results_to};
+ghost use Rattle.nfs_client.specs.Paging.{PagesGive, gathered_so_far};
 ghost use Rattle.nfs_client.specs.Requests.{Asks, PutGives};
 ghost use Rattle.nfs_client.specs.RouteViews.{route_value};
-ghost use Rattle.nfs_client.specs.Taking.{SaidGives, taking};
+ghost use Rattle.nfs_client.specs.Taking.{ReplyResultsGive, taking};
 ghost use Rattle.nfs_client.specs.declared.fault.ToolFault.TheVariants.{Failed};
 
 use crate::client::{Client, Reply};
@@ -37,8 +37,8 @@ fn piece(found: Option<OpResult<'_>>) -> Option<ReadResult<'_>>
 impl<A: Allocator + Copy> Reply<A> {
     /// The bytes at the end of results.
     fn piece(&self, alloc: A) -> Result<ReadResult<'_>, ToolFault>
-        ensures { SaidGives (taking piece_in piece_value)
-            (said self.now.xid self.now.asked.items self.now.content.items) result }
+        ensures { ReplyResultsGive (taking piece_in piece_value)
+            (results_to self.now.xid self.now.asked.items self.now.content.items) result }
     {
         match self.results(alloc) {
             Ok(results) => match piece(last(results)) {
@@ -49,9 +49,9 @@ impl<A: Allocator + Copy> Reply<A> {
         }
     }
 
-    /// Puts the bytes at the end of the results after the bytes read so far. Whether the file ends there.
+    /// Appends the bytes at the end of the results to the bytes read by now. Returns whether the file ends there.
     fn put_piece(&self, alloc: A, bytes: &mut Vec<u8, A>) -> Result<bool, ToolFault>
-        ensures { PieceTaken (said self.now.xid self.now.asked.items self.now.content.items) bytes.old.items
+        ensures { PieceTaken (results_to self.now.xid self.now.asked.items self.now.content.items) bytes.old.items
             bytes.new.items result }
     {
         match self.piece(alloc) {
@@ -67,7 +67,7 @@ impl<A: Allocator + Copy> Reply<A> {
 impl<S: Transport, A: Allocator + Copy> Client<S, A> {
     ghost use Rattle.std.specs.Prelude.{IfOk};
 
-    /// The request of the bytes from an offset on.
+    /// The request for the bytes from an offset on.
     fn prepare_read(&self, route: &Route<'_, A>, offset: usize) -> Result<Request<A>, ToolFault>
         ensures asks { IfOk result (λ r. Asks r (read_from (route_value route.now) self.now offset)) }
         ensures memory { PutGives result }
@@ -81,35 +81,35 @@ impl<S: Transport, A: Allocator + Copy> Client<S, A> {
         self.request_along(route, op)
     }
 
-    /// Reads the bytes after the bytes read so far. Whether the file ends after them.
+    /// Reads the bytes after those read by now. Returns whether the file ends after them.
     fn read_piece(
         &mut self,
         route: &Route<'_, A>,
         bytes: &mut Vec<u8, A>,
     ) -> Result<bool, ToolFault>
         ensures { ReadGives S.talks (route_value route.now)
-            (so_far self.old bytes.old.items) (so_far self.new bytes.new.items) result }
+            (gathered_so_far self.old bytes.old.items) (gathered_so_far self.new bytes.new.items) result }
     {
         let request = self.prepare_read(route, bytes.len())?;
         let reply = match self.exchange(request) {
             Ok(reply) => reply,
             Err(fault) => return Err(fault),
         };
-        let told = reply.put_piece(self.alloc, bytes);
-        self.conclude(&told, true);
-        told
+        let outcome = reply.put_piece(self.alloc, bytes);
+        self.conclude(&outcome, true);
+        outcome
     }
 
-    /// Reads piece after piece.
+    /// Reads one piece after the other.
     fn read_all(&mut self, route: &Route<'_, A>) -> Result<Vec<u8, A>, ToolFault>
         ensures { PagesGive (by_pieces S.talks (route_value route.now)) (λ v. v.items)
             bytes_of self.old self.new result }
     {
         let mut bytes = Vec::new(self.alloc);
         for _call in 0..MOST_CALLS {
-            let told = self.read_piece(route, &mut bytes);
-            self.spoil(&told);
-            match told {
+            let outcome = self.read_piece(route, &mut bytes);
+            self.spoil(&outcome);
+            match outcome {
                 Ok(true) => return Ok(bytes),
                 Ok(false) => {}
                 Err(fault) => return Err(fault),

@@ -1,6 +1,6 @@
 //! Setting a mode.
 ghost use Rattle.std.specs.Prelude.{◌≡◌, false, Err};
-ghost use Rattle.nfs_types.specs.ShownViews.{shown_value};
+ghost use Rattle.nfs_types.specs.ClientViews.{client_value};
 ghost use Rattle.nfs_client.specs.ChMod.{ChModAsks, WrongMode};
 ghost use Rattle.nfs_client.specs.Setting.{of_mode};
 ghost use Rattle.nfs_client.specs.Walking.{CommandGives};
@@ -12,14 +12,14 @@ use crate::modes::read_mode;
 use crate::path::Path;
 use crate::setting::{setting, values_of};
 use crate::transport::Transport;
-use nfs_types::ShownAttributes;
+use nfs_types::ClientAttributes;
 use std::alloc::Allocator;
 
 /// The mode alone.
-fn of_mode(mode: u32) -> ShownAttributes<'static>
-    ensures { shown_value result ≡ of_mode mode }
+fn of_mode(mode: u32) -> ClientAttributes<'static>
+    ensures { client_value result ≡ of_mode mode }
 {
-    ShownAttributes {
+    ClientAttributes {
         kind: None,
         size: None,
         error: None,
@@ -33,8 +33,8 @@ fn of_mode(mode: u32) -> ShownAttributes<'static>
 }
 
 impl<S: Transport, A: Allocator + Copy> Client<S, A> {
-    /// Sets the mode of an object to this word of one to four octal digits, and the access control
-    /// list with the mode. `Entry`: the word is no mode.
+    /// Sets the mode of an object to this word of one to four octal digits, and its ACL (access control list) by the
+    /// mode. `Entry`: the word is no mode.
     pub fn chmod(&mut self, word: &[u8], path: &[u8]) -> Result<(), ToolFault>
         ensures failed { self.old.usable ≡ false → result ≡ Err Failed }
         ensures gives { CommandGives S.talks (ChModAsks word.now path.now)
@@ -48,9 +48,9 @@ impl<S: Transport, A: Allocator + Copy> Client<S, A> {
             Ok(path) => path,
             Err(fault) => return Err(fault),
         };
-        let shown = of_mode(mode);
-        let values = values_of(self.alloc, &shown)?;
-        let op = setting(&shown, values.bytes())?;
+        let attributes = of_mode(mode);
+        let values = values_of(self.alloc, &attributes)?;
+        let op = setting(&attributes, values.bytes())?;
         match self.ready(path.names(), op) {
             Ok(request) => self.run(request, true),
             Err(fault) => Err(fault),

@@ -1,6 +1,6 @@
 //! Setting an owner or an owning group (RFC 8881, sections 5.8.2.26 and 5.8.2.27).
 ghost use Rattle.std.specs.Prelude.{◌≡◌, false, Err};
-ghost use Rattle.nfs_types.specs.ShownViews.{shown_value};
+ghost use Rattle.nfs_types.specs.ClientViews.{client_value};
 ghost use Rattle.nfs_client.specs.Access.{NoPath};
 ghost use Rattle.nfs_client.specs.ChOwn.{ChOwnAsks, ChGrpAsks, SetAsks, of_owner, of_group};
 ghost use Rattle.nfs_client.specs.Walking.{CommandGives};
@@ -13,14 +13,14 @@ use crate::request::sendable;
 use crate::setting::{setting, values_of};
 use crate::transport::Transport;
 use nfs_ops::Bytes;
-use nfs_types::ShownAttributes;
+use nfs_types::ClientAttributes;
 use std::alloc::Allocator;
 
 /// The owner alone.
-fn of_owner(owner: Bytes<'_>) -> ShownAttributes<'_>
-    ensures { shown_value result ≡ of_owner owner.entry.bytes.now }
+fn of_owner(owner: Bytes<'_>) -> ClientAttributes<'_>
+    ensures { client_value result ≡ of_owner owner.entry.bytes.now }
 {
-    ShownAttributes {
+    ClientAttributes {
         kind: None,
         size: None,
         error: None,
@@ -34,10 +34,10 @@ fn of_owner(owner: Bytes<'_>) -> ShownAttributes<'_>
 }
 
 /// The owning group alone.
-fn of_group(group: Bytes<'_>) -> ShownAttributes<'_>
-    ensures { shown_value result ≡ of_group group.entry.bytes.now }
+fn of_group(group: Bytes<'_>) -> ClientAttributes<'_>
+    ensures { client_value result ≡ of_group group.entry.bytes.now }
 {
-    ShownAttributes {
+    ClientAttributes {
         kind: None,
         size: None,
         error: None,
@@ -52,16 +52,20 @@ fn of_group(group: Bytes<'_>) -> ShownAttributes<'_>
 
 impl<S: Transport, A: Allocator + Copy> Client<S, A> {
     /// Sets these attributes of an object.
-    fn set_shown(&mut self, path: &[u8], shown: &ShownAttributes<'_>) -> Result<(), ToolFault>
-        ensures { CommandGives S.talks (SetAsks (shown_value shown.now) path.now)
+    fn set_attributes(
+        &mut self,
+        path: &[u8],
+        attributes: &ClientAttributes<'_>,
+    ) -> Result<(), ToolFault>
+        ensures { CommandGives S.talks (SetAsks (client_value attributes.now) path.now)
             (NoPath path.now) self.old self.new result }
     {
         let path = match Path::read(self.alloc, path) {
             Ok(path) => path,
             Err(fault) => return Err(fault),
         };
-        let values = values_of(self.alloc, shown)?;
-        let op = setting(shown, values.bytes())?;
+        let values = values_of(self.alloc, attributes)?;
+        let op = setting(attributes, values.bytes())?;
         match self.ready(path.names(), op) {
             Ok(request) => self.run(request, true),
             Err(fault) => Err(fault),
@@ -75,8 +79,8 @@ impl<S: Transport, A: Allocator + Copy> Client<S, A> {
             (NoPath path.now) self.old self.new result }
     {
         self.start()?;
-        let shown = of_owner(sendable(owner)?);
-        self.set_shown(path, &shown)
+        let attributes = of_owner(sendable(owner)?);
+        self.set_attributes(path, &attributes)
     }
 
     /// Sets the owning group of an object to this text: a name and the domain of the server's book, or a number.
@@ -86,7 +90,7 @@ impl<S: Transport, A: Allocator + Copy> Client<S, A> {
             (NoPath path.now) self.old self.new result }
     {
         self.start()?;
-        let shown = of_group(sendable(group)?);
-        self.set_shown(path, &shown)
+        let attributes = of_group(sendable(group)?);
+        self.set_attributes(path, &attributes)
     }
 }

@@ -1,10 +1,10 @@
 //! A client, and one exchange by it.
 ghost use Rattle.std.specs.Prelude.{◌≡◌, ◌∷◌, [], List, MatchResult, true, false, if◌then◌else◌};
 ghost use Rattle.nfs_ops.specs.Operations.{Operation};
-ghost use Rattle.nfs_client.specs.Compound.{said};
-ghost use Rattle.nfs_client.specs.CompoundViews.{outcomes, Says};
+ghost use Rattle.nfs_client.specs.Compound.{results_to};
+ghost use Rattle.nfs_client.specs.CompoundViews.{outcomes, ResultsGive};
 ghost use Rattle.nfs_client.specs.Requests.{Asks};
-ghost use Rattle.nfs_client.specs.Taking.{SaidGives, no_value};
+ghost use Rattle.nfs_client.specs.Taking.{ReplyResultsGive, no_value};
 ghost use Rattle.nfs_client.specs.Commands.{takes_number};
 
 use crate::answer::read_answer;
@@ -25,17 +25,17 @@ pub struct Client<S, A: Allocator = Global> {
     gid: u32,
     /// The transaction of the next call.
     xid: u32,
-    /// The client's number with the server.
+    /// The client ID at the server.
     pub(crate) client: u64,
-    /// The id of the session.
+    /// The session ID.
     pub(crate) session: [u8; 16],
-    /// The number of the slot's next call.
+    /// The sequence ID of the slot's next call.
     pub(crate) number: u32,
-    /// Whether no exchange is left open. No command runs on a stream with an exchange that is open.
+    /// Whether no exchange is incomplete. On a stream with an incomplete exchange no command runs.
     pub(crate) usable: bool,
 }
 
-/// The record that came after a call, with the operations of the call.
+/// The record that was received after a call, with the operations of the call.
 #[derive(Drop)]
 pub(crate) struct Reply<A: Allocator> {
     xid: u32,
@@ -44,16 +44,16 @@ pub(crate) struct Reply<A: Allocator> {
 }
 
 impl<A: Allocator + Copy> Reply<A> {
-    /// The results of the operations, where each is OK.
+    /// The results of the operations, if each is OK.
     pub(crate) fn results(&self, alloc: A) -> Result<Vec<OpResult<'_>, A>, ToolFault>
-        ensures { Says (λ v. outcomes v.items) (said self.now.xid self.now.asked.items self.now.content.items) result }
+        ensures { ResultsGive (λ v. outcomes v.items) (results_to self.now.xid self.now.asked.items self.now.content.items) result }
     {
         read_answer(alloc, self.xid, &self.asked, &self.content)
     }
 
     /// No value: each operation is OK.
     fn done(&self, alloc: A) -> Result<(), ToolFault>
-        ensures { SaidGives no_value (said self.now.xid self.now.asked.items self.now.content.items) result }
+        ensures { ReplyResultsGive no_value (results_to self.now.xid self.now.asked.items self.now.content.items) result }
     {
         match self.results(alloc) {
             Ok(_) => Ok(()),
@@ -62,7 +62,7 @@ impl<A: Allocator + Copy> Reply<A> {
     }
 }
 
-/// Whether a call with a refused operation of this number took the slot's number.
+/// Whether a call whose operation `op` was refused consumed the slot's sequence ID.
 fn takes_number(in_session: bool, op: u32) -> bool
     ensures { result ≡ takes_number in_session op }
 {
@@ -74,9 +74,8 @@ impl<S: Transport, A: Allocator + Copy> Client<S, A> {
     ghost use Rattle.nfs_client.specs.Commands.{sequence, Concludes, Spoils, Breaks, AskGives};
     ghost use Rattle.nfs_client.specs.declared.fault.ToolFault.TheVariants.{Memory, Failed};
 
-    /// A client that goes on with a session of the client of this number, over a stream on which no
-    /// exchange is left open. The client calls as this user and in this group alone. The last
-    /// number is the number of the next call on slot 0.
+    /// A client of an open session of this client ID, over a stream without an incomplete exchange. The client calls
+    /// as this user and in this group alone. `number` is the sequence ID of the next call on slot 0.
     pub fn resume(
         alloc: A,
         stream: S,
@@ -104,14 +103,14 @@ impl<S: Transport, A: Allocator + Copy> Client<S, A> {
         }
     }
 
-    /// The stream that the client calls over.
+    /// The client's stream.
     pub fn into_stream(self) -> S
         ensures { result ≡ self.stream }
     {
         self.stream
     }
 
-    /// Sends the call of a request's operations, and takes the record after it.
+    /// Sends the call of a request's operations, and receives the record after it.
     pub(crate) fn exchange(&mut self, request: Request<A>) -> Result<Reply<A>, ToolFault>
         ensures { (ops : List Operation) → Asks request ops →
             ExchangeGives S.talks ops self.old self.new result }
@@ -125,8 +124,8 @@ impl<S: Transport, A: Allocator + Copy> Client<S, A> {
         let asked = request.into_asked();
         self.usable = false;
         self.xid = xid.wrapping_add(1);
-        let heard = self.stream.talk(self.alloc, &call);
-        match heard {
+        let received = self.stream.talk(self.alloc, &call);
+        match received {
             Ok(content) => Ok(Reply {
                 xid,
                 asked,
@@ -136,7 +135,7 @@ impl<S: Transport, A: Allocator + Copy> Client<S, A> {
         }
     }
 
-    /// A client on whose stream an exchange is left open runs no command.
+    /// A client whose stream has an incomplete exchange runs no command.
     pub(crate) fn start(&self) -> Result<(), ToolFault>
         ensures { MatchResult result (λ _. self.now.usable ≡ true)
             (λ fault. (fault ≡ Failed) × (self.now.usable ≡ false)) }
@@ -163,7 +162,7 @@ impl<S: Transport, A: Allocator + Copy> Client<S, A> {
         Ok(request)
     }
 
-    /// The exchange is over. A refused SEQUENCE doesn't take the slot's number.
+    /// The exchange is over. A refused SEQUENCE doesn't consume the slot's sequence ID.
     fn settle(&mut self, taken: bool)
         ensures { self.new ≡ record self.old {
           usable = true;
@@ -176,19 +175,19 @@ impl<S: Transport, A: Allocator + Copy> Client<S, A> {
         }
     }
 
-    /// The exchange is over where its reply gave this: the value of the results, or that the last
-    /// operation was refused. A call in a session takes the slot's number.
-    pub(crate) fn conclude<T>(&mut self, told: &Result<T, ToolFault>, in_session: bool)
-        ensures { Concludes in_session told.now self.old self.new }
+    /// The exchange is over if its reply gave this: the value of the results, or a refusal of the last operation. A
+    /// call in a session consumes the slot's sequence ID.
+    pub(crate) fn conclude<T>(&mut self, outcome: &Result<T, ToolFault>, in_session: bool)
+        ensures { Concludes in_session outcome.now self.old self.new }
     {
-        match told {
+        match outcome {
             Ok(_) => self.settle(in_session),
             Err(ToolFault::Refused(op, _)) => self.settle(takes_number(in_session, *op)),
             Err(_) => {}
         }
     }
 
-    /// Asks a request's operations, where it is enough that they are OK.
+    /// Sends a request's operations, when it is enough that they are OK.
     pub(crate) fn run(&mut self, request: Request<A>, in_session: bool) -> Result<(), ToolFault>
         ensures { (ops : List Operation) → Asks request ops →
             AskGives S.talks no_value (record { ops = ops; in_session = in_session })
@@ -198,26 +197,26 @@ impl<S: Transport, A: Allocator + Copy> Client<S, A> {
             Ok(reply) => reply,
             Err(fault) => return Err(fault),
         };
-        let told = reply.done(self.alloc);
-        self.conclude(&told, in_session);
-        told
+        let outcome = reply.done(self.alloc);
+        self.conclude(&outcome, in_session);
+        outcome
     }
 
-    /// A client on which a command failed for want of memory, once a call was written, runs no other command.
-    pub(crate) fn spoil<T>(&mut self, told: &Result<T, ToolFault>)
-        ensures { Spoils told.now self.old self.new }
+    /// If an allocation failed after a call was written, the client runs no other command.
+    pub(crate) fn spoil<T>(&mut self, outcome: &Result<T, ToolFault>)
+        ensures { Spoils outcome.now self.old self.new }
     {
-        if let Err(ToolFault::Memory) = told {
+        if let Err(ToolFault::Memory) = outcome {
             self.usable = false;
         }
     }
 
-    /// A client whose command ended in the middle, for want of memory or since a call is too large,
-    /// runs no other command.
-    pub(crate) fn break_off<T>(&mut self, told: &Result<T, ToolFault>)
-        ensures { Breaks told.now self.old self.new }
+    /// If an allocation failed or a call was too large in the middle of the command, the client runs no other
+    /// command.
+    pub(crate) fn break_off<T>(&mut self, outcome: &Result<T, ToolFault>)
+        ensures { Breaks outcome.now self.old self.new }
     {
-        if let Err(ToolFault::Memory | ToolFault::TooLarge) = told {
+        if let Err(ToolFault::Memory | ToolFault::TooLarge) = outcome {
             self.usable = false;
         }
     }

@@ -1,22 +1,22 @@
-//! Entries of access control lists as text.
+//! Entries of access control lists (ACEs) as text.
 ghost use Rattle.std.specs.Prelude.{◌≡◌, ◌<◌, ◌^◌, ◌≤◌, ◌++◌, ◌∷◌, [], List, ℕ, Some, None, option_map, IfSome, OnOk};
 ghost use Rattle.nfs_client.specs.Digits.{hex_digit, digit_in, hex_byte, byte_in, hex_word};
-ghost use Rattle.nfs_client.specs.Entries.{EntryLine, letter, kind_in, kind_at, byte_at, word_at, behind_colon};
+ghost use Rattle.nfs_client.specs.Entries.{EntryLine, letter, kind_in, kind_at, byte_at, word_at, after_colon};
 ghost use Rattle.nfs_client.specs.Entries.{entry_in, entry_head, entry_text};
 
 use acl_list::EntryKind;
 use std::alloc::{AllocError, Allocator};
 
-/// An entry of a list as text, `TYPE:FLAGS:MASK:WHO`.
+/// An ACE (access control entry) as text, `TYPE:FLAGS:MASK:WHO`.
 #[derive(Clone, Copy, Debug)]
 pub struct EntryText<'a> {
-    /// The type of the entry.
+    /// The type of the ACE.
     pub kind: EntryKind,
-    /// The flags of the entry.
+    /// The flags of the ACE.
     pub flags: u8,
-    /// The mask of the entry.
+    /// The mask of the ACE.
     pub mask: u32,
-    /// The who of the entry, as text.
+    /// The principal of the ACE, as text.
     pub who: &'a [u8],
 }
 
@@ -42,7 +42,7 @@ fn byte(high: u8, low: u8) -> Option<u8>
     Some(16 * high + low)
 }
 
-/// Two hexadecimal digits at the front, and the rest after them.
+/// Two hexadecimal digits at the start, and the rest after them.
 fn byte_at(text: &[u8]) -> Option<(u8, &[u8])>
     ensures { option_map (λ x. (x.0, x.1.now)) result ≡ byte_at text.now }
 {
@@ -52,7 +52,7 @@ fn byte_at(text: &[u8]) -> Option<(u8, &[u8])>
     }
 }
 
-/// Eight hexadecimal digits at the front, and the rest after them.
+/// Eight hexadecimal digits at the start, and the rest after them.
 fn word_at(text: &[u8]) -> Option<(u32, &[u8])>
     ensures { option_map (λ x. (x.0, x.1.now)) result ≡ word_at text.now }
 {
@@ -63,9 +63,9 @@ fn word_at(text: &[u8]) -> Option<(u32, &[u8])>
     Some((u32::from_be_bytes([a, b, c, d]), rest))
 }
 
-/// The rest after a colon at the front.
-fn behind_colon(text: &[u8]) -> Option<&[u8]>
-    ensures { option_map (λ rest. rest.now) result ≡ behind_colon text.now }
+/// The rest after a colon at the start.
+fn after_colon(text: &[u8]) -> Option<&[u8]>
+    ensures { option_map (λ rest. rest.now) result ≡ after_colon text.now }
 {
     match text {
         [b':', rest @ ..] => Some(rest),
@@ -73,7 +73,7 @@ fn behind_colon(text: &[u8]) -> Option<&[u8]>
     }
 }
 
-/// The type of an entry by its letter.
+/// The type of an ACE by its letter.
 fn kind(letter: u8) -> Option<EntryKind>
     ensures { result ≡ kind_in letter }
 {
@@ -86,7 +86,7 @@ fn kind(letter: u8) -> Option<EntryKind>
     }
 }
 
-/// The letter of an entry's type.
+/// The letter of an ACE's type.
 fn letter(kind: EntryKind) -> u8
     ensures { result ≡ letter kind }
 {
@@ -98,7 +98,7 @@ fn letter(kind: EntryKind) -> u8
     }
 }
 
-/// The type of an entry by the letter at the front, and the rest after it.
+/// The type of an ACE by the letter at the start, and the rest after it.
 fn kind_at(text: &[u8]) -> Option<(EntryKind, &[u8])>
     ensures { option_map (λ x. (x.0, x.1.now)) result ≡ kind_at text.now }
 {
@@ -139,16 +139,15 @@ pub(crate) fn hex_word(value: u32) -> [u8; 8]
 impl<'a> EntryText<'a> {
     ghost use Rattle.nfs_client.specs.EntryViews.{entry_line};
 
-    /// The entry of a text: a letter (A, D, U or L), two and eight hexadecimal digits in either
-    /// case, and a who. A colon stands before each but the first. The who is all after the third
-    /// colon.
+    /// The ACE of a text: a letter (A, D, U or L), two and eight hexadecimal digits in either case, and a principal.
+    /// A colon precedes each but the first. The principal is all of the text after the third colon.
     pub fn read(text: &'a [u8]) -> Option<Self>
         ensures { option_map entry_line result ≡ entry_in text.entry.now }
     {
         let (kind, rest) = kind_at(text)?;
-        let (flags, rest) = byte_at(behind_colon(rest)?)?;
-        let (mask, rest) = word_at(behind_colon(rest)?)?;
-        let who = behind_colon(rest)?;
+        let (flags, rest) = byte_at(after_colon(rest)?)?;
+        let (mask, rest) = word_at(after_colon(rest)?)?;
+        let who = after_colon(rest)?;
         Some(EntryText {
             kind,
             flags,
@@ -157,7 +156,7 @@ impl<'a> EntryText<'a> {
         })
     }
 
-    /// The text before the who.
+    /// The text before the principal.
     fn head(&self) -> [u8; 14]
         ensures { result ≡ entry_head (entry_line self.now) }
     {
@@ -167,7 +166,7 @@ impl<'a> EntryText<'a> {
         [kind, b':', f, g, b':', a, b, c, d, h, i, j, k, b':']
     }
 
-    /// Puts the entry as text, its digits in lower case.
+    /// Appends the ACE as text, its digits in lower case.
     pub fn put<A: Allocator>(&self, out: &mut Vec<u8, A>) -> Result<(), AllocError>
         ensures { OnOk result (out.new.items ≡ out.old.items ++ entry_text (entry_line self.now)) }
     {
@@ -176,7 +175,7 @@ impl<'a> EntryText<'a> {
     }
 }
 
-/// An entry as text is read as the same entry.
+/// An ACE as text is read as the same ACE.
 pub fn an_entry_as_text_is_read()
     ensures { (e : EntryLine) → e.flags < 256 → e.mask < 2 ^ 32 → entry_in (entry_text e) ≡ Some e }
 {}

@@ -6,16 +6,16 @@ use nfs_types::Status;
 use std::alloc::{AllocError, AllocFailed};
 use thiserror::Error;
 
-/// The fault of a command without an answer.
+/// Why a command has no answer.
 #[derive(Clone, Copy, Debug, PartialEq, Eq, Error)]
 pub enum ToolFault {
-    /// A path is neither `/` nor names each with `/` in front, or `/` is given for a name.
+    /// A path is neither `/` nor names each with `/` before it, or a name is needed and `/` is given.
     #[error("no path, or no name in it")]
     Path,
     /// The server refused the operation of this number with this status.
     #[error("operation {0} was refused")]
     Refused(u32, Status),
-    /// The record that came is no reply to the call.
+    /// The received record is no reply to the call.
     #[error("no reply to the call")]
     Reply,
     /// The stream can't be read, or ended inside a reply, or a reply took too many reads.
@@ -24,17 +24,17 @@ pub enum ToolFault {
     /// The stream can't be written.
     #[error("the stream can't be written")]
     Write,
-    /// Memory ran out.
+    /// An allocation failed.
     #[error("out of memory")]
     Memory,
-    /// A mode isn't one to four octal digits, or an entry can't be read.
+    /// A mode isn't one to four octal digits, or an ACE can't be read.
     #[error("no mode, or no entry")]
     Entry,
-    /// An earlier command left the stream in a state in which no other command can follow.
+    /// An earlier command left the stream in a state in which no other command can run.
     #[error("an earlier command failed")]
     Failed,
-    /// A call would be a record of more than 131,072 bytes, which no server takes; or the owner of a
-    /// client has more than 1,024 bytes.
+    /// The call's record would have more than 131,072 bytes, which no server takes; or the owner of a client has more
+    /// than 1,024 bytes.
     #[error("a call is too large")]
     TooLarge,
 }

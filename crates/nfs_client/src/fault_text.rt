@@ -64,7 +64,7 @@ impl FaultText {
         self.push(buffer.format(number).as_bytes());
     }
 
-    /// Puts the name of the operation of a number, or the number where this server has no such operation.
+    /// Appends the name of the operation of a number, or the number if this server has no such operation.
     fn push_operation(&mut self, op: u32)
         requires { length self.old + 20 ≤ MOST_TEXT }
         ensures text { self.new ≡ self.old ++ operation_text op }
@@ -106,9 +106,8 @@ fn failed_text(number: u32) -> FaultText
 }
 
 impl ToolFault {
-    /// The text that a program prints: `refused OP STATUS` by the names of both, as in
-    /// `refused READ ACCESS`. For any other fault it is `failed N` with its number. `text` takes no
-    /// memory.
+    /// The text that a program prints: `refused OP STATUS` by the names of both, as in `refused READ ACCESS`. For any
+    /// other fault it is `failed N` with its number. It allocates no memory.
     pub fn text(self) -> FaultText
         ensures { result ≡ fault_text self }
     {

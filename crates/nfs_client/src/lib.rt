@@ -1,7 +1,9 @@
-//! A client of NFS version 4.1 (RFC 8881): its commands as words, and each command as calls and replies over a stream.
+//! A client of NFS version 4.1 (RFC 8881): its commands as words, and each command as calls and replies over a
+//! stream.
 #![tactic(auto)]
 
 mod access;
+mod acl_part;
 mod answer;
 mod approach;
 mod attributes;
@@ -13,7 +15,6 @@ mod entry_text;
 mod fault;
 mod fault_text;
 mod getacl;
-mod list_part;
 mod listing;
 mod ln;
 mod ls;
@@ -37,13 +38,13 @@ mod taking;
 mod transport;
 mod words;
 
+pub use acl_part::AclPart;
 pub use attributes::Given;
 pub use client::Client;
 pub use entry_text::{EntryText, an_entry_as_text_is_read};
 pub use fault::ToolFault;
 pub use fault_text::FaultText;
-pub use list_part::ListPart;
-pub use listing::{Listed, columns_are_told_apart};
+pub use listing::{Listed, columns_are_unambiguous};
 pub use modes::{mode_text, read_mode};
 pub use path::Path;
 pub use running::Answer;

@@ -10,7 +10,7 @@ use crate::modes::mode_text;
 use itoa::Buffer;
 use std::alloc::{AllocError, Allocator};
 
-/// The column of an attribute that isn't known.
+/// The column of an unknown attribute.
 const UNKNOWN: &[u8] = b"?";
 
 /// The known attributes of an entry of a directory.
@@ -26,7 +26,7 @@ pub struct Listed<'a> {
     pub name: &'a [u8],
 }
 
-/// These bytes end the columns and the lines of a listing.
+/// Which bytes end the columns and the lines of a listing.
 #[derive(Clone, Copy, Debug)]
 pub(crate) enum Ends {
     /// A space between two columns, and a newline after a line. A name may have both.
@@ -57,7 +57,7 @@ impl Ends {
     }
 }
 
-/// Puts a column and this byte after the column.
+/// Appends a column and this byte after it.
 fn put_column<A: Allocator>(out: &mut Vec<u8, A>, text: &[u8], end: u8) -> Result<(), AllocError>
     ensures { OnOk result (out.new.items ≡ out.old.items ++ (text.now ++ end ∷ [])) }
 {
@@ -117,7 +117,7 @@ fn put_size<A: Allocator>(
     }
 }
 
-/// Whether a text that is known has a zero byte in it.
+/// Whether a known text has a zero byte in it.
 fn has_zero(text: Option<&[u8]>) -> bool
     ensures { result ≡ has_zero (text_column (option_map (λ t. t.now) text.entry)) }
 {
@@ -130,7 +130,7 @@ fn has_zero(text: Option<&[u8]>) -> bool
 impl Listed<'_> {
     ghost use Rattle.nfs_client.specs.LineViews.{listed};
 
-    /// Whether a column has the byte that ends columns, where none may have it.
+    /// Whether a column has the byte that ends columns, if no column may have it.
     pub(crate) fn is_torn(&self, ends: Ends) -> bool
         ensures { result ≡ is_torn ends (listed self.now) }
     {
@@ -142,7 +142,7 @@ impl Listed<'_> {
         }
     }
 
-    /// Puts the columns, with their end between two.
+    /// Appends the columns, with their end between two.
     pub(crate) fn put_with<A: Allocator>(
         &self,
         out: &mut Vec<u8, A>,
@@ -159,8 +159,8 @@ impl Listed<'_> {
         out.extend_from_slice(self.name)
     }
 
-    /// Puts the line: kind, mode, owner, group, size and name, with a space between two. `?` is an
-    /// attribute that isn't known.
+    /// Appends the line: type, mode, owner, group, size and name, with a space between two. `?` is an unknown
+    /// attribute.
     pub fn put<A: Allocator>(&self, out: &mut Vec<u8, A>) -> Result<(), AllocError>
         ensures { OnOk result (out.new.items ≡ out.old.items ++ line (listed self.now)) }
     {
@@ -168,8 +168,8 @@ impl Listed<'_> {
     }
 }
 
-/// The columns of entries are told apart by the zero byte after each, whatever bytes names and owners have.
-pub fn columns_are_told_apart()
+/// The columns of entries are unambiguous by the zero byte after each, whatever bytes names and owners have.
+pub fn columns_are_unambiguous()
     ensures { (ls : List lines.Listed) (text : List ℕ) → All (λ l. IsSize l.size) ls →
         lines_of 0 (line_with ends.Zeros) ls ≡ Some text → parts text ≡ flat_map columns_of ls }
 {}

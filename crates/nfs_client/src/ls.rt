@@ -5,10 +5,10 @@ ghost use Rattle.nfs_types.specs.Views.{bitmap_value};
 ghost use Rattle.nfs_ops.specs.Forms as forms;
 ghost use Rattle.nfs_ops.specs.ItemViews.{entry_value};
 ghost use Rattle.nfs_ops.specs.ResultViews.{read_view};
-ghost use Rattle.nfs_client.specs.Compound.{said};
+ghost use Rattle.nfs_client.specs.Compound.{results_to};
 ghost use Rattle.nfs_client.specs.Ls.{AreListed, list_from, page_of, text_of, by_listings, PutsEntry, PutsEntries};
 ghost use Rattle.nfs_client.specs.Ls.{PutsPage, PageTaken, ListGives, LinesGive, LsGives, LsZeroGives};
-ghost use Rattle.nfs_client.specs.Paging.{PagesGive, so_far};
+ghost use Rattle.nfs_client.specs.Paging.{PagesGive, gathered_so_far};
 ghost use Rattle.nfs_client.specs.Requests.{Asks, PutGives};
 ghost use Rattle.nfs_client.specs.RouteViews.{route_value};
 ghost use Rattle.nfs_client.specs.declared.fault.ToolFault.TheVariants.{Failed};
@@ -56,16 +56,17 @@ fn text_in(text: Option<Bytes<'_>>) -> Option<&[u8]>
 /// The lines of a directory, as far as it is listed.
 #[derive(Drop)]
 pub(crate) struct Listing<A: Allocator> {
-    /// A line for each given entry, with its end after it.
+    /// A line for each returned entry, with its end after it.
     text: Vec<u8, A>,
-    /// These bytes end the columns and the lines.
+    /// Which bytes end the columns and the lines.
     ends: Ends,
-    /// The cookie of the last given entry, 0 before the first.
+    /// The cookie of the last returned entry, 0 before the first.
     cookie: u64,
 }
 
 impl<A: Allocator> Listing<A> {
-    /// Puts the line of an entry. `Reply`: its attributes can't be read, or a column has the byte that ends columns.
+    /// Appends the line of an entry. `Reply`: its attributes can't be read, or a column has the byte that ends
+    /// columns.
     fn put(&mut self, entry: Entry<'_>) -> Result<(), ToolFault>
         ensures { PutsEntry self.old self.new (entry_value entry.entry) result }
     {
@@ -89,7 +90,7 @@ impl<A: Allocator> Listing<A> {
         Ok(())
     }
 
-    /// Puts the line of each entry. `Reply`: an entry has none.
+    /// Appends the line of each entry. `Reply`: an entry has none.
     fn put_all<'a>(&mut self, entries: Chain<'a, Entry<'a>>) -> Result<(), ToolFault>
         ensures { PutsEntries self.old self.new
             (chain_values forms.entry (Some forms.entry_normal) entries.entry.bytes.now) result }
@@ -104,15 +105,15 @@ impl<A: Allocator> Listing<A> {
         Ok(())
     }
 
-    /// Puts the lines of the page in a result. Whether the directory ends after it.
+    /// Appends the lines of the page in a result. Returns whether the directory ends after it.
     fn put_page(&mut self, found: Option<OpResult<'_>>) -> Result<bool, ToolFault>
         ensures { PutsPage self.old self.new
             (option_and_then (page_of self.old.ends) (option_map read_view found.entry)) result }
     {
-        let Some(OpResult::ReadDir(told)) = found else {
+        let Some(OpResult::ReadDir(outcome)) = found else {
             return Err(ToolFault::Reply);
         };
-        let ReadDirResult { entries, eof } = told;
+        let ReadDirResult { entries, eof } = outcome;
         match self.put_all(entries) {
             Ok(()) => Ok(eof),
             Err(fault) => Err(fault),
@@ -121,9 +122,9 @@ impl<A: Allocator> Listing<A> {
 }
 
 impl<A: Allocator + Copy> Reply<A> {
-    /// Puts the lines of the page at the end of the results. Whether the directory ends after it.
+    /// Appends the lines of the page at the end of the results. Returns whether the directory ends after it.
     fn put_page(&self, alloc: A, listing: &mut Listing<A>) -> Result<bool, ToolFault>
-        ensures { PageTaken (said self.now.xid self.now.asked.items self.now.content.items) listing.old listing.new
+        ensures { PageTaken (results_to self.now.xid self.now.asked.items self.now.content.items) listing.old listing.new
             result }
     {
         match self.results(alloc) {
@@ -136,8 +137,8 @@ impl<A: Allocator + Copy> Reply<A> {
 impl<S: Transport, A: Allocator + Copy> Client<S, A> {
     ghost use Rattle.std.specs.Prelude.{IfOk};
 
-    /// The request of the entries after this cookie.
-    fn prepare_list(
+    /// The request for the entries after this cookie.
+    fn prepare_acl(
         &self,
         route: &Route<'_, A>,
         asked: Bitmap,
@@ -157,7 +158,7 @@ impl<S: Transport, A: Allocator + Copy> Client<S, A> {
         self.request_along(route, op)
     }
 
-    /// Lists the entries after those listed so far. Whether the directory ends after them.
+    /// Lists the entries after those listed by now. Returns whether the directory ends after them.
     fn list_page(
         &mut self,
         route: &Route<'_, A>,
@@ -165,19 +166,19 @@ impl<S: Transport, A: Allocator + Copy> Client<S, A> {
         listing: &mut Listing<A>,
     ) -> Result<bool, ToolFault>
         ensures { ListGives S.talks (route_value route.now) (bitmap_value asked)
-            (so_far self.old listing.old) (so_far self.new listing.new) result }
+            (gathered_so_far self.old listing.old) (gathered_so_far self.new listing.new) result }
     {
-        let request = self.prepare_list(route, asked, listing.cookie)?;
+        let request = self.prepare_acl(route, asked, listing.cookie)?;
         let reply = match self.exchange(request) {
             Ok(reply) => reply,
             Err(fault) => return Err(fault),
         };
-        let told = reply.put_page(self.alloc, listing);
-        self.conclude(&told, true);
-        told
+        let outcome = reply.put_page(self.alloc, listing);
+        self.conclude(&outcome, true);
+        outcome
     }
 
-    /// Lists page after page.
+    /// Lists one page after the other.
     fn list_all(
         &mut self,
         route: &Route<'_, A>,
@@ -193,9 +194,9 @@ impl<S: Transport, A: Allocator + Copy> Client<S, A> {
             cookie: 0,
         };
         for _call in 0..MOST_CALLS {
-            let told = self.list_page(route, asked, &mut listing);
-            self.spoil(&told);
-            match told {
+            let outcome = self.list_page(route, asked, &mut listing);
+            self.spoil(&outcome);
+            match outcome {
                 Ok(true) => return Ok(listing.text),
                 Ok(false) => {}
                 Err(fault) => return Err(fault),
@@ -233,9 +234,9 @@ impl<S: Transport, A: Allocator + Copy> Client<S, A> {
         self.list(path, Ends::Blanks)
     }
 
-    /// As `ls`, with a zero byte in place of each space between two columns and of each newline
-    /// after a line. So the columns can be told apart, whatever bytes names and owners have.
-    /// `Reply` also: an owner, an owning group or a name has a zero byte.
+    /// As `ls`, with a zero byte for each space between two columns and for each newline after a line. So the columns
+    /// are unambiguous, whatever bytes names and owners have. `Reply` also: an owner, an owning group or a name has a
+    /// zero byte.
     pub fn ls_zero(&mut self, path: &[u8]) -> Result<Vec<u8, A>, ToolFault>
         ensures failed { self.old.usable ≡ false → result ≡ Err Failed }
         ensures gives { LsZeroGives S.talks (λ v. v.items) path.now

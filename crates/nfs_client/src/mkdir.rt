@@ -15,7 +15,7 @@ use nfs_types::{Attributes, Bitmap};
 use std::alloc::Allocator;
 
 impl<S: Transport, A: Allocator + Copy> Client<S, A> {
-    /// Creates a directory, which inherits its access control list.
+    /// Creates a directory, which inherits its ACL (access control list).
     pub fn mkdir(&mut self, path: &[u8]) -> Result<(), ToolFault>
         ensures failed { self.old.usable ≡ false → result ≡ Err Failed }
         ensures gives { CommandGives S.talks (MkDirAsks path.now) (WrongPath path.now)

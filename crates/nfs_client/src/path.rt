@@ -1,14 +1,14 @@
 //! Paths.
 ghost use Rattle.std.specs.Prelude.{◌≡◌, map, option_map, IfOk};
 ghost use Rattle.std.specs.List.{list_all, slice_split};
-ghost use Rattle.nfs_client.specs.Paths.{is_slash, is_name, behind_slash};
+ghost use Rattle.nfs_client.specs.Paths.{is_slash, is_name, after_slash};
 ghost use Rattle.nfs_client.specs.PathViews.{PathGives};
 
 use crate::fault::ToolFault;
 use std::alloc::{AllocError, Allocator, Global};
 use std::marker::Model;
 
-/// The names of a path, from the root on, lent from its text.
+/// The names of a path, from the root on, borrowed from its text.
 #[derive(Drop)]
 pub struct Path<'a, A: Allocator = Global> {
     names: Vec<&'a [u8], A>,
@@ -22,9 +22,9 @@ impl<'a, A: Allocator> Model for Path<'a, A> {
     ghost view = { λ p. map (λ n. n.now) p.names.items };
 }
 
-/// The rest after a slash at the front.
-fn behind_slash(text: &[u8]) -> Option<&[u8]>
-    ensures { option_map (λ rest. rest.now) result ≡ behind_slash text.now }
+/// The rest after a slash at the start.
+fn after_slash(text: &[u8]) -> Option<&[u8]>
+    ensures { option_map (λ rest. rest.now) result ≡ after_slash text.now }
 {
     match text {
         [b'/', rest @ ..] => Some(rest),
@@ -47,12 +47,12 @@ fn are_names(parts: &[&[u8]]) -> bool
 }
 
 impl<'a, A: Allocator> Path<'a, A> {
-    /// The path of a text: `/`, or names each with `/` in front. `Path`: the text is neither, as
-    /// `//` or a name with `/` after it. A name isn't looked at, since the server does that.
+    /// The path of a text: `/`, or names each with `/` before it. `Path`: the text is neither, as `//` or a name with
+    /// `/` after it. The names aren't checked, since the server does that.
     pub fn read(alloc: A, text: &'a [u8]) -> Result<Self, ToolFault>
         ensures { PathGives (λ path. path) text.entry.now result }
     {
-        let Some(rest) = behind_slash(text) else {
+        let Some(rest) = after_slash(text) else {
             return Err(ToolFault::Path);
         };
         if rest.is_empty() {

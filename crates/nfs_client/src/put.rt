@@ -1,26 +1,26 @@
 //! Making a text the bytes of a file.
 ghost use Rattle.std.specs.Prelude.{◌≡◌, ◌≤◌, ◌<◌, ◌+◌, ◌^◌, ℕ, false, true, Err, List, IfOk, length, map, option_map};
 ghost use Rattle.std.specs.Prelude.{◌++◌, option_and_then, OnOk};
-ghost use Rattle.nfs_types.specs.ShownViews.{shown_value};
+ghost use Rattle.nfs_types.specs.ClientViews.{client_value};
 ghost use Rattle.nfs_types.specs.Views.{stateid_value, handle_value};
 ghost use Rattle.nfs_ops.specs.Operations.{Operation};
 ghost use Rattle.nfs_ops.specs.ResultViews.{read_view};
 ghost use Rattle.nfs_ops.specs.OpViews.{op_view};
 ghost use Rattle.nfs_client.specs.Commands.{AskGives, within_session};
-ghost use Rattle.nfs_client.specs.Compound.{said};
+ghost use Rattle.nfs_client.specs.Compound.{results_to};
 ghost use Rattle.nfs_client.specs.CompoundViews.{outcomes};
 ghost use Rattle.nfs_client.specs.Paging.{itself};
 ghost use Rattle.nfs_client.specs.Put.{size_at_open, stateid_of, open_by, open_in, written_of, write_in, written_in};
 ghost use Rattle.nfs_client.specs.Put.{with_write, write_to, close_it, piece, WriteGives, CloseGives, TextGives};
-ghost use Rattle.nfs_client.specs.Put.{ClosesBehind, FileGives};
+ghost use Rattle.nfs_client.specs.Put.{ClosesAfterWrite, FileGives};
 ghost use Rattle.nfs_client.specs.Put.{open_along, PutAlong, PutCommandGives};
 ghost use Rattle.nfs_client.specs.PutViews.{open_value};
 ghost use Rattle.nfs_client.specs.RouteViews.{route_value};
 ghost use Rattle.nfs_client.specs.Requests.{Asks, PutGives};
-ghost use Rattle.nfs_client.specs.Taking.{SaidGives, TakeGives, taking};
+ghost use Rattle.nfs_client.specs.Taking.{ReplyResultsGive, TakeGives, taking};
 ghost use Rattle.nfs_client.specs.declared.fault.ToolFault.TheVariants.{Failed};
 
-use crate::approach::{handle_bytes, handle_told};
+use crate::approach::{handle_bytes, handle_from};
 use crate::client::{Client, Reply};
 use crate::fault::ToolFault;
 use crate::path::Place;
@@ -32,7 +32,7 @@ use crate::transport::Transport;
 use nfs_ops::{
     CloseArgs, Op, OpResult, OpenArgs, OpenClaim, OpenHow, PutFhArgs, StableHow, WriteArgs,
 };
-use nfs_types::{Attributes, Handle, ShownAttributes, StateId};
+use nfs_types::{Attributes, ClientAttributes, Handle, StateId};
 use std::alloc::Allocator;
 use xdr_wire::Opaque;
 
@@ -42,12 +42,12 @@ const FOR_WRITING: u32 = 2;
 /// The most bytes of one WRITE.
 const MOST_WRITTEN: usize = 32_768;
 
-/// The bytes that a file has as it is opened.
+/// What happens to the bytes of a file when it is opened.
 #[derive(Clone, Copy)]
 pub(crate) enum OldBytes {
-    /// The file is emptied.
+    /// The file is truncated.
     Dropped,
-    /// They stay until others are written. An empty text empties the file.
+    /// They stay until others are written. An empty text truncates the file.
     Kept,
 }
 
@@ -62,7 +62,7 @@ pub(crate) struct Opened<A: Allocator> {
 /// The owner of an open, within its client.
 const OWNER: &[u8] = b"nfsc";
 
-/// The size that a file gets as it is opened. Without one its bytes stay.
+/// The size that a file gets when it is opened. `None`: its bytes stay.
 fn size_at_open(over: OldBytes, text: &[u8]) -> Option<u64>
     ensures { result ≡ size_at_open over text.now }
 {
@@ -74,17 +74,17 @@ fn size_at_open(over: OldBytes, text: &[u8]) -> Option<u64>
 }
 
 /// The stateid in the result of an OPEN.
-fn stateid_told(found: OpResult<'_>) -> Option<StateId>
+fn stateid_of_open(found: OpResult<'_>) -> Option<StateId>
     ensures { option_map stateid_value result ≡ stateid_of (read_view found.entry) }
 {
     match found {
-        OpResult::Open(told) => Some(told.stateid),
+        OpResult::Open(outcome) => Some(outcome.stateid),
         _ => None,
     }
 }
 
 /// The open at the end of results: of an OPEN and of the GETFH after it.
-fn open_told<A: Allocator + Copy>(
+fn open_from<A: Allocator + Copy>(
     alloc: A,
     results: Vec<OpResult<'_>, A>,
 ) -> Result<Opened<A>, ToolFault>
@@ -93,18 +93,18 @@ fn open_told<A: Allocator + Copy>(
     let Some((before, last)) = last_two(results) else {
         return Err(ToolFault::Reply);
     };
-    let Some(stateid) = stateid_told(before) else {
+    let Some(stateid) = stateid_of_open(before) else {
         return Err(ToolFault::Reply);
     };
-    let Some(handle) = handle_told(last) else {
+    let Some(handle) = handle_from(last) else {
         return Err(ToolFault::Reply);
     };
     let handle = handle_bytes(alloc, handle)?;
     Ok(Opened { stateid, handle })
 }
 
-/// The result of a WRITE. It is the last one, or the one before that of its SETATTR.
-fn write_told<'a, A: Allocator>(
+/// The result of a WRITE. It is the last result, or the one before that of its SETATTR.
+fn write_result_of<'a, A: Allocator>(
     over: OldBytes,
     results: Vec<OpResult<'a>, A>,
 ) -> Option<OpResult<'a>>
@@ -116,15 +116,14 @@ fn write_told<'a, A: Allocator>(
     }
 }
 
-/// The count of a WRITE's result, of this many bytes that were sent. None: the result has no such
-/// count.
+/// The count of a WRITE's result, if `sent` bytes were sent. `None`: the result has no valid count.
 fn written(found: Option<OpResult<'_>>, sent: usize) -> Option<usize>
     ensures { result ≡ option_and_then (written_of sent) (option_map read_view found.entry) }
 {
-    let Some(OpResult::Write(told)) = found else {
+    let Some(OpResult::Write(outcome)) = found else {
         return None;
     };
-    let count = told.count as usize;
+    let count = outcome.count as usize;
     if 1 <= count && count <= sent {
         Some(count)
     } else {
@@ -132,7 +131,7 @@ fn written(found: Option<OpResult<'_>>, sent: usize) -> Option<usize>
     }
 }
 
-/// The bytes of the next WRITE, of those left.
+/// The bytes of the next WRITE, among the remaining ones.
 fn piece(left: &[u8]) -> &[u8]
     ensures { result.now ≡ piece left.now }
 {
@@ -144,7 +143,7 @@ fn piece(left: &[u8]) -> &[u8]
 }
 
 impl<A: Allocator> Opened<A> {
-    /// The filehandle as it is sent.
+    /// The filehandle as sent.
     fn handle(&self) -> Result<Handle<'_>, ToolFault>
         ensures sent { IfOk result (λ h. handle_value h ≡ self.now.handle.items) }
         ensures memory { PutGives result }
@@ -156,22 +155,22 @@ impl<A: Allocator> Opened<A> {
 impl<A: Allocator + Copy> Reply<A> {
     /// The open at the end of the results.
     fn opened(&self, alloc: A) -> Result<Opened<A>, ToolFault>
-        ensures { SaidGives (taking open_in open_value) (said self.now.xid self.now.asked.items self.now.content.items)
+        ensures { ReplyResultsGive (taking open_in open_value) (results_to self.now.xid self.now.asked.items self.now.content.items)
             result }
     {
         match self.results(alloc) {
-            Ok(results) => open_told(alloc, results),
+            Ok(results) => open_from(alloc, results),
             Err(fault) => Err(fault),
         }
     }
 
-    /// The count of a WRITE, of this many bytes that were sent.
+    /// The count of a WRITE, if `sent` bytes were sent.
     fn written(&self, alloc: A, over: OldBytes, sent: usize) -> Result<usize, ToolFault>
-        ensures { SaidGives (taking (written_in over sent) itself)
-            (said self.now.xid self.now.asked.items self.now.content.items) result }
+        ensures { ReplyResultsGive (taking (written_in over sent) itself)
+            (results_to self.now.xid self.now.asked.items self.now.content.items) result }
     {
         match self.results(alloc) {
-            Ok(results) => match written(write_told(over, results), sent) {
+            Ok(results) => match written(write_result_of(over, results), sent) {
                 Some(count) => Ok(count),
                 None => Err(ToolFault::Reply),
             },
@@ -180,21 +179,21 @@ impl<A: Allocator + Copy> Reply<A> {
     }
 }
 
-/// OPEN for writing of the file of this name, which is created where there is none, with these
-/// attributes by these values.
+/// OPEN for writing of the file of this name, with these attributes by these values. The file is created if there is
+/// none.
 fn opening<'a>(
     client: u64,
     name: &'a [u8],
-    shown: &ShownAttributes<'_>,
+    attributes: &ClientAttributes<'_>,
     values: &'a [u8],
 ) -> Result<Op<'a>, ToolFault>
     ensures asks { IfOk result (λ op. op_view op ≡
-        open_by (shown_value shown.now) values.entry.now client name.entry.now) }
+        open_by (client_value attributes.now) values.entry.now client name.entry.now) }
     ensures memory { PutGives result }
 {
     let name = sendable(name)?;
     let values = sendable(values)?;
-    let set = shown.set();
+    let set = attributes.set();
     let Some(owner) = Opaque::new(OWNER) else {
         return Err(ToolFault::Memory);
     };
@@ -210,9 +209,8 @@ fn opening<'a>(
 }
 
 impl<A: Allocator + Copy> Request<A> {
-    /// Puts the operation after a WRITE, by which the file gets this size. Without the size the end
-    /// of a longer text would stay. A size before the bytes would leave a file empty whose WRITE is
-    /// refused.
+    /// Appends the operation after a WRITE that sets the file's size. Without it the end of a longer old text would
+    /// stay. If the size were set before the bytes, a refused WRITE would leave an empty file.
     fn put_with_write(
         &mut self,
         alloc: A,
@@ -241,9 +239,9 @@ impl<S: Transport, A: Allocator + Copy> Client<S, A> {
             Ok(reply) => reply,
             Err(fault) => return Err(fault),
         };
-        let told = reply.opened(self.alloc);
-        self.conclude(&told, true);
-        told
+        let outcome = reply.opened(self.alloc);
+        self.conclude(&outcome, true);
+        outcome
     }
 
     /// The request that writes bytes of an open file from an offset on.
@@ -273,7 +271,7 @@ impl<S: Transport, A: Allocator + Copy> Client<S, A> {
         Ok(request)
     }
 
-    /// Writes bytes of an open file from an offset on, or some of the first of these bytes. How many were written.
+    /// Writes a prefix of these bytes to an open file, from an offset on. Returns how many were written.
     fn write_piece(
         &mut self,
         over: OldBytes,
@@ -290,9 +288,9 @@ impl<S: Transport, A: Allocator + Copy> Client<S, A> {
             Ok(reply) => reply,
             Err(fault) => return Err(fault),
         };
-        let told = reply.written(self.alloc, over, bytes.len());
-        self.conclude(&told, true);
-        told
+        let outcome = reply.written(self.alloc, over, bytes.len());
+        self.conclude(&outcome, true);
+        outcome
     }
 
     /// Writes a text to an open file, piece by piece.
@@ -338,14 +336,14 @@ impl<S: Transport, A: Allocator + Copy> Client<S, A> {
         self.run(request, true)
     }
 
-    /// Closes a file after the last WRITE, also after a refused WRITE, whose fault is the answer
-    /// then. A CLOSE without a reply is answered in its place.
-    fn close_behind(
+    /// Closes a file after the last WRITE, also after a refused one, whose fault is the answer then. If the CLOSE has
+    /// no reply, its fault is the answer.
+    fn close_after_write(
         &mut self,
         opened: &Opened<A>,
         written: Result<(), ToolFault>,
     ) -> Result<(), ToolFault>
-        ensures { ClosesBehind S.talks (open_value opened.now) written
+        ensures { ClosesAfterWrite S.talks (open_value opened.now) written
             self.old self.new result }
     {
         match written {
@@ -364,12 +362,12 @@ impl<S: Transport, A: Allocator + Copy> Client<S, A> {
             self.old self.new result }
     {
         let written = self.write_all(over, opened, text);
-        let told = self.close_behind(opened, written);
-        self.break_off(&told);
-        told
+        let outcome = self.close_after_write(opened, written);
+        self.break_off(&outcome);
+        outcome
     }
 
-    /// The request of an OPEN at the end of a route, and of the filehandle after it.
+    /// The request of an OPEN at the end of a route, and of the file's filehandle.
     fn request_open(&self, route: &Route<'_, A>, op: Op<'_>) -> Result<Request<A>, ToolFault>
         ensures asks { IfOk result (λ r. Asks r (open_along self.now (route_value route.now) (op_view op.entry))) }
         ensures memory { PutGives result }
@@ -414,18 +412,18 @@ impl<S: Transport, A: Allocator + Copy> Client<S, A> {
             Ok(place) => place,
             Err(fault) => return Err(fault),
         };
-        let shown = with_size(size_at_open(over, text));
-        let values = values_of(self.alloc, &shown)?;
-        let op = opening(self.client, place.name, &shown, values.bytes())?;
+        let attributes = with_size(size_at_open(over, text));
+        let values = values_of(self.alloc, &attributes)?;
+        let op = opening(self.client, place.name, &attributes, values.bytes())?;
         self.put_in(&place.directory, op, over, text)
     }
 
-    /// Makes a text the bytes of a file, which is created where there is none. The operations are
-    /// OPEN with size 0, a WRITE for each 32,768 bytes, and CLOSE. The file is closed after a
-    /// refused WRITE too, whose fault is the answer then.
+    /// Makes a text the bytes of a file, which is created if there is none. The operations are OPEN with size 0, a
+    /// WRITE for each 32,768 bytes, and CLOSE. The file is closed after a refused WRITE too, whose fault is the
+    /// answer then.
     ///
-    /// The OPEN empties a file that is there. So where a WRITE is refused its old bytes are gone,
-    /// and it has the bytes of the WRITEs before. `replace` is careful with old bytes.
+    /// The OPEN truncates an existing file. So after a refused WRITE its old bytes are lost, and it has the bytes of
+    /// the WRITEs before. `replace` preserves the old bytes longer.
     pub fn put(&mut self, path: &[u8], text: &[u8]) -> Result<(), ToolFault>
         ensures failed { self.old.usable ≡ false → result ≡ Err Failed }
         ensures gives { PutCommandGives S.talks path.now
@@ -435,13 +433,12 @@ impl<S: Transport, A: Allocator + Copy> Client<S, A> {
         self.put_over(OldBytes::Dropped, path, text)
     }
 
-    /// Makes a text the bytes of a file as `put` does, and is careful with the bytes that it has.
-    /// The OPEN has no size, and each WRITE has a SETATTR of the size after it. The OPEN of an
-    /// empty text has size 0.
+    /// Makes a text the bytes of a file as `put` does, and preserves its old bytes as long as possible. The OPEN has
+    /// no size, and each WRITE has a SETATTR of the size after it. The OPEN of an empty text has size 0.
     ///
-    /// A file that is there keeps its bytes up to the first WRITE, and has a front of the text
-    /// after each. So where the first WRITE is refused a file has the bytes that it had, or none
-    /// where this call created it. Where a later one is refused it has a front of the text.
+    /// An existing file keeps its bytes up to the first WRITE, and is a prefix of the text after each. So if the
+    /// first WRITE is refused a file has its old bytes, or none if this call created it. If a later one is refused it
+    /// is a prefix of the text.
     pub fn replace(&mut self, path: &[u8], text: &[u8]) -> Result<(), ToolFault>
         ensures failed { self.old.usable ≡ false → result ≡ Err Failed }
         ensures gives { PutCommandGives S.talks path.now

@@ -3,12 +3,12 @@ ghost use Rattle.std.specs.Prelude.{◌≡◌, false, Err, option_map, option_an
 ghost use Rattle.nfs_ops.specs.ResultViews.{read_view};
 ghost use Rattle.nfs_client.specs.Access.{NoPath};
 ghost use Rattle.nfs_client.specs.Commands.{AskGives, within_session};
-ghost use Rattle.nfs_client.specs.Compound.{said};
+ghost use Rattle.nfs_client.specs.Compound.{results_to};
 ghost use Rattle.nfs_client.specs.CompoundViews.{outcomes};
 ghost use Rattle.nfs_client.specs.ReadLink.{ReadLinkAsks, text_of, text_in};
 ghost use Rattle.nfs_client.specs.Requests.{Asks};
-ghost use Rattle.nfs_client.specs.Taking.{SaidGives, TakeGives, taking};
-ghost use Rattle.nfs_client.specs.Walking.{CommandTells};
+ghost use Rattle.nfs_client.specs.Taking.{ReplyResultsGive, TakeGives, taking};
+ghost use Rattle.nfs_client.specs.Walking.{CommandResults};
 ghost use Rattle.nfs_client.specs.declared.fault.ToolFault.TheVariants.{Failed};
 
 use crate::client::{Client, Reply};
@@ -24,19 +24,19 @@ use std::alloc::Allocator;
 fn text_in<A: Allocator>(alloc: A, found: Option<OpResult<'_>>) -> Result<Vec<u8, A>, ToolFault>
     ensures { TakeGives (λ v. v.items) (option_and_then text_of (option_map read_view found.entry)) result }
 {
-    let Some(OpResult::ReadLink(told)) = found else {
+    let Some(OpResult::ReadLink(outcome)) = found else {
         return Err(ToolFault::Reply);
     };
     let mut text = Vec::new(alloc);
-    text.extend_from_slice(told.text.bytes)?;
+    text.extend_from_slice(outcome.text.bytes)?;
     Ok(text)
 }
 
 impl<A: Allocator + Copy> Reply<A> {
     /// The text of a link at the end of the results.
     fn link_text(&self, alloc: A) -> Result<Vec<u8, A>, ToolFault>
-        ensures { SaidGives (taking text_in (λ v. v.items))
-            (said self.now.xid self.now.asked.items self.now.content.items) result }
+        ensures { ReplyResultsGive (taking text_in (λ v. v.items))
+            (results_to self.now.xid self.now.asked.items self.now.content.items) result }
     {
         match self.results(alloc) {
             Ok(results) => text_in(alloc, last(results)),
@@ -58,15 +58,15 @@ impl<S: Transport, A: Allocator + Copy> Client<S, A> {
             Ok(reply) => reply,
             Err(fault) => return Err(fault),
         };
-        let told = reply.link_text(self.alloc);
-        self.conclude(&told, true);
-        told
+        let outcome = reply.link_text(self.alloc);
+        self.conclude(&outcome, true);
+        outcome
     }
 
     /// The text of a symbolic link.
     pub fn readlink(&mut self, path: &[u8]) -> Result<Vec<u8, A>, ToolFault>
         ensures failed { self.old.usable ≡ false → result ≡ Err Failed }
-        ensures gives { CommandTells S.talks (taking text_in (λ v. v.items))
+        ensures gives { CommandResults S.talks (taking text_in (λ v. v.items))
             (ReadLinkAsks path.now) (NoPath path.now) self.old self.new result }
     {
         self.start()?;

@@ -1,4 +1,4 @@
-//! The operations of a call, and the call as written.
+//! The operations of a call, and the encoded call.
 ghost use Rattle.std.specs.Prelude.{◌≡◌, ◌++◌, ◌∷◌, [], List, map, IsTrue, MatchResult, OnOk, IfOk, Ok};
 ghost use Rattle.rpc_record.specs.Identity.{is_member};
 ghost use Rattle.nfs_client.specs.declared.fault.ToolFault.TheVariants.{Memory};
@@ -18,19 +18,18 @@ const HEAD_LIMIT: usize = CALL_HEADER_LIMIT + 12;
 /// The minor version of NFS version 4.1.
 const MINOR_VERSION: u32 = 1;
 
-/// The operations of a COMPOUND, as written.
+/// The operations of a COMPOUND, encoded.
 #[derive(Drop)]
 pub(crate) struct Request<A: Allocator> {
     /// The bytes of the operations, unless they are too large.
     body: Writer<A>,
     /// The number of each operation.
     asked: Vec<u32, A>,
-    /// Whether the operations have more bytes than a record. That is answered as the call is
-    /// spelled.
+    /// Whether the operations have more bytes than a record. That is answered when the call is encoded.
     is_too_large: bool,
 }
 
-/// `Memory` where the head of a call has no room, which it always has.
+/// `Memory` if the head of a call has no room, which it always has.
 fn has_room(put: Result<(), Full>) -> Result<(), ToolFault>
     ensures { MatchResult result (λ _. put ≡ Ok tt) (λ fault. fault ≡ Memory) }
 {
@@ -40,8 +39,8 @@ fn has_room(put: Result<(), Full>) -> Result<(), ToolFault>
     }
 }
 
-/// Bytes as sent. `Memory`: the bytes are longer than a length can tell, as no bytes in memory are
-/// that can be copied into a call.
+/// Bytes as sent. `Memory`: there are more bytes than a length field can express. No bytes that can be copied into a
+/// call are that long.
 pub(crate) fn sendable(bytes: &[u8]) -> Result<Bytes<'_>, ToolFault>
     ensures { MatchResult result (λ b. b.bytes.now ≡ bytes.now) (λ fault. fault ≡ Memory) }
 {
@@ -51,7 +50,7 @@ pub(crate) fn sendable(bytes: &[u8]) -> Result<Bytes<'_>, ToolFault>
     }
 }
 
-/// The bytes before this many operations.
+/// The bytes before `count` operations.
 fn head<A: Allocator>(
     alloc: A,
     xid: u32,
@@ -98,7 +97,7 @@ impl<A: Allocator + Copy> Request<A> {
         })
     }
 
-    /// The bytes of one operation more, where there is room.
+    /// The bytes of one more operation, if there is room.
     fn write(&mut self, op: Op<'_>)
         ensures holds { (ops : List Operation) → Holds self.old.is_too_large self.old.body ops →
             Holds self.new.is_too_large self.new.body (ops ++ op_view op.entry ∷ []) }
@@ -109,7 +108,7 @@ impl<A: Allocator + Copy> Request<A> {
         }
     }
 
-    /// One operation more. Operations that are too large are taken too.
+    /// Appends one more operation. Operations that are too large are appended too.
     pub(crate) fn put(&mut self, op: Op<'_>) -> Result<(), ToolFault>
         ensures asks { OnOk result ((ops : List Operation) → Asks self.old ops →
             Asks self.new (ops ++ op_view op.entry ∷ [])) }

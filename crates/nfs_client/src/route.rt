@@ -1,4 +1,4 @@
-//! The start of a walk, and the names that are left of it.
+//! The start of a walk, and its remaining names.
 ghost use Rattle.std.specs.Prelude.{◌≡◌, ◌++◌, ◌∷◌, [], List, OnOk, IfOk, take};
 ghost use Rattle.nfs_types.specs.Views.{handle_value};
 ghost use Rattle.nfs_ops.specs.Operations.{Operation};
@@ -13,8 +13,8 @@ use nfs_types::Handle;
 use std::alloc::Allocator;
 use xdr_wire::Opaque;
 
-/// The most names that a COMPOUND walks before one operation. With SEQUENCE and the start of the
-/// walk these are the 16 operations that a session takes.
+/// The most names that a COMPOUND walks before one operation. With SEQUENCE and the start of the walk these are the
+/// 16 operations that a session takes.
 pub(crate) const MOST_NAMES: usize = 13;
 
 /// The most names that a COMPOUND walks before two operations.
@@ -23,9 +23,9 @@ pub(crate) const MOST_BEFORE_TWO: usize = 12;
 /// The most names of two paths that a COMPOUND walks before one operation, with SAVEFH between them.
 pub(crate) const MOST_OF_BOTH: usize = 11;
 
-/// The most names of the first of two paths that may be left at the end of its approaches. The
-/// paths have `names` and `others` names. Where one COMPOUND can walk both paths there is no
-/// approach. Else the first is walked to its end, before a name of the second is.
+/// The most names of the first of two paths that may remain at the end of its approaches. The paths have `names` and
+/// `others` names. If one COMPOUND can walk both paths there is no approach. Else the first is walked to its end,
+/// before a name of the second is.
 pub(crate) fn left_of_first(names: usize, others: usize) -> usize
     ensures { result ≡ left_of_first names others }
 {
@@ -35,7 +35,7 @@ pub(crate) fn left_of_first(names: usize, others: usize) -> usize
     MOST_OF_BOTH
 }
 
-/// The names of one approach, of these.
+/// The first names, as many as one approach walks.
 pub(crate) fn nearest<'a>(names: &'a [&'a [u8]]) -> &'a [&'a [u8]]
     ensures { result.now ≡ take most_names names.entry.now }
 {
@@ -51,7 +51,7 @@ pub(crate) enum Start<A: Allocator> {
     Object(Vec<u8, A>),
 }
 
-/// A walk: its start, and the names that are left of it.
+/// A walk: its start, and its remaining names.
 #[derive(Drop)]
 pub(crate) struct Route<'a, A: Allocator> {
     pub(crate) start: Start<A>,

@@ -1,6 +1,6 @@
 //! Running a command, and the text of its answer.
 ghost use Rattle.std.specs.Prelude.{◌≡◌, false, Err};
-ghost use Rattle.nfs_client.specs.AnswerTexts.{answer_text, rights_line, says_ok, says_rights, says_text, SaysAs};
+ghost use Rattle.nfs_client.specs.AnswerTexts.{answer_text, rights_line, ok_text, rights_text, text_of_bytes, PrintsAs};
 ghost use Rattle.nfs_client.specs.AnswerTexts.{NewlineGives};
 ghost use Rattle.nfs_client.specs.declared.fault.ToolFault.TheVariants.{Failed};
 
@@ -12,7 +12,7 @@ use crate::words::Command;
 use nfs_ops::AccessResult;
 use std::alloc::{Allocator, Global};
 
-/// The bytes of the line of rights.
+/// The bytes of the line of permissions.
 const RIGHTS_LINE: usize = 25;
 
 /// The answer to a command, as text: lines, each with a newline after it, or the bytes of a file
@@ -40,7 +40,7 @@ impl<A: Allocator> Answer<A> {
     }
 }
 
-/// The line of rights: the rights that are supported, and the rights that are granted.
+/// The line of permissions: the supported ones, and the granted ones.
 fn rights_line(rights: AccessResult) -> [u8; RIGHTS_LINE]
     ensures { result ≡ rights_line rights }
 {
@@ -53,30 +53,30 @@ fn rights_line(rights: AccessResult) -> [u8; RIGHTS_LINE]
 }
 
 /// The answer to a command that has no other text than `ok`.
-fn done<A: Allocator>(told: Result<(), ToolFault>) -> Result<Answer<A>, ToolFault>
-    ensures { SaysAs says_ok told result }
+fn done<A: Allocator>(outcome: Result<(), ToolFault>) -> Result<Answer<A>, ToolFault>
+    ensures { PrintsAs ok_text outcome result }
 {
-    match told {
+    match outcome {
         Ok(()) => Ok(Answer::Done),
         Err(fault) => Err(fault),
     }
 }
 
-/// The answer to a command that gives rights.
-fn rights<A: Allocator>(told: Result<AccessResult, ToolFault>) -> Result<Answer<A>, ToolFault>
-    ensures { SaysAs says_rights told result }
+/// The answer to a command that returns permissions.
+fn rights<A: Allocator>(outcome: Result<AccessResult, ToolFault>) -> Result<Answer<A>, ToolFault>
+    ensures { PrintsAs rights_text outcome result }
 {
-    match told {
+    match outcome {
         Ok(rights) => Ok(Answer::Rights(rights_line(rights))),
         Err(fault) => Err(fault),
     }
 }
 
-/// The answer to a command that gives lines.
-fn lines<A: Allocator>(told: Result<Vec<u8, A>, ToolFault>) -> Result<Answer<A>, ToolFault>
-    ensures { SaysAs says_text told result }
+/// The answer to a command that returns lines.
+fn lines<A: Allocator>(outcome: Result<Vec<u8, A>, ToolFault>) -> Result<Answer<A>, ToolFault>
+    ensures { PrintsAs text_of_bytes outcome result }
 {
-    match told {
+    match outcome {
         Ok(text) => Ok(Answer::Text(text)),
         Err(fault) => Err(fault),
     }
@@ -93,23 +93,23 @@ fn with_newline<A: Allocator>(bytes: Vec<u8, A>) -> Result<Answer<A>, ToolFault>
 
 impl<S: Transport, A: Allocator + Copy> Client<S, A> {
     ghost use Rattle.nfs_client.specs.WordViews.{command_line};
-    ghost use Rattle.nfs_client.specs.Running.{CatTells, Runs};
+    ghost use Rattle.nfs_client.specs.Running.{CatPrints, Runs};
 
     /// The bytes of a file, with a newline after them.
     fn cat_text(&mut self, path: &[u8]) -> Result<Answer<A>, ToolFault>
-        ensures { CatTells S.talks path.now self.old self.new result }
+        ensures { CatPrints S.talks path.now self.old self.new result }
     {
         match self.cat(path) {
             Ok(bytes) => {
-                let told = with_newline(bytes);
-                self.spoil(&told);
-                told
+                let outcome = with_newline(bytes);
+                self.spoil(&outcome);
+                outcome
             }
             Err(fault) => Err(fault),
         }
     }
 
-    /// Runs a command, and gives its answer as text.
+    /// Runs a command, and returns its answer as text.
     fn answered(&mut self, command: Command<'_>) -> Result<Answer<A>, ToolFault>
         ensures { Runs S.talks (command_line command.entry) self.old self.new result }
     {
@@ -122,15 +122,15 @@ impl<S: Transport, A: Allocator + Copy> Client<S, A> {
             Command::Mv(old, new) => done(self.mv(old, new)),
             Command::Rm(path) => done(self.rm(path)),
             Command::ChMod(mode, path) => done(self.chmod(mode, path)),
-            Command::GetAcl(part, path) => lines(self.get_list(part, path)),
+            Command::GetAcl(part, path) => lines(self.get_acl(part, path)),
             Command::SetAcl(part, path, entries) => done(self.set_list(part, path, entries)),
             Command::Access(path) => rights(self.access(path)),
         }
     }
 
-    /// Runs a command, and gives its answer as text. It is the lines of `ls`, `getacl`, `getdacl`
-    /// and `getsacl`, the bytes of a file with a newline after them, or the rights of `access`. Of
-    /// any other command it is `ok`. The text of a fault is `ToolFault::text`.
+    /// Runs a command, and returns its answer as text. It is the lines of `ls`, `getacl`, `getdacl` and `getsacl`,
+    /// the bytes of a file with a newline after them, or the permissions of `access`. Of any other command it is
+    /// `ok`. The text of a fault is `ToolFault::text`.
     pub fn answer(&mut self, command: Command<'_>) -> Result<Answer<A>, ToolFault>
         ensures failed { self.old.usable ≡ false → result ≡ Err Failed }
         ensures gives { Runs S.talks (command_line command.entry)

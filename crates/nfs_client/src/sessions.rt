@@ -3,12 +3,12 @@ ghost use Rattle.std.specs.Prelude.{◌≡◌, ◌∷◌, [], None, Err, IfOk, f
 ghost use Rattle.xdr_wire.specs.Wire.{array_values};
 ghost use Rattle.nfs_ops.specs.Forms.{callback_security};
 ghost use Rattle.nfs_ops.specs.ResultViews.{read_view};
-ghost use Rattle.nfs_client.specs.Compound.{said};
+ghost use Rattle.nfs_client.specs.Compound.{results_to};
 ghost use Rattle.nfs_client.specs.Requests.{Asks, PutGives};
 ghost use Rattle.nfs_client.specs.Sessions.{exchange_id, create_session, destroy_session, destroy_client, record_of};
 ghost use Rattle.nfs_client.specs.Sessions.{record_in, record_value, session_of, session_in, session_value, OpenGives};
 ghost use Rattle.nfs_client.specs.Sessions.{Begins, EndGives, MadeKnown, SessionMade, Ends};
-ghost use Rattle.nfs_client.specs.Taking.{SaidGives, taking};
+ghost use Rattle.nfs_client.specs.Taking.{ReplyResultsGive, taking};
 ghost use Rattle.nfs_client.specs.declared.fault.ToolFault.TheVariants.{Failed};
 
 use crate::client::{Client, Reply};
@@ -51,9 +51,9 @@ const BACK: Channel = Channel {
 /// A client's record at the server.
 #[derive(Clone, Copy, Debug)]
 pub(crate) struct Registration {
-    /// The client id.
+    /// The client ID.
     client: u64,
-    /// The sequence id of the next CREATE_SESSION.
+    /// The sequence ID of the next CREATE_SESSION.
     number: u32,
 }
 
@@ -62,20 +62,20 @@ fn registered(found: Option<OpResult<'_>>) -> Option<Registration>
     ensures { option_map record_value result ≡ option_and_then record_of (option_map read_view found.entry) }
 {
     match found {
-        Some(OpResult::ExchangeId(told)) => Some(Registration {
-            client: told.client,
-            number: told.sequence,
+        Some(OpResult::ExchangeId(outcome)) => Some(Registration {
+            client: outcome.client,
+            number: outcome.sequence,
         }),
         _ => None,
     }
 }
 
 /// The session in a result.
-fn session_told(found: Option<OpResult<'_>>) -> Option<[u8; 16]>
+fn session_from(found: Option<OpResult<'_>>) -> Option<[u8; 16]>
     ensures { option_map session_value result ≡ option_and_then session_of (option_map read_view found.entry) }
 {
     match found {
-        Some(OpResult::CreateSession(told)) => Some(told.session),
+        Some(OpResult::CreateSession(outcome)) => Some(outcome.session),
         _ => None,
     }
 }
@@ -83,8 +83,8 @@ fn session_told(found: Option<OpResult<'_>>) -> Option<[u8; 16]>
 impl<A: Allocator + Copy> Reply<A> {
     /// The client's record.
     fn registration(&self, alloc: A) -> Result<Registration, ToolFault>
-        ensures { SaidGives (taking record_in record_value)
-            (said self.now.xid self.now.asked.items self.now.content.items) result }
+        ensures { ReplyResultsGive (taking record_in record_value)
+            (results_to self.now.xid self.now.asked.items self.now.content.items) result }
     {
         match self.results(alloc) {
             Ok(results) => match registered(last(results)) {
@@ -95,13 +95,13 @@ impl<A: Allocator + Copy> Reply<A> {
         }
     }
 
-    /// The session's id.
+    /// The session ID.
     fn session(&self, alloc: A) -> Result<[u8; 16], ToolFault>
-        ensures { SaidGives (taking session_in session_value)
-            (said self.now.xid self.now.asked.items self.now.content.items) result }
+        ensures { ReplyResultsGive (taking session_in session_value)
+            (results_to self.now.xid self.now.asked.items self.now.content.items) result }
     {
         match self.results(alloc) {
-            Ok(results) => match session_told(last(results)) {
+            Ok(results) => match session_from(last(results)) {
                 Some(session) => Ok(session),
                 None => Err(ToolFault::Reply),
             },
@@ -110,7 +110,7 @@ impl<A: Allocator + Copy> Reply<A> {
     }
 }
 
-/// The spelling of no credentials.
+/// The encoding of no credentials.
 const NO_CREDENTIALS: &[u8] = &[0; 4];
 
 /// No credentials of callbacks.
@@ -199,9 +199,9 @@ impl<S: Transport, A: Allocator + Copy> Client<S, A> {
             Ok(reply) => reply,
             Err(fault) => return Err(fault),
         };
-        let told = reply.registration(self.alloc);
-        self.conclude(&told, false);
-        told
+        let outcome = reply.registration(self.alloc);
+        self.conclude(&outcome, false);
+        outcome
     }
 
     /// Creates a session.
@@ -213,9 +213,9 @@ impl<S: Transport, A: Allocator + Copy> Client<S, A> {
             Ok(reply) => reply,
             Err(fault) => return Err(fault),
         };
-        let told = reply.session(self.alloc);
-        self.conclude(&told, false);
-        told
+        let outcome = reply.session(self.alloc);
+        self.conclude(&outcome, false);
+        outcome
     }
 
     /// Registers the client, and creates its session.
@@ -239,10 +239,9 @@ impl<S: Transport, A: Allocator + Copy> Client<S, A> {
         Ok(())
     }
 
-    /// Begins a session of the client's own: EXCHANGE_ID, then CREATE_SESSION, as `Client::open`
-    /// does. It is for a client of `Client::resume` whose stream is wanted back by
-    /// `Client::into_stream`, whatever comes. `TooLarge`: the owner has more than 1,024 bytes, and
-    /// nothing is sent.
+    /// Begins a session of the client's own: EXCHANGE_ID, then CREATE_SESSION, as `Client::open` does. It is for a
+    /// client of `Client::resume` whose stream is taken back by `Client::into_stream` in any case. `TooLarge`: the
+    /// owner has more than 1,024 bytes, and nothing is sent.
     pub fn begin(&mut self, owner: &[u8], verifier: [u8; 8]) -> Result<(), ToolFault>
         ensures failed { self.old.usable ≡ false → (result ≡ Err Failed) × (self.new ≡ self.old) }
         ensures gives { self.old.usable ≡ true →
@@ -254,13 +253,13 @@ impl<S: Transport, A: Allocator + Copy> Client<S, A> {
         }
     }
 
-    /// A client with a session of its own: EXCHANGE_ID, then CREATE_SESSION. The client calls as
-    /// this user and in this group alone.
+    /// A client with a session of its own: EXCHANGE_ID, then CREATE_SESSION. The client calls as this user and in
+    /// this group alone.
     ///
-    /// The owner says which client this is to the server, and the verifier which start of the
-    /// client (RFC 8881, section 2.4). Clients that run beside each other have an owner each: a
-    /// start of an owner ends what an earlier start has open. No other user may start that owner.
-    /// `TooLarge`: the owner has more than 1,024 bytes, and nothing is sent.
+    /// The owner identifies the client to the server, and the verifier identifies the start of the client (RFC 8881,
+    /// section 2.4). Clients that run beside each other have different owners: a start of an owner ends the session
+    /// and opens of its earlier start. No other user may start that owner. `TooLarge`: the owner has more than 1,024
+    /// bytes, and nothing is sent.
     pub fn open(
         alloc: A,
         stream: S,
@@ -307,9 +306,9 @@ impl<S: Transport, A: Allocator + Copy> Client<S, A> {
         self.start()?;
         match self.end_session() {
             Ok(()) => {
-                let told = self.forget();
-                self.break_off(&told);
-                told
+                let outcome = self.forget();
+                self.break_off(&outcome);
+                outcome
             }
             Err(fault) => Err(fault),
         }

@@ -1,6 +1,6 @@
 //! Attributes that are set (RFC 8881, section 18.30).
 ghost use Rattle.std.specs.Prelude.{◌≡◌, ◌∷◌, ◌++◌, [], List, IfOk, OnOk};
-ghost use Rattle.nfs_types.specs.ShownViews.{shown_value};
+ghost use Rattle.nfs_types.specs.ClientViews.{client_value};
 ghost use Rattle.nfs_types.specs.Views.{stateid_value};
 ghost use Rattle.nfs_ops.specs.OpViews.{op_view};
 ghost use Rattle.nfs_ops.specs.Operations.{Operation};
@@ -10,7 +10,7 @@ ghost use Rattle.nfs_client.specs.Setting.{ValuesGive, set_by, set_under, set_si
 use crate::fault::ToolFault;
 use crate::request::{Request, sendable};
 use nfs_ops::{Op, SetAttrArgs};
-use nfs_types::{Attributes, ShownAttributes, StateId, write_given};
+use nfs_types::{Attributes, ClientAttributes, StateId, write_given};
 use rpc_record::RECORD_LIMIT;
 use std::alloc::Allocator;
 use xdr_wire::{Full, Writer};
@@ -19,12 +19,12 @@ use xdr_wire::{Full, Writer};
 /// record.
 pub(crate) fn values_of<A: Allocator>(
     alloc: A,
-    shown: &ShownAttributes<'_>,
+    given: &ClientAttributes<'_>,
 ) -> Result<Writer<A>, ToolFault>
-    ensures { ValuesGive (λ w. w.bytes) (shown_value shown.now) result }
+    ensures { ValuesGive (λ w. w.bytes) (client_value given.now) result }
 {
     let mut values = Writer::new(alloc, RECORD_LIMIT)?;
-    match write_given(shown, &mut values) {
+    match write_given(given, &mut values) {
         Ok(()) => Ok(values),
         Err(Full) => Err(ToolFault::TooLarge),
     }
@@ -33,15 +33,15 @@ pub(crate) fn values_of<A: Allocator>(
 /// SETATTR of these attributes by these values, by a stateid.
 fn setting_under<'a>(
     stateid: StateId,
-    shown: &ShownAttributes<'_>,
+    given: &ClientAttributes<'_>,
     values: &'a [u8],
 ) -> Result<Op<'a>, ToolFault>
     ensures asks { IfOk result (λ op. op_view op ≡
-        set_under (stateid_value stateid) (shown_value shown.now) values.entry.now) }
+        set_under (stateid_value stateid) (client_value given.now) values.entry.now) }
     ensures memory { PutGives result }
 {
     let values = sendable(values)?;
-    let set = shown.set();
+    let set = given.set();
     let attributes = Attributes { set, values };
     Ok(Op::SetAttr(SetAttrArgs {
         stateid,
@@ -51,20 +51,20 @@ fn setting_under<'a>(
 
 /// SETATTR of these attributes by these values, without an open.
 pub(crate) fn setting<'a>(
-    shown: &ShownAttributes<'_>,
+    given: &ClientAttributes<'_>,
     values: &'a [u8],
 ) -> Result<Op<'a>, ToolFault>
-    ensures asks { IfOk result (λ op. op_view op ≡ set_by (shown_value shown.now) values.entry.now) }
+    ensures asks { IfOk result (λ op. op_view op ≡ set_by (client_value given.now) values.entry.now) }
     ensures memory { PutGives result }
 {
-    setting_under(StateId::anonymous(), shown, values)
+    setting_under(StateId::anonymous(), given, values)
 }
 
-/// The size alone, where there is one.
-pub(crate) fn with_size(size: Option<u64>) -> ShownAttributes<'static>
-    ensures { shown_value result ≡ with_size size }
+/// The size alone, if there is one.
+pub(crate) fn with_size(size: Option<u64>) -> ClientAttributes<'static>
+    ensures { client_value result ≡ with_size size }
 {
-    ShownAttributes {
+    ClientAttributes {
         kind: None,
         size,
         error: None,
@@ -89,9 +89,9 @@ impl<A: Allocator + Copy> Request<A> {
             Asks self.new (ops ++ set_size (stateid_value stateid) size ∷ [])) }
         ensures memory { PutGives result }
     {
-        let shown = with_size(Some(size));
-        let values = values_of(alloc, &shown)?;
-        let op = setting_under(stateid, &shown, values.bytes())?;
+        let given = with_size(Some(size));
+        let values = values_of(alloc, &given)?;
+        let op = setting_under(stateid, &given, values.bytes())?;
         self.put(op)
     }
 }

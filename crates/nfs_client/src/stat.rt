@@ -1,4 +1,4 @@
-//! Some attributes of an object, read from what a server gave.
+//! Some attributes of an object, read from what a server returned.
 ghost use Rattle.std.specs.Prelude.{◌≡◌, option_map};
 ghost use Rattle.xdr_wire.specs.Reading.{Gives};
 ghost use Rattle.nfs_types.specs.Views.{bitmap_value};
@@ -15,7 +15,7 @@ use xdr_wire::{Reader, XdrFault};
 /// A moment: seconds since the epoch, below 0 before it, and nanoseconds on top of them (RFC 8881, section 3.3.1).
 type Time = (i64, u32);
 
-/// Attributes of an object, each if the server gave it.
+/// Attributes of an object, each if the server returned it.
 #[derive(Clone, Copy, Debug)]
 pub struct Stat<'a> {
     /// 1, type, `nfs_ftype4`.
@@ -28,7 +28,7 @@ pub struct Stat<'a> {
     pub number: Option<u64>,
     /// 33, mode.
     pub mode: Option<u32>,
-    /// 35, numlinks: how many names lead to it.
+    /// 35, numlinks: the number of its names.
     pub links: Option<u32>,
     /// 36, owner, as text.
     pub owner: Option<Bytes<'a>>,
@@ -70,7 +70,7 @@ fn values<'a>(set: &Bitmap, reader: &mut Reader<'a>) -> Result<Stat<'a>, XdrFaul
     })
 }
 
-/// The values that the bytes spell, all of the bytes; or none.
+/// The values that the bytes encode, if these are all of the bytes.
 fn whole<'a>(set: &Bitmap, bytes: &'a [u8]) -> Option<Stat<'a>>
     ensures { option_map stat_value result ≡ whole (stat_at (bitmap_value set.now) bytes.entry.now) }
 {
@@ -80,7 +80,7 @@ fn whole<'a>(set: &Bitmap, bytes: &'a [u8]) -> Option<Stat<'a>>
 }
 
 impl<'a> Stat<'a> {
-    /// The set of the attributes that a `Stat` has, to be asked for.
+    /// The set of the attributes that a `Stat` has, for a request.
     pub fn asked() -> Bitmap
         ensures { AreOfStat (bitmap_value result) }
     {
@@ -97,7 +97,7 @@ impl<'a> Stat<'a> {
             .with(Attribute::TimeModify.number())
     }
 
-    /// Reads what was given. `None`: another attribute is given, or the bytes aren't the values of these.
+    /// Reads what was returned. `None`: another attribute was returned, or the bytes aren't the values of these.
     pub fn read<A: Allocator>(given: &'a Given<A>) -> Option<Self>
         ensures { ReadsStat (given_value given.entry.now) (option_map stat_value result) }
     {

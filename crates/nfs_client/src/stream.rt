@@ -1,11 +1,11 @@
 //! Bytes over a stream: a call's bytes, and the record of a reply.
 ghost use Rattle.std.specs.Prelude.{◌≡◌, ◌≤◌, ◌++◌, List, ℕ};
 ghost use Rattle.std.specs.Io.KnownBytes.{Appends};
-ghost use Rattle.rpc_record.specs.Framer.{Stands};
+ghost use Rattle.rpc_record.specs.Framer.{HasRead};
 ghost use Rattle.nfs_client.specs.Streams.{WriteGives, PieceGives, RecordGives};
 
 use crate::fault::ToolFault;
-use rpc_record::{Framer, Step, a_framer_stands_for_a_rest};
+use rpc_record::{Framer, Step, a_framer_has_read_the_rest};
 use std::alloc::Allocator;
 use std::io::{Read, Write};
 
@@ -32,14 +32,14 @@ pub fn write_out<W: Write>(stream: &mut W, bytes: &[u8]) -> Result<(), ToolFault
     Ok(())
 }
 
-/// Goes through a piece, and joins its part of the record. Whether the record ends with the piece.
-/// `Reply`: the record breaks the stream, or bytes come after it.
+/// Reads a piece, and appends its part of the record. Returns whether the record ends with the piece. `Reply`: the
+/// record breaks the stream, or bytes come after it.
 fn take_piece<A: Allocator>(
     framer: &mut Framer,
     content: &mut Vec<u8, A>,
     piece: &[u8],
 ) -> Result<bool, ToolFault>
-    ensures { (bytes : List ℕ) → Stands framer.old content.old.items bytes →
+    ensures { (bytes : List ℕ) → HasRead framer.old content.old.items bytes →
         PieceGives framer.new content.new.items (bytes ++ piece.now) result }
 {
     let mut at = 0;
@@ -67,7 +67,7 @@ fn take_piece<A: Allocator>(
 pub fn read_record<A: Allocator, R: Read>(alloc: A, stream: &mut R) -> Result<Vec<u8, A>, ToolFault>
     ensures { RecordGives (λ v. v.items) (R.remaining stream.old) (R.remaining stream.new) result }
 {
-    a_framer_stands_for_a_rest();
+    a_framer_has_read_the_rest();
     let mut framer = Framer::new();
     let mut content = Vec::new(alloc);
     for _i in 0..MOST_READS {

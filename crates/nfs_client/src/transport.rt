@@ -13,13 +13,13 @@ pub trait Transport {
     ghost use Rattle.nfs_client.specs.Talking.{as_read, IsTalkFault};
     ghost use Rattle.nfs_client.specs.declared.fault.ToolFault.{ToolFault};
 
-    // The relation of the transport before, the bytes of a call, the record after it or a fault, and
-    // the transport after.
+    // The relation of the transport before, the bytes of a call, the received record or a fault, and the transport
+    // after.
     ghost talks: { Self → List ℕ → Result (List ℕ) ToolFault → Self → Type 0 };
 
-    /// Sends a call, and gives the record that comes after it. `Write`: the call isn't sent.
-    /// `Read`: no whole record comes. `Reply`: what comes is no record, or more than one. `Memory`:
-    /// memory was refused.
+    /// Sends a call, and returns the record received after it. `Write`: the call isn't sent. `Read`: no complete
+    /// record is received. `Reply`: the received bytes are no record, or more than one. `Memory`: an allocation
+    /// failed.
     fn talk<A: Allocator>(&mut self, alloc: A, call: &[u8]) -> Result<Vec<u8, A>, ToolFault>
         ensures gives { talks self.old call.now (as_read (λ v. v.items) result) self.new }
         ensures fault { IfErr result IsTalkFault };

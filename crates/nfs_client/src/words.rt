@@ -3,7 +3,7 @@ ghost use Rattle.std.specs.Prelude.{◌≡◌, map, option_map};
 ghost use Rattle.nfs_client.specs.Words.{of_one, of_two, of_more, set_by, command_in};
 ghost use Rattle.nfs_client.specs.WordViews.{command_line};
 
-use crate::list_part::ListPart;
+use crate::acl_part::AclPart;
 
 const LS: &[u8] = b"ls";
 
@@ -35,7 +35,7 @@ const SETDACL: &[u8] = b"setdacl";
 
 const SETSACL: &[u8] = b"setsacl";
 
-/// A command, with its words as given. A wrong word gets its fault where the command is run.
+/// A command, with its words as given. A wrong word is reported when the command is run.
 #[derive(Clone, Copy, Debug)]
 pub enum Command<'a> {
     /// `ls P`: lists a directory.
@@ -54,12 +54,12 @@ pub enum Command<'a> {
     Rm(&'a [u8]),
     /// `chmod OCTAL P`: sets the mode.
     ChMod(&'a [u8], &'a [u8]),
-    /// `getacl P`, `getdacl P`, `getsacl P`: the access control list, or a part of it.
-    GetAcl(ListPart, &'a [u8]),
-    /// `setacl P ENTRY..`, `setdacl P ENTRY..`, `setsacl P ENTRY..`: sets the access control list
-    /// or a part of it, to one entry at least.
-    SetAcl(ListPart, &'a [u8], &'a [&'a [u8]]),
-    /// `access P`: the rights of the caller.
+    /// `getacl P`, `getdacl P`, `getsacl P`: the ACL (access control list), or a part of it.
+    GetAcl(AclPart, &'a [u8]),
+    /// `setacl P ENTRY..`, `setdacl P ENTRY..`, `setsacl P ENTRY..`: sets the ACL or a part of it, to at least one
+    /// ACE.
+    SetAcl(AclPart, &'a [u8], &'a [&'a [u8]]),
+    /// `access P`: the permissions of the caller.
     Access(&'a [u8]),
 }
 
@@ -76,11 +76,11 @@ fn of_one<'a>(name: &[u8], path: &'a [u8]) -> Option<Command<'a>>
     } else if name == RM {
         Some(Command::Rm(path))
     } else if name == GETACL {
-        Some(Command::GetAcl(ListPart::Acl, path))
+        Some(Command::GetAcl(AclPart::Acl, path))
     } else if name == GETDACL {
-        Some(Command::GetAcl(ListPart::Dacl, path))
+        Some(Command::GetAcl(AclPart::Dacl, path))
     } else if name == GETSACL {
-        Some(Command::GetAcl(ListPart::Sacl, path))
+        Some(Command::GetAcl(AclPart::Sacl, path))
     } else if name == ACCESS {
         Some(Command::Access(path))
     } else {
@@ -105,16 +105,16 @@ fn of_two<'a>(name: &[u8], first: &'a [u8], second: &'a [u8]) -> Option<Command<
     }
 }
 
-/// The list that a command of this name sets, if the command sets a list.
-fn set_by(name: &[u8]) -> Option<ListPart>
+/// The ACL or part that a command of this name sets, if it sets one.
+fn set_by(name: &[u8]) -> Option<AclPart>
     ensures { result ≡ set_by name.now }
 {
     if name == SETACL {
-        Some(ListPart::Acl)
+        Some(AclPart::Acl)
     } else if name == SETDACL {
-        Some(ListPart::Dacl)
+        Some(AclPart::Dacl)
     } else if name == SETSACL {
-        Some(ListPart::Sacl)
+        Some(AclPart::Sacl)
     } else {
         None
     }

@@ -13,14 +13,16 @@ use Rattle.nfs_hub.specs.declared.connection.Connection.{Connection}
 use Rattle.nfs_hub.specs.declared.hub.Hub.{Hub}
 use Rattle.nfs_hub.specs.declared.serving.ServeEnd.{ServeEnd}
 use Rattle.nfs_hub.specs.declared.serving.ServeEnd.TheVariants as end
-use Rattle.nfs_hub.specs.Machine.{Connected, State, Event, Connect, Piece, Take, Close, CameToBreak}
+use Rattle.nfs_hub.specs.Machine.{Connected, State, Event, Connect, Piece, Take, Close, ReachedBreak}
 use Rattle.nfs_hub.specs.declared.fault.HubFault.{HubFault}
 use Rattle.nfs_hub.specs.declared.fault.HubFault.TheVariants as fault
 use Rattle.nfs_hub.specs.Answer.{Served}
-use Rattle.nfs_hub.specs.Hub.{IsHub, Goes, LeadsTo, ConnectGives, ConsumeGives, BreaksSo, IsUnchanged, SameConnection, broken_at, pending_at, next_number}
+use Rattle.nfs_hub.specs.Hub.{IsHub, Goes, IsHistoryOf, ConnectGives, ConsumeGives, BreaksInPiece, IsUnchanged, SameConnection, broken_at, pending_at, next_number}
 use Rattle.nfs_hub.proofs.Hubs.{pending_is}
 use Rattle.nfs_hub.specs.Connection.{Read_at}
-use Rattle.nfs_hub.specs.Served.{Turn, Turns, Passes, PassGives, TurnsRun, TurnsEnd, IsLeft, BreaksIn, Writes, Serves, IsPiece, ArePieces, MAX_PIECE, broken_end, refused_end, bytes_of}
+use Rattle.nfs_hub.specs.Served.{Turn, Turns, TurnsRun, IsLeft, BreaksIn, Writes, Serves, IsPiece, ArePieces, MAX_PIECE}
+use Rattle.nfs_hub.specs.Served.{bytes_of}
+use Rattle.nfs_hub.specs.internal.Served.{Passes, PassGives, TurnsEnd, broken_end, refused_end}
 
 pub appends_trans : (a b c : Option (List ℕ)) (bs cs : List ℕ) → Appends a b bs → Appends b c cs → Appends a c (bs ++ cs)
 appends_trans None b c bs cs p q = tt
@@ -53,13 +55,13 @@ pub written_more : (a b c : Option (List ℕ)) (done n : ℕ) (bytes : List ℕ)
 written_more a b c done n bytes p q = rw (take-add done n bytes) (appends_trans a b c (take done bytes) (take n (drop done bytes)) p q)
 
 -- the writer failed after these bytes
-pub keeps_front : (a b c : Option (List ℕ)) (bs : List ℕ) → Appends a b bs → Appends b c [] → Keeps b c
-keeps_front a None c bs p q = tt
-keeps_front a (Some y) None bs p q = absurd q
-keeps_front a (Some y) (Some z) bs p q = q ∙ append-nil y
+pub keeps_prefix : (a b c : Option (List ℕ)) (bs : List ℕ) → Appends a b bs → Appends b c [] → Keeps b c
+keeps_prefix a None c bs p q = tt
+keeps_prefix a (Some y) None bs p q = absurd q
+keeps_prefix a (Some y) (Some z) bs p q = q ∙ append-nil y
 
-pub front_written : (a b c : Option (List ℕ)) (done : ℕ) (bytes : List ℕ) → Appends a b (take done bytes) → Keeps b c → Writes end.Write a c bytes
-front_written a b c done bytes p q = (take done bytes, drop done bytes, sym (take-append-drop done bytes), keeps a b c (take done bytes) p q)
+pub prefix_written : (a b c : Option (List ℕ)) (done : ℕ) (bytes : List ℕ) → Appends a b (take done bytes) → Keeps b c → Writes end.Write a c bytes
+prefix_written a b c done bytes p q = (take done bytes, drop done bytes, sym (take-append-drop done bytes), keeps a b c (take done bytes) p q)
   where
     keeps : (a b c : Option (List ℕ)) (bs : List ℕ) → Appends a b bs → Keeps b c → Appends a c bs
     keeps None b c bs p q = tt
@@ -67,9 +69,9 @@ front_written a b c done bytes p q = (take done bytes, drop done bytes, sym (tak
     keeps (Some x) (Some y) None bs p q = absurd q
     keeps (Some x) (Some y) (Some z) bs p q = q ∙ p
 
--- whether a connection is broken after a piece that came while it was whole
-pub told_at : (o o' : Option Bool) (b : Bool) → o ≡ Some false → o' ≡ option_map (λ was. b) o → o' ≡ Some b
-told_at o o' b whole is = is ∙ ap (λ (x : Option Bool). option_map (λ was. b) x) whole
+-- whether a connection is broken after a piece that arrived while it wasn't
+pub broken_after : (o o' : Option Bool) (b : Bool) → o ≡ Some false → o' ≡ option_map (λ was. b) o → o' ≡ Some b
+broken_after o o' b whole is = is ∙ ap (λ (x : Option Bool). option_map (λ was. b) x) whole
 
 -- the bytes that an open connection lends are those that are pending on it
 pub lent_at : {A : Type 0} (hub : Hub A) (id : ℕ) (lent : Option (Bor (List ℕ))) (d bytes : Bor (List ℕ)) → bytes ≡ unwrap_or lent d → option_map (λ b. b.now) lent ≡ pending_at hub id → IsSome (pending_at hub id) → pending_at hub id ≡ Some bytes.now
@@ -101,19 +103,19 @@ pub passes : {A : Type 0} (id : ℕ) (piece : List ℕ) (now : Moment) (old fed 
 passes id piece now old fed new out goes at takes s is =
     let a = goes s is in
     let b = takes a.0 a.2 in
-    (b.0, record { fed = a.0; comes = a.1; pending = pending_is fed id out at a.0 a.2; taken = b.1 }, b.2)
+    (b.0, record { fed = a.0; is_after = a.1; pending = pending_is fed id out at a.0 a.2; taken = b.1 }, b.2)
 
 -- the bytes that are pending after a break are taken
-pub breaks_in : {A : Type 0} (id : ℕ) (piece : List ℕ) (now : Moment) (old fed new : Hub A) (out : List ℕ) → BreaksSo id piece now old fed → pending_at fed id ≡ Some out → new.service ≡ fed.service
+pub breaks_in : {A : Type 0} (id : ℕ) (piece : List ℕ) (now : Moment) (old fed new : Hub A) (out : List ℕ) → BreaksInPiece id piece now old fed → pending_at fed id ≡ Some out → new.service ≡ fed.service
     → (s : State) → IsHub old s → BreaksIn (piece, now) s id new.service out
 breaks_in id piece now old fed new out breaks at served s is = of (s.connection id) (breaks s is)
   where
-    of : (o : Option Connected) → IfSome o (λ c. IfSome (pending_at fed id) (λ pending. CameToBreak now s.served c.pending (c.rest ++ piece) fed.service pending))
-        → IfSome o (λ c. CameToBreak now s.served c.pending (c.rest ++ piece) new.service out)
-    of None came = tt
-    of (Some c) came = rw served (subst (λ (o : Option (List ℕ)). IfSome o (λ pending. CameToBreak now s.served c.pending (c.rest ++ piece) fed.service pending)) at came)
+    of : (o : Option Connected) → IfSome o (λ c. IfSome (pending_at fed id) (λ pending. ReachedBreak now s.served c.pending (c.rest ++ piece) fed.service pending))
+        → IfSome o (λ c. ReachedBreak now s.served c.pending (c.rest ++ piece) new.service out)
+    of None reached = tt
+    of (Some c) reached = rw served (subst (λ (o : Option (List ℕ)). IfSome o (λ pending. ReachedBreak now s.served c.pending (c.rest ++ piece) fed.service pending)) at reached)
 
--- a front of a buffer is a piece
+-- a prefix of a buffer is a piece
 pub piece_of : (n : ℕ) (buf : List ℕ) → (n ≡ 0 → ⊥) → n ≤ length buf → length buf ≤ MAX_PIECE → IsPiece (take n buf)
 piece_of n buf some within short = let e = length-take-le n buf within in (omega (arith, e, some), omega (arith, e, within, short))
 
@@ -127,8 +129,8 @@ pending_there {A = A} hub id b e = of (get nat_cmp hub.connections id) e
     of None e = absurd (none_is b e)
     of (Some c) e = refl
 
-pub told_so : {X : Type 0} (r : Result X HubFault) (f g : HubFault) → r ≡ Err f → f ≡ g → r ≡ Err g
-told_so r f g is same = rw same at is
+pub err_moves : {X : Type 0} (r : Result X HubFault) (f g : HubFault) → r ≡ Err f → f ≡ g → r ≡ Err g
+err_moves r f g is same = rw same at is
 
 -- a piece that broke the connection
 pub pass_broken : {A : Type 0} (why : HubFault) (id : ℕ) (piece : Read_at) (old new : Hub A) (held held' : Option (List ℕ)) (out : List ℕ) → Passes id piece old new out → Appends held held' out
@@ -161,7 +163,7 @@ pieces_push (p ∷ pieces) piece all h = (all.0, pieces_push pieces piece all.1 
 pub length_push : (pieces : List Read_at) (piece : Read_at) → length (pieces ++ piece ∷ []) ≡ length pieces + 1
 length_push pieces piece = length-append pieces (piece ∷ [])
 
--- exactly this many turns so far, and the bytes that they wrote
+-- exactly `count` turns until now, and the bytes that they wrote
 pub record Going {A : Type 0} (id count most : ℕ) (old : State) (hub : Hub A) (left left' held held' : Option (List ℕ)) : Type 0 where
   pub run : TurnsRun id most old hub left left'
   pub wrote : Appends held held' run.written
@@ -189,7 +191,7 @@ module _ {A : Type 0} {id most : ℕ} {s : State} {hub : Hub A} {left left' : Op
         are = pieces_push run.pieces piece run.are short;
       }
 
-  -- a read that gave nothing
+  -- a read that returned nothing
   abbrev pub run_kept : (left'' : Option (List ℕ)) → Keeps left' left'' → TurnsRun id most s hub left left''
   run_kept left'' keeps = record {
     pieces = run.pieces;
@@ -235,7 +237,7 @@ some_is x y e = cc
 none_some : (b : Bool) → none ≡ some b → ⊥
 none_some b e = cc
 
--- the machine's connection, where the hub's is open
+-- the machine's connection, if the hub's is open
 open_as : {A : Type 0} (b : Bool) (o : Option (Connection A)) (p : Option Connected) → option_map (λ (c : Connection A). c.broken) o ≡ Some b → SameConnection o p → (t : Connected) × (p ≡ Some t) × (t.broken ≡ b)
 open_as b None p e same = absurd (none_some b e)
 open_as b (Some c) None e same = absurd same
@@ -247,8 +249,8 @@ open_state hub id b h s is = open_as b (get nat_cmp hub.connections id) (s.conne
 -- ---- the end of serving
 
 empty_unless : (b : Bool) (rest : List ℕ) → IsTrue b ↔ (rest ≢ []) → b ≡ false → rest ≡ []
-empty_unless b [] told false_is = refl
-empty_unless b (x ∷ rest) told false_is = let true_is : b ≡ true = told.1 (λ e. absurd (not_empty x rest e)) in absurd (both b true_is false_is)
+empty_unless b [] outcome false_is = refl
+empty_unless b (x ∷ rest) outcome false_is = let true_is : b ≡ true = outcome.1 (λ e. absurd (not_empty x rest e)) in absurd (both b true_is false_is)
   where
     not_empty : (x : ℕ) (rest : List ℕ) → x ∷ rest ≡ [] → ⊥
     not_empty x rest e = cc
@@ -280,16 +282,16 @@ module _ {A : Type 0} (hub : Hub A) (id : ℕ) (s : State) (is : IsHub hub s) wh
       of (Some b) e h = let t = open_state hub id b e s is in subst (λ (o : Option Connected). IsLeft end.Write o) (sym t.1) tt
 
   pub left_inside : (b : Bool) → broken_at hub id ≡ Some false → IfSome (s.connection id) (λ t. IsTrue b ↔ (t.rest ≢ [])) → b ≡ true → IsLeft end.Inside (s.connection id)
-  left_inside b h tells true_is =
+  left_inside b h answers true_is =
       let t = open_state hub id false h s is in
-      let told : IsTrue b ↔ (t.0.rest ≢ []) = subst (λ (o : Option Connected). IfSome o (λ c. IsTrue b ↔ (c.rest ≢ []))) t.1 tells in
-      subst (λ (o : Option Connected). IsLeft end.Inside o) (sym t.1) (t.2, told.0 true_is)
+      let outcome : IsTrue b ↔ (t.0.rest ≢ []) = subst (λ (o : Option Connected). IfSome o (λ c. IsTrue b ↔ (c.rest ≢ []))) t.1 answers in
+      subst (λ (o : Option Connected). IsLeft end.Inside o) (sym t.1) (t.2, outcome.0 true_is)
 
   pub left_ended : (b : Bool) → broken_at hub id ≡ Some false → IfSome (s.connection id) (λ t. IsTrue b ↔ (t.rest ≢ [])) → b ≡ false → IsLeft end.Ended (s.connection id)
-  left_ended b h tells false_is =
+  left_ended b h answers false_is =
       let t = open_state hub id false h s is in
-      let told : IsTrue b ↔ (t.0.rest ≢ []) = subst (λ (o : Option Connected). IfSome o (λ c. IsTrue b ↔ (c.rest ≢ []))) t.1 tells in
-      subst (λ (o : Option Connected). IsLeft end.Ended o) (sym t.1) (t.2, empty_unless b t.0.rest told false_is)
+      let outcome : IsTrue b ↔ (t.0.rest ≢ []) = subst (λ (o : Option Connected). IfSome o (λ c. IsTrue b ↔ (c.rest ≢ []))) t.1 answers in
+      subst (λ (o : Option Connected). IsLeft end.Ended o) (sym t.1) (t.2, empty_unless b t.0.rest outcome false_is)
 
 -- a turn that ends the serving
 pub pass_ends : {A : Type 0} (why : ServeEnd) (id count most : ℕ) (piece : Read_at) (old hub new : Hub A) (s : State) (left left' left'' held held' held'' : Option (List ℕ))
@@ -328,20 +330,20 @@ pass_ends end.Turns id count most piece old hub new s left left' left'' held hel
 -- ---- the whole
 
 -- a connection that was refused
-pub serves_refused : {A : Type 0} (first : Served) (why : HubFault) (most : ℕ) (events : List Event) (old new : Hub A) (left held : Option (List ℕ)) → ConnectGives (Err why) old new → LeadsTo first (Connect ∷ events) new
+pub serves_refused : {A : Type 0} (first : Served) (why : HubFault) (most : ℕ) (events : List Event) (old new : Hub A) (left held : Option (List ℕ)) → ConnectGives (Err why) old new → IsHistoryOf first (Connect ∷ events) new
     → Serves first (refused_end why) most events (record { hub = old; left = left; held = held }) (record { hub = new; left = left; held = held })
-serves_refused first fault.TooMany most events old new left held h leads = inl (record { same = h.1; leads = leads; read = consumes_none left; wrote = appends_none held; ends = inl h.0 })
-serves_refused first fault.Exhausted most events old new left held h leads = inl (record { same = h.2; leads = leads; read = consumes_none left; wrote = appends_none held; ends = inr h.1 })
-serves_refused first fault.Memory most events old new left held h leads = inl (record { same = h.2; leads = leads; read = consumes_none left; wrote = appends_none held; ends = (h.0, h.1) })
-serves_refused first fault.NoSuch most events old new left held h leads = absurd h
-serves_refused first fault.Broken most events old new left held h leads = absurd h
+serves_refused first fault.TooMany most events old new left held h history = inl (record { same = h.1; extends = history; read = consumes_none left; wrote = appends_none held; ends = inl h.0 })
+serves_refused first fault.Exhausted most events old new left held h history = inl (record { same = h.2; extends = history; read = consumes_none left; wrote = appends_none held; ends = inr h.1 })
+serves_refused first fault.Memory most events old new left held h history = inl (record { same = h.2; extends = history; read = consumes_none left; wrote = appends_none held; ends = (h.0, h.1) })
+serves_refused first fault.NoSuch most events old new left held h history = absurd h
+serves_refused first fault.Broken most events old new left held h history = absurd h
 
 -- a connection that was opened, served and closed
 pub serves_opened : {A : Type 0} (first : Served) (why : ServeEnd) (most : ℕ) (events : List Event) (id : ℕ) (old opened turned new : Hub A) (left left' held held' : Option (List ℕ)) → ConnectGives (Ok id) old opened
-    → LeadsTo first (Connect ∷ events) opened → ((s : State) → IsHub opened s → TurnsEnd id most why s (record { hub = opened; left = left; held = held }) (record { hub = turned; left = left'; held = held' })) → Goes (Close id) turned new
+    → IsHistoryOf first (Connect ∷ events) opened → ((s : State) → IsHub opened s → TurnsEnd id most why s (record { hub = opened; left = left; held = held }) (record { hub = turned; left = left'; held = held' })) → Goes (Close id) turned new
     → Serves first why most events (record { hub = old; left = left; held = held }) (record { hub = new; left = left'; held = held' })
-serves_opened first why most events id old opened turned new left left' held held' gives leads turns closes =
+serves_opened first why most events id old opened turned new left left' held held' gives history turns closes =
     let same : id ≡ next_number old = gives.2 in
-    let t = subst (λ (n : ℕ). TurnsEnd n most why leads.state (record { hub = opened; left = left; held = held }) (record { hub = turned; left = left'; held = held' })) same (turns leads.state leads.is) in
+    let t = subst (λ (n : ℕ). TurnsEnd n most why history.state (record { hub = opened; left = left; held = held }) (record { hub = turned; left = left'; held = held' })) same (turns history.state history.is) in
     let c = subst (λ (n : ℕ). Goes (Close n) turned new) same closes t.0.state t.0.is in
-    inr (record { start = leads.state; leads = leads.leads; turned = turned; run = t.0; wrote = t.1; rests = t.2; ends = t.3; last = c.0; closes = c.1; is = c.2 })
+    inr (record { start = history.state; extends = history.extends; turned = turned; run = t.0; wrote = t.1; rests = t.2; ends = t.3; last = c.0; closes = c.1; is = c.2 })

@@ -4,8 +4,9 @@ ghost use Rattle.std.specs.Bool.{OnTrue, OnFalse};
 ghost use Rattle.std.specs.Io.KnownBytes.{Appends};
 ghost use Rattle.nfs_hub.specs.Answer.{Served};
 ghost use Rattle.nfs_hub.specs.Machine.{State, Event};
-ghost use Rattle.nfs_hub.specs.Hub.{IsHub, LeadsTo, broken_at};
-ghost use Rattle.nfs_hub.specs.Served.{PassGives, TurnsEnd, Serves, Writes, broken_end, refused_end};
+ghost use Rattle.nfs_hub.specs.Hub.{IsHub, IsHistoryOf, broken_at};
+ghost use Rattle.nfs_hub.specs.Served.{Serves, Writes};
+ghost use Rattle.nfs_hub.specs.internal.Served.{PassGives, TurnsEnd, broken_end, refused_end};
 ghost use Rattle.nfs_hub.specs.declared.serving.ServeEnd.TheVariants as end;
 
 use crate::fault::HubFault;
@@ -14,7 +15,7 @@ use nfs_types::Moment;
 use std::alloc::Allocator;
 use std::io::{Read, Write};
 
-/// The most bytes that are read in a turn.
+/// The most bytes that one turn reads.
 const PIECE: usize = 4096;
 
 /// A clock.
@@ -22,8 +23,8 @@ pub trait Clock {
     /// The present moment.
     fn now(&self) -> Moment;
 
-    /// The second of a clock that only goes forward, from any start: the present moment's where there
-    /// is no such clock.
+    /// The second of a clock that only goes forward, from any start. The default is the second of
+    /// the present moment, at least 0.
     fn second(&self) -> u64 {
         self.now().seconds.max(0) as u64
     }
@@ -32,13 +33,13 @@ pub trait Clock {
 /// The end of serving a connection.
 #[derive(Clone, Copy, Debug, PartialEq, Eq)]
 pub enum ServeEnd {
-    /// The input ended, after a whole record.
+    /// The input ended after a complete record.
     Ended = 1,
     /// The input ended inside a record.
     Inside = 2,
     /// The stream or a record of it broke the connection.
     Broken = 3,
-    /// Memory was refused, for the connection or in a piece.
+    /// An allocation failed, for the connection or for a piece.
     Memory = 4,
     /// The limit of open connections is reached, or no connection number is left.
     TooMany = 5,
@@ -50,10 +51,10 @@ pub enum ServeEnd {
     Turns = 8,
 }
 
-/// Writes all of the bytes; or answers that the writer failed or took nothing.
+/// Writes all of the bytes. `false`: the writer failed or took nothing.
 fn write_out<W: Write>(writer: &mut W, bytes: &[u8]) -> bool
     ensures all { OnTrue result (Appends (W.contents writer.old) (W.contents writer.new) bytes.now) }
-    ensures front { OnFalse result (Writes end.Write (W.contents writer.old) (W.contents writer.new) bytes.now) }
+    ensures prefix { OnFalse result (Writes end.Write (W.contents writer.old) (W.contents writer.new) bytes.now) }
 {
     let mut done = 0;
     while done < bytes.len() {
@@ -80,7 +81,7 @@ fn broken_by(fault: HubFault) -> ServeEnd
     }
 }
 
-/// Feeds a piece, and then writes the pending bytes. `None` where the connection can go on.
+/// Feeds a piece, and then writes the pending bytes. `None`: the connection can continue.
 fn pass<A: Allocator + Copy, W: Write>(
     hub: &mut Hub<A>,
     conn: ConnId,
@@ -106,7 +107,7 @@ fn pass<A: Allocator + Copy, W: Write>(
     }
 }
 
-/// Serves an open connection for this many turns.
+/// Serves an open connection for at most `turns` turns.
 fn turn_by_turn<A: Allocator + Copy, R: Read, W: Write, C: Clock>(
     hub: &mut Hub<A>,
     conn: ConnId,
@@ -140,7 +141,7 @@ fn turn_by_turn<A: Allocator + Copy, R: Read, W: Write, C: Clock>(
     ServeEnd::Turns
 }
 
-/// The end of serving a connection that is refused.
+/// The end of serving a connection that was refused.
 fn refused(fault: HubFault) -> ServeEnd
     ensures { result ≡ refused_end fault }
 {
@@ -152,10 +153,10 @@ fn refused(fault: HubFault) -> ServeEnd
     }
 }
 
-/// Opens a connection. For at most this many turns it reads at most 4,096 bytes, feeds them at the
-/// clock's moment, and then writes the pending bytes. It does so also where the piece broke the
-/// connection. At the end it closes the connection. Answers how it ended; nothing was read where
-/// the connection was refused. Where the writer failed, it took a front of the bytes to be written.
+/// Opens a connection. Each turn reads at most 4,096 bytes, feeds them at the clock's moment, and
+/// then writes the pending bytes, even if the piece broke the connection. There are at most `turns`
+/// turns. At the end it closes the connection. Returns how serving ended. If the connection was
+/// refused, nothing was read. If the writer failed, it took a prefix of the bytes to be written.
 pub fn serve<A: Allocator + Copy, R: Read, W: Write, C: Clock>(
     hub: &mut Hub<A>,
     reader: &mut R,
@@ -163,7 +164,7 @@ pub fn serve<A: Allocator + Copy, R: Read, W: Write, C: Clock>(
     clock: &C,
     turns: u64,
 ) -> ServeEnd
-    ensures { (first : Served) (events : List Event) → LeadsTo first events hub.old →
+    ensures { (first : Served) (events : List Event) → IsHistoryOf first events hub.old →
         Serves first result turns events
         (record { hub = hub.old; left = R.remaining reader.old; held = W.contents writer.old })
         (record { hub = hub.new; left = R.remaining reader.new; held = W.contents writer.new }) }

@@ -6,13 +6,13 @@ use Rattle.xdr_wire.specs.Wire.{in_normal_form}
 use Rattle.xdr_wire.specs.declared.fault.XdrFault.{XdrFault}
 use Rattle.nfs_ops.specs.Items.{Item, Spelled}
 use Rattle.nfs_ops.specs.Rows.{row}
-use Rattle.nfs_ops.specs.Operations.{Operation, Known, Unsupported, any_stands, supported, arguments_of}
+use Rattle.nfs_ops.specs.Operations.{Operation, Known, Unsupported, any_at_start, supported, arguments_of}
 use Rattle.nfs_ops.specs.Results.{Outcome, Done}
 use Rattle.nfs_ops.specs.ResultReading.{spelled_of}
 use Rattle.nfs_ops.specs.ReadsAs.{IsOperation, IsDone}
 use Rattle.nfs_ops.specs.declared.OpKind.{OpKind}
 
--- an item is read, or what has its form can't be
+-- an item is read, or bytes of its form can't be
 abbrev ReadsItem : Item → List ℕ → List ℕ → Type 0
 ReadsItem i old new = in_normal_form i.normal (read_at i.form old) ≡ Ok (i.value, new)
 
@@ -31,9 +31,9 @@ read_is k _ i old new is e = let found = is.kind in absurd cc
 pub unread_is : (k : OpKind) (s : Spelled) (old : List ℕ) (fault : XdrFault) → (row k).takes ≡ s → (row k).unsupported ≡ [] → Faults old fault s → arguments_of k old ≡ Err fault
 unfolding arguments_of
 unread_is k s old fault takes all e =
-    ap (supported k old) (subst (Faults old fault) (sym takes) e) ∙ ap (λ (ts : List Xdr). let x : ReadOf Operation = cond (any_stands ts old) (Ok (Unsupported (row k).number, old)) (Err fault) in x) all
+    ap (supported k old) (subst (Faults old fault) (sym takes) e) ∙ ap (λ (ts : List Xdr). let x : ReadOf Operation = cond (any_at_start ts old) (Ok (Unsupported (row k).number, old)) (Err fault) in x) all
 
--- the result of an operation, and the same where it can't be read
+-- the result of an operation, and the same if it can't be read
 abbrev gives : (k : OpKind) → ReadOf (Value (row k).gives.form) → ReadOf Outcome
 gives k read = read >>= λ x. Ok (Done k x.0, x.1)
 

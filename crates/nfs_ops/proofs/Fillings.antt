@@ -5,7 +5,7 @@ use Rattle.std.specs.List.{flat_map, AllByRecursion}
 use Rattle.std.proofs.lemmas.List.{append-nil, length-append, take_at}
 use Rattle.xdr_wire.specs.Xdr.{Value}
 use Rattle.xdr_wire.specs.Buffer.{Buffer, Appends}
-use Rattle.xdr_wire.proofs.Filling.{then_behind}
+use Rattle.xdr_wire.proofs.Filling.{appends_both}
 use Rattle.nfs_ops.specs.Forms.{entry}
 use Rattle.nfs_ops.specs.Listing.{Judged, linked_bytes, IsSendable}
 use Rattle.nfs_ops.specs.ListingSteps.{Filled}
@@ -14,7 +14,7 @@ pub begun : {R : Type 0} (most : ℕ) (all : List (Judged R)) (old : Buffer) →
 begun most all old = record {
   given = [];
   parts = refl;
-  written = record { behind = sym (append-nil old.bytes); less_room = omega arith };
+  written = record { appended = sym (append-nil old.bytes); less_room = omega arith };
   fits = inl refl;
   sendable = tt;
 }
@@ -36,7 +36,7 @@ pub one_more : {R : Type 0} (most : ℕ) (all : List (Judged R)) (old now then :
 one_more {R} most all old now then left rest e is h a f within = record {
   given = h.given ++ e ∷ [];
   parts = h.parts ∙ ap (λ (l : List (Judged R)). map Ok h.given ++ l) is ∙ map-one h.given e rest;
-  written = subst (λ (b : List ℕ). Appends old then b) (flat_map-one h.given e) (then_behind old now then (flat_map linked_bytes h.given) (linked_bytes e) h.written a);
+  written = subst (λ (b : List ℕ). Appends old then b) (flat_map-one h.given e) (appends_both old now then (flat_map linked_bytes h.given) (linked_bytes e) h.written a);
   fits = inr within;
   sendable = all-one h.given e h.sendable f;
 }
@@ -46,8 +46,8 @@ same_buffer a b p q =
     let bytes_then : a ≡ record { bytes = b.bytes; room = a.room } = ap (λ (x : List ℕ). let y : Buffer = record { bytes = x; room = a.room } in y) p in
     bytes_then ∙ ap (λ (n : ℕ). let y : Buffer = record { bytes = b.bytes; room = n } in y) q
 
--- the bytes that were written after a place are cut off again
+-- the bytes that were written after a place are truncated
 pub cut_back : (now then cut : Buffer) (item : List ℕ) (len : ℕ) → len ≡ length now.bytes → Appends now then item → cut.bytes ≡ take len then.bytes → cut.room + len ≡ then.room + length then.bytes → cut ≡ now
 cut_back now then cut item len at a bytes room =
-    same_buffer cut now (bytes ∙ ap (take len) a.behind ∙ take_at now.bytes item len (sym at))
-    (omega (arith, room, a.less_room, at, ap length a.behind, length-append now.bytes item))
+    same_buffer cut now (bytes ∙ ap (take len) a.appended ∙ take_at now.bytes item len (sym at))
+    (omega (arith, room, a.less_room, at, ap length a.appended, length-append now.bytes item))

@@ -1,4 +1,4 @@
--- The listing of entries of which the first ones fit and the next one doesn't.
+-- The listing of entries if the first ones fit and the next one doesn't.
 use Rattle.std.proofs.Common.{◌≡◌, ◌≤◌, ◌<◌, ◌+◌, ◌++◌, ◌∙◌, ◌⊎◌, ℕ, Bool, true, false, cond, [], ◌∷◌, List, None, length, take, nat_le, nat_lt, suc, inl, inr, refl, sym, ap, subst, arith, Result, Ok, Err}
 use Rattle.std.specs.Prelude.{map}
 use Rattle.std.specs.List.{prefix_len, sum_by}
@@ -28,7 +28,7 @@ before : {R : Type 0} (given : List (Value entry)) (rest : List (Judged R)) → 
 before [] rest = refl
 before (e ∷ given) rest = ap (λ (es : List (Value entry)). e ∷ es) (before given rest)
 
--- the next entry, if it is returned, goes past the limit
+-- the next entry, if it is returned, exceeds the limit
 abbrev pub Passes : {R : Type 0} → ℕ → ℕ → List (Judged R) → Type 0
 Passes {R} limit size rest = (e : Value entry) (others : List (Judged R)) → rest ≡ Ok e ∷ others → limit < size + size_of_entry e
 
@@ -74,12 +74,12 @@ counted {R} limit given rest (inl none) passes =
     ap (λ (es : List (Value entry)). fitting limit (parted es rest)) none ∙ none_counted limit 16 rest nothing ∙ ap length (sym none)
 
 -- only the last of the judged entries can be refused
-judged_so : {R : Type 0} (given : List (Value entry)) (rest : List (Judged R)) → first_refusal (take (suc (length given)) (parted given rest)) ≡ first_refusal (take 1 rest)
-judged_so [] rest = refl
-judged_so (e ∷ given) rest = judged_so given rest
+judged_first : {R : Type 0} (given : List (Value entry)) (rest : List (Judged R)) → first_refusal (take (suc (length given)) (parted given rest)) ≡ first_refusal (take 1 rest)
+judged_first [] rest = refl
+judged_first (e ∷ given) rest = judged_first given rest
 
 refusal_is : {R : Type 0} (limit : ℕ) (given : List (Value entry)) (rest : List (Judged R)) → fitting limit (parted given rest) ≡ length given → first_refusal (judged_within limit (parted given rest)) ≡ first_refusal (take 1 rest)
-refusal_is {R} limit given rest n = ap (λ (m : ℕ). first_refusal (take (1 + m) (parted given rest))) n ∙ ap (λ (m : ℕ). first_refusal (take m (parted given rest))) (one_more (length given)) ∙ judged_so given rest
+refusal_is {R} limit given rest n = ap (λ (m : ℕ). first_refusal (take (1 + m) (parted given rest))) n ∙ ap (λ (m : ℕ). first_refusal (take m (parted given rest))) (one_more (length given)) ∙ judged_first given rest
 
 some_are : {R : Type 0} (limit : ℕ) (given : List (Value entry)) (rest : List (Judged R)) → fitting limit (parted given rest) ≡ length given → (given ≡ [] → rest ≡ []) → listing_size given ≤ limit → some_fit limit (parted given rest) ≡ true
 some_are limit [] [] n none le = is_le 16 limit le
@@ -93,9 +93,9 @@ those_are : {R : Type 0} (limit : ℕ) (given : List (Value entry)) (rest : List
     → those_fitting limit (parted given rest) ≡ record { entries = given; eof = eof }
 those_are {R} limit given rest eof n ends =
     let all : List (Judged R) = parted given rest in
-    let front : take (length given) (given_before all) ≡ given = ap (take (length given)) (before given rest) ∙ take_at given (given_before rest) (length given) refl in
+    let prefix : take (length given) (given_before all) ≡ given = ap (take (length given)) (before given rest) ∙ take_at given (given_before rest) (length given) refl in
     ap (λ (m : ℕ). let l : Listing = record { entries = take m (given_before all); eof = nat_le (length all) m } in l) n
-    ∙ ap (λ (es : List (Value entry)). let l : Listing = record { entries = es; eof = nat_le (length all) (length given) } in l) front
+    ∙ ap (λ (es : List (Value entry)). let l : Listing = record { entries = es; eof = nat_le (length all) (length given) } in l) prefix
     ∙ ap (λ (m : ℕ). let l : Listing = record { entries = given; eof = nat_le m (length given) } in l) (end_is given rest)
     ∙ ap (λ (b : Bool). let l : Listing = record { entries = given; eof = b } in l) ends
 
@@ -105,7 +105,7 @@ pub refused_listing : {R : Type 0} (limit : ℕ) (given : List (Value entry)) (o
 unfolding listing
 refused_listing {R} limit given others refusal fits =
     let rest : List (Judged R) = Err refusal ∷ others in
-    let n : fitting limit (parted given rest) ≡ length given = counted limit given rest fits (λ e behind is. absurd cc) in
+    let n : fitting limit (parted given rest) ≡ length given = counted limit given rest fits (λ e after is. absurd cc) in
     ap (listing_unless limit (parted given rest)) (refusal_is limit given rest n)
 
 pub given_listing : {R : Type 0} (limit : ℕ) (given : List (Value entry)) (rest : List (Judged R)) (eof : Bool) → listing_size given ≤ limit → Passes limit (listing_size given) rest → (given ≡ [] → rest ≡ [])
@@ -153,7 +153,7 @@ still_past limit size first more sum next is lt = omega (arith, is, lt)
 
 split : {R : Type 0} (limit size : ℕ) (all : List (Judged R)) → Split limit size all
 split limit size [] = record { given = []; rest = []; parts = refl; fits = inl refl; passes = λ e others f. absurd cc }
-split limit size (Err refusal ∷ others) = record { given = []; rest = Err refusal ∷ others; parts = refl; fits = inl refl; passes = λ e behind f. absurd cc }
+split limit size (Err refusal ∷ others) = record { given = []; rest = Err refusal ∷ others; parts = refl; fits = inl refl; passes = λ e after f. absurd cc }
 split {R} limit size (Ok e ∷ others) = elim (leb_tells (size + size_of_entry e) limit) as (λ t. Split limit size (Ok e ∷ others)) [ inl le ↦ more le.1 (split limit (size + size_of_entry e) others) | inr past ↦ none past.1 ]
   where
     none : limit < size + size_of_entry e → Split limit size (Ok e ∷ others)
@@ -162,7 +162,7 @@ split {R} limit size (Ok e ∷ others) = elim (leb_tells (size + size_of_entry e
       rest = Ok e ∷ others;
       parts = refl;
       fits = inl refl;
-      passes = λ next behind f. let same : next ≡ e = cc in subst (λ (x : Value entry). limit < size + 0 + size_of_entry x) (sym same) (without limit size (size_of_entry e) past);
+      passes = λ next after f. let same : next ≡ e = cc in subst (λ (x : Value entry). limit < size + 0 + size_of_entry x) (sym same) (without limit size (size_of_entry e) past);
     }
 
     more : size + size_of_entry e ≤ limit → Split limit (size + size_of_entry e) others → Split limit size (Ok e ∷ others)
@@ -175,7 +175,7 @@ split {R} limit size (Ok e ∷ others) = elim (leb_tells (size + size_of_entry e
           rest = s.rest;
           parts = ap (λ (l : List (Judged R)). Ok e ∷ l) s.parts;
           fits = inr (together limit size (size_of_entry e) (sum_by size_of_entry s.given) (sum_by size_of_entry (e ∷ s.given)) sum within);
-          passes = λ next behind f. still_past limit size (size_of_entry e) (sum_by size_of_entry s.given) (sum_by size_of_entry (e ∷ s.given)) (size_of_entry next) sum (s.passes next behind f);
+          passes = λ next after f. still_past limit size (size_of_entry e) (sum_by size_of_entry s.given) (sum_by size_of_entry (e ∷ s.given)) (size_of_entry next) sum (s.passes next after f);
         }
 
 with_one : (given : List (Value entry)) (e : Value entry) → listing_size (given ++ e ∷ []) ≡ listing_size given + size_of_entry e
@@ -226,13 +226,13 @@ is_listing {R} limit [] (Ok e ∷ others) fits passes =
       granted = λ refusal others f. absurd cc;
     })
 is_listing {R} limit (w ∷ given) (Ok e ∷ others) (inr le) passes =
-    let front : List (Value entry) = w ∷ given in
-    subst (IsListing limit (parted front (Ok e ∷ others))) (sym (given_listing limit front (Ok e ∷ others) false le passes (λ f. absurd cc) refl (one_left (length front) (length (Ok e ∷ others)) (length others) refl))) (record {
+    let prefix : List (Value entry) = w ∷ given in
+    subst (IsListing limit (parted prefix (Ok e ∷ others))) (sym (given_listing limit prefix (Ok e ∷ others) false le passes (λ f. absurd cc) refl (one_left (length prefix) (length (Ok e ∷ others)) (length others) refl))) (record {
       rest = Ok e ∷ others;
       parts = refl;
       fits = le;
       granted = λ refusal others f. absurd cc;
-      longest = past_limit limit front (Ok e ∷ others) passes;
+      longest = past_limit limit prefix (Ok e ∷ others) passes;
       some_or_all = λ f. absurd cc;
       ends = (λ f. absurd cc, λ f. absurd cc);
     })

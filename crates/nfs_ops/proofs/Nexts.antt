@@ -1,4 +1,4 @@
--- An operation is read exactly where a spelling of it is at the front.
+-- An operation is read if and only if the bytes begin with an encoding of it.
 use Rattle.std.proofs.Common.{◌≡◌, ℕ, true, List, ◌++◌, None, Ok, sym, ap, ◌∙◌}
 use Rattle.xdr_wire.specs.Xdr.{Xdr, Value, uint, pair}
 use Rattle.xdr_wire.specs.Reading.{read_at}
@@ -6,7 +6,7 @@ use Rattle.xdr_wire.specs.Wire.{normalized, in_normal_form}
 use Rattle.xdr_wire.proofs.Spelling.{begins_from_read, read_from_begins, again, spelled}
 use Rattle.xdr_wire.proofs.Normal.{to_normal, both_is}
 use Rattle.xdr_wire.proofs.Steps.{bind_ok, ok_is}
-use Rattle.nfs_ops.specs.Items.{Item, Spelled, numbered, Stands, ItemHasSpelling, ItemIsNormal, item_spelling}
+use Rattle.nfs_ops.specs.Items.{Item, Spelled, numbered, IsAtStart, ItemHasSpelling, ItemIsNormal, item_spelling}
 use Rattle.nfs_ops.specs.Rows.{row}
 use Rattle.nfs_ops.specs.Operations.{Operation, Known, Unsupported, Illegal, Bad, op_item, is_built, supported, arguments_of, arguments_from, arguments_at, or_bad, next_at, next_from}
 use Rattle.nfs_ops.specs.declared.OpKind.{OpKind}
@@ -28,7 +28,7 @@ arguments_are : (k : OpKind) (v : Value (row k).takes.form) (r rest : List ℕ) 
 unfolding arguments_at arguments_of
 arguments_are k v r rest e = ap (arguments_from (row k).number r) (kind_is k) ∙ ap (supported k r) e
 
-known_next : (k : OpKind) (v : Value (row k).takes.form) (bytes rest : List ℕ) → Stands (numbered (row k).number (row k).takes v) bytes rest → next_at bytes ≡ (Known k v, rest)
+known_next : (k : OpKind) (v : Value (row k).takes.form) (bytes rest : List ℕ) → IsAtStart (numbered (row k).number (row k).takes v) bytes rest → next_at bytes ≡ (Known k v, rest)
 unfolding next_at
 known_next k v bytes rest s =
     let n : ℕ = (row k).number in
@@ -39,7 +39,7 @@ known_next k v bytes rest s =
     let again : in_normal_form a.normal (read_at a.form p.0) ≡ Ok (v, rest) = to_normal a.normal (read_at a.form p.0) s.0.1 rest p.2 ∙ ap (λ (x : ℕ × Value a.form). Ok (x.1, rest)) same in
     ap (next_from bytes) (p.1 ∙ ap (λ (x : ℕ). Ok (x, p.0)) number_is) ∙ ap (or_bad n p.0) (arguments_are k v p.0 rest again)
 
-pub next_is : (o : Operation) (bytes rest : List ℕ) → is_built o ≡ true → Stands (op_item o) bytes rest → next_at bytes ≡ (o, rest)
+pub next_is : (o : Operation) (bytes rest : List ℕ) → is_built o ≡ true → IsAtStart (op_item o) bytes rest → next_at bytes ≡ (o, rest)
 next_is (Known k v) bytes rest built s = known_next k v bytes rest s
 next_is (Unsupported n) bytes rest built s = absurd cc
 next_is Illegal bytes rest built s = absurd cc

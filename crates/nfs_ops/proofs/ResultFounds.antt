@@ -1,4 +1,4 @@
--- A result that is read is at the front of the bytes.
+-- The bytes begin with the result that is read.
 use Rattle.std.proofs.Common.{◌≡◌, ◌≢◌, ℕ, true, cond, List, [], ◌∷◌, ◌++◌, length, Option, Some, None, Ok, Err, refl, sym, ap, subst, ◌∙◌, inl, inr, eq-eqb, arith}
 use Rattle.std.specs.Prelude.{◌==◌}
 use Rattle.std.proofs.lemmas.Bool.{ne_eqb, cases_eq, eqb-true}
@@ -13,21 +13,21 @@ use Rattle.std.specs.Option.{option_map}
 use Rattle.nfs_types.specs.Forms.{bitmap, trimmed}
 use Rattle.nfs_types.specs.Status.{number_of, all_statuses, of_that_number, status_at}
 use Rattle.nfs_types.specs.declared.status.Status.{Status}
-use Rattle.nfs_ops.specs.Items.{Item, Spelled, done, plain, Stands}
+use Rattle.nfs_ops.specs.Items.{Item, Spelled, done, plain, IsAtStart}
 use Rattle.nfs_ops.specs.Rows.{row, kind_at}
 use Rattle.nfs_ops.specs.Results.{Outcome, Done, Refused, SetAttrRefused, outcome_item}
-use Rattle.nfs_ops.specs.ResultReading.{refusal_at, none_set, setattr_refused, refused_from, refused_at, behind_status, result_at, outcome_conforms, conforming, spelled_of, done_at, done_of, done_from}
+use Rattle.nfs_ops.specs.ResultReading.{refusal_at, none_set, setattr_refused, refused_from, refused_at, outcome_after_status, result_at, outcome_conforms, conforming, spelled_of, done_at, done_of, done_from}
 use Rattle.nfs_ops.specs.Readable.{IsResult}
 use Rattle.nfs_ops.specs.declared.OpKind.{OpKind}
 use Rattle.nfs_ops.proofs.Numbers.{number_is, either}
-use Rattle.nfs_ops.proofs.Founds.{pair_from, same_front}
+use Rattle.nfs_ops.proofs.Founds.{pair_from, same_prefix}
 use Rattle.nfs_ops.proofs.ResultNexts.{result_is}
 
--- the result has the number of a status, and is at the front
+-- the result has the number of a status, and the bytes begin with it
 abbrev pub Found : Outcome → List ℕ → List ℕ → Type 0
-Found o bytes rest = IsResult o × Stands (outcome_item o) bytes rest
+Found o bytes rest = IsResult o × IsAtStart (outcome_item o) bytes rest
 
--- a result of which nothing more is read
+-- a result after which nothing more is read
 abbrev alone : Outcome → List ℕ → ReadOf Outcome
 alone op q = Ok (op, q)
 
@@ -35,8 +35,8 @@ plain_found : (k s : ℕ) (op : Outcome) (bytes r q rest : List ℕ) (o : Outcom
     → read_at uint bytes ≡ Ok (k, r) → read_at uint r ≡ Ok (s, q) → alone op q ≡ Ok (o, rest) → Found o bytes rest
 plain_found k s op bytes r q rest o is good number_is status_is e =
     let all_read : read_at (pair uint uint) bytes ≡ Ok ((k, s), q) = pair_from uint bytes r q k s number_is status_is in
-    let stands : Stands (plain k s) bytes q = ((k, s), begins_from_read (pair uint uint) (k, s) bytes q all_read, refl) in
-    subst (λ (y : Outcome × List ℕ). Found y.0 bytes y.1) (ok_is (op, q) (o, rest) e) (good, subst (λ (i : Item). Stands i bytes q) (sym is) stands)
+    let at_start : IsAtStart (plain k s) bytes q = ((k, s), begins_from_read (pair uint uint) (k, s) bytes q all_read, refl) in
+    subst (λ (y : Outcome × List ℕ). Found y.0 bytes y.1) (ok_is (op, q) (o, rest) e) (good, subst (λ (i : Item). IsAtStart i bytes q) (sym is) at_start)
 
 -- a result that is made of a value, and conforms
 taken : {V : Type 0} (read : ReadOf V) (made : V → Outcome) (o : Outcome) (rest : List ℕ) → ((read >>= λ x. Ok (made x.0, x.1)) >>= conforming) ≡ Ok (o, rest)
@@ -55,8 +55,8 @@ done_found k bytes r q rest o number_read status_is e =
     let all_read : read_at (pair uint (pair uint g.form)) bytes ≡ Ok ((n, (0, b.0)), a.0.1) = pair_from (pair uint g.form) bytes r a.0.1 n (0, b.0) number_read value_read in
     let inner : normalized (both None g.normal) (0, b.0) ≡ (0, a.0.0) = both_is None g.normal (0, b.0) ∙ ap (λ (w : Value g.form). (0, w)) b.2 in
     let outer : normalized (both None (both None g.normal)) (n, (0, b.0)) ≡ (n, (0, a.0.0)) = both_is None (both None g.normal) (n, (0, b.0)) ∙ ap (λ (w : ℕ × Value g.form). (n, w)) inner in
-    let stands : Stands (done n g a.0.0) bytes a.0.1 = ((n, (0, b.0)), begins_from_read (pair uint (pair uint g.form)) (n, (0, b.0)) bytes a.0.1 all_read, outer) in
-    subst (λ (y : Outcome × List ℕ). Found y.0 bytes y.1) a.3 (a.2, stands)
+    let at_start : IsAtStart (done n g a.0.0) bytes a.0.1 = ((n, (0, b.0)), begins_from_read (pair uint (pair uint g.form)) (n, (0, b.0)) bytes a.0.1 all_read, outer) in
+    subst (λ (y : Outcome × List ℕ). Found y.0 bytes y.1) a.3 (a.2, at_start)
 
 kind_found : (n : ℕ) (bytes r q rest : List ℕ) (o : Outcome) (found : Option OpKind) → kind_at n ≡ found → read_at uint bytes ≡ Ok (n, r) → read_at uint r ≡ Ok (0, q)
     → done_from q found ≡ Ok (o, rest) → Found o bytes rest
@@ -102,8 +102,8 @@ setattr_found s bytes r q rest o good number_is status_is e =
     let none : trimmed b.0 ≡ [] = b.2 ∙ no_word a.0.0 t.0 in
     let value_read : read_at (pair uint bitmap) r ≡ Ok ((s, b.0), a.0.1) = pair_from bitmap r q a.0.1 s b.0 status_is b.1 in
     let all_read : read_at (pair uint (pair uint bitmap)) bytes ≡ Ok ((34, (s, b.0)), a.0.1) = pair_from (pair uint bitmap) bytes r a.0.1 34 (s, b.0) number_is value_read in
-    let stands : Stands (outcome_item (SetAttrRefused s)) bytes a.0.1 = ((34, (s, b.0)), begins_from_read (pair uint (pair uint bitmap)) (34, (s, b.0)) bytes a.0.1 all_read, ap (λ (w : List ℕ). (34, (s, w))) none) in
-    subst (λ (y : Outcome × List ℕ). Found y.0 bytes y.1) same (good, stands)
+    let at_start : IsAtStart (outcome_item (SetAttrRefused s)) bytes a.0.1 = ((34, (s, b.0)), begins_from_read (pair uint (pair uint bitmap)) (34, (s, b.0)) bytes a.0.1 all_read, ap (λ (w : List ℕ). (34, (s, w))) none) in
+    subst (λ (y : Outcome × List ℕ). Found y.0 bytes y.1) same (good, at_start)
 
 known_found : (n s : ℕ) (bytes r q rest : List ℕ) (o : Outcome) → refusal_at s ≡ Some s → s ≢ 0 → read_at uint bytes ≡ Ok (n, r) → read_at uint r ≡ Ok (s, q)
     → refused_from n q (Some s) ≡ Ok (o, rest) → Found o bytes rest
@@ -125,9 +125,9 @@ refused_found : (n s : ℕ) (bytes r q rest : List ℕ) (o : Outcome) → s ≢ 
 unfolding refused_at
 refused_found n s bytes r q rest o other number_is status_is e = from_found n s bytes r q rest o (refusal_at s) refl other number_is status_is e
 
-behind_found : (n s : ℕ) (bytes r q rest : List ℕ) (o : Outcome) → read_at uint bytes ≡ Ok (n, r) → read_at uint r ≡ Ok (s, q) → behind_status n s q ≡ Ok (o, rest) → Found o bytes rest
-unfolding behind_status
-behind_found n s bytes r q rest o number_is status_is e =
+found_after_status : (n s : ℕ) (bytes r q rest : List ℕ) (o : Outcome) → read_at uint bytes ≡ Ok (n, r) → read_at uint r ≡ Ok (s, q) → outcome_after_status n s q ≡ Ok (o, rest) → Found o bytes rest
+unfolding outcome_after_status
+found_after_status n s bytes r q rest o number_is status_is e =
     elim (cases_eq s 0) [
       | inl eq ↦ all_done_found n bytes r q rest o number_is (status_is ∙ ap (λ (m : ℕ). Ok (m, q)) eq) (sym (ap (λ b. cond b (done_at n q) (refused_at n s q)) (eq-eqb s 0 eq)) ∙ e)
       | inr ne ↦ refused_found n s bytes r q rest o ne number_is status_is (sym (ap (λ b. cond b (done_at n q) (refused_at n s q)) (ne_eqb s 0 ne)) ∙ e)
@@ -138,11 +138,11 @@ unfolding result_at
 result_found o bytes rest e =
     let a = bind_ok (read_at uint bytes) _ (o, rest) e in
     let b = bind_ok (read_at uint a.0.1) _ (o, rest) a.2 in
-    behind_found a.0.0 b.0.0 bytes a.0.1 b.0.1 rest o a.1 b.1 b.2
+    found_after_status a.0.0 b.0.0 bytes a.0.1 b.0.1 rest o a.1 b.1 b.2
 
-pub no_further : (o : Outcome) (front rest other : List ℕ) → result_at (front ++ rest) ≡ Ok (o, rest) → result_at (front ++ other) ≡ Ok (o, other)
-no_further o front rest other e =
-    let f = result_found o (front ++ rest) rest e in
+pub no_further : (o : Outcome) (prefix rest other : List ℕ) → result_at (prefix ++ rest) ≡ Ok (o, rest) → result_at (prefix ++ other) ≡ Ok (o, other)
+no_further o prefix rest other e =
+    let f = result_found o (prefix ++ rest) rest e in
     let s = f.1 in
-    let front_is : front ≡ s.1.front = same_front front s.1.front rest s.1.parts in
-    result_is o (front ++ other) other f.0 (s.0, record { front = s.1.front; spelled = s.1.spelled; parts = ap (λ (x : List ℕ). x ++ other) front_is }, s.2)
+    let prefix_is : prefix ≡ s.1.prefix = same_prefix prefix s.1.prefix rest s.1.parts in
+    result_is o (prefix ++ other) other f.0 (s.0, record { prefix = s.1.prefix; spelled = s.1.spelled; parts = ap (λ (x : List ℕ). x ++ other) prefix_is }, s.2)

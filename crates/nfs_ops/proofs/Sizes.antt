@@ -1,4 +1,4 @@
--- The size of a result: its greatest size bounds each of its spellings.
+-- The size of a result: its largest size bounds each of its encodings.
 use Rattle.std.proofs.Common.{◌≡◌, refl, ap, ◌∙◌, ℕ, ◌+◌, ◌*◌, ◌≤◌, List, [], ◌∷◌, length, Result, Ok, Err, replicate, inl, inr, IsTrue, is_ok, OnOk, arith, true, false, cond, ◌==◌}
 use Rattle.std.specs.Int.{w32, to_be_bytes}
 use Rattle.std.specs.List.{flat_map, sum_by}
@@ -8,7 +8,7 @@ use Rattle.std.proofs.lemmas.List.Sums.{sum_by-cons}
 use Rattle.xdr_wire.specs.Xdr.{Xdr, Value, void, uint, hyper, boolean, fixed, opaque, pair, array, chain, union, arm, no_more, fields, padded, padding, spelling, link, HasSpelling}
 use Rattle.xdr_wire.specs.Buffer.{Buffer, Puts}
 use Rattle.xdr_wire.proofs.Words.{length_words}
-use Rattle.nfs_types.specs.Forms.{trimmed, front_word, stateid, bitmap, attributes}
+use Rattle.nfs_types.specs.Forms.{trimmed, cons_trimmed, stateid, bitmap, attributes}
 use Rattle.nfs_ops.specs.Forms.{with_padding, always, zeros, bytes, change_info, entry, size_of_entry, create_result, getattr_result, open_result, read_result, readdir_result, readlink_result, setattr_result}
 use Rattle.nfs_ops.specs.Items.{Item, done, ItemHasSpelling, ItemIsNormal, item_spelling}
 use Rattle.nfs_ops.specs.Writing.{IsWrittenWithin}
@@ -18,12 +18,12 @@ use Rattle.nfs_ops.specs.Rows.{row}
 use Rattle.nfs_ops.specs.declared.OpKind.{OpKind}
 use Rattle.nfs_ops.specs.declared.OpKind.TheVariants.{Create, GetAttr, Open, Read, ReadDir, ReadLink, SetAttr}
 
--- n bytes or fewer are written where there is room for n
+-- n bytes or fewer are written if there is room for n
 pub fits : {E : Type 0} (old new : Buffer) (item : List ℕ) (r : Result (Unit {0}) E) (n : ℕ) → Puts old new item r → length item ≤ n → n ≤ old.room → IsTrue (is_ok r)
 fits old new item (Ok x) n puts short room = refl
 fits old new item (Err e) n puts short room = absurd (omega (arith, puts.0, short, room))
 
--- an item of n bytes or fewer is written where there is room for n
+-- an item of n bytes or fewer is written if there is room for n
 pub written_within : {E : Type 0} (i : Item) (n : ℕ) (old new : Buffer) (r : Result (Unit {0}) E) → OnOk r (ItemHasSpelling i) → OnOk r (ItemIsNormal i) → Puts old new (item_spelling i) r
     → length (item_spelling i) ≤ n → IsWrittenWithin i n old new r
 unfolding IsWrittenWithin
@@ -77,13 +77,13 @@ entries_are (e ∷ es) = omega (arith, length-append (link (spelling entry) e) (
 
 -- ---- the parts of a result of the program
 
-front_short : (w : ℕ) (ws : List ℕ) → length (front_word w ws) ≤ 1 + length ws
-front_short w [] = elim (w == 0) as (λ b. length (cond b [] (w ∷ [])) ≤ 1) [ true ↦ omega arith | false ↦ omega arith ]
-front_short w (v ∷ ws) = omega arith
+cons_trimmed_short : (w : ℕ) (ws : List ℕ) → length (cons_trimmed w ws) ≤ 1 + length ws
+cons_trimmed_short w [] = elim (w == 0) as (λ b. length (cond b [] (w ∷ [])) ≤ 1) [ true ↦ omega arith | false ↦ omega arith ]
+cons_trimmed_short w (v ∷ ws) = omega arith
 
 trimmed_short : (ws : List ℕ) → length (trimmed ws) ≤ length ws
 trimmed_short [] = omega arith
-trimmed_short (w ∷ ws) = omega (arith, front_short w (trimmed ws), trimmed_short ws)
+trimmed_short (w ∷ ws) = omega (arith, cons_trimmed_short w (trimmed ws), trimmed_short ws)
 
 -- the words of a bitmap
 pub words_few : (ws : List ℕ) → length ws ≡ 8 → length (trimmed ws) ≤ 8
@@ -121,11 +121,11 @@ pub getattr_short : (v : Value getattr_result) → size GetAttr v ≤ most (Done
 getattr_short v = omega (arith, getattr_is v)
 
 -- the fields after the change of an OPEN
-abbrev behind_change : Xdr
-behind_change = fields (always 0 ∷ bitmap ∷ always 0 ∷ [])
+abbrev after_change : Xdr
+after_change = fields (always 0 ∷ bitmap ∷ always 0 ∷ [])
 
 pub open_short : (v : Value open_result) → length v.0.1 ≡ 12 → length v.1.1.1.0 ≤ 8 → size Open v ≤ 88
-open_short v whole few = omega (arith, two stateid (pair change_info behind_change) v, two change_info behind_change v.1, two (always 0) (pair bitmap (always 0)) v.1.1, two bitmap (always 0) v.1.1.1, stateid_is v.0 whole, change_info_is v.1.0, always_is 0 v.1.1.0, bitmap_is v.1.1.1.0, always_is 0 v.1.1.1.1, few)
+open_short v whole few = omega (arith, two stateid (pair change_info after_change) v, two change_info after_change v.1, two (always 0) (pair bitmap (always 0)) v.1.1, two bitmap (always 0) v.1.1.1, stateid_is v.0 whole, change_info_is v.1.0, always_is 0 v.1.1.0, bitmap_is v.1.1.1.0, always_is 0 v.1.1.1.1, few)
 
 pub read_is : (v : Value read_result) → size Read v ≡ most (Done Read v)
 read_is v = omega (arith, opaque_is 0xffff_ffff v.1)

@@ -15,7 +15,7 @@ use Rattle.nfs_ops.specs.Listing.{Judged, Listing, listing_size, first_refusal, 
 use Rattle.nfs_ops.specs.ListingSteps.{Filled, EndsAs, Lists}
 use Rattle.nfs_ops.specs.declared.listing.ListFault.{ListFault}
 use Rattle.nfs_ops.specs.declared.listing.ListFault.TheVariants.{Refused, TooSmall}
-use Rattle.xdr_wire.proofs.Filling.{then_behind}
+use Rattle.xdr_wire.proofs.Filling.{appends_both}
 use Rattle.nfs_ops.proofs.Fillings.{cut_back}
 use Rattle.nfs_ops.proofs.Listings.{Passes, parted, none_left, one_left, refused_listing, given_listing, too_small_listing}
 use Rattle.nfs_ops.proofs.Sizes.{entry_is, entries_are}
@@ -37,54 +37,54 @@ spelled : (given : List (Value entry)) (eof : Bool) → item_spelling (outcome_i
 spelled given eof = ap (λ (b : List ℕ). head ++ b) (append_assoc (entries_bytes given) (to_be_bytes w32 0) (to_be_bytes w32 (number_of_bool eof)))
 
 -- the state once the entries are written, with number, status and verifier before them
-pub record Standing {R : Type 0} (limit : ℕ) (all : List (Judged R)) (old new : Buffer) (most begin : ℕ) (rest : List (Judged R)) : Type 0 where
+pub record HasWritten {R : Type 0} (limit : ℕ) (all : List (Judged R)) (old new : Buffer) (most begin : ℕ) (rest : List (Judged R)) : Type 0 where
   pub given : List (Value entry)
   pub parts : all ≡ parted given rest
-  pub behind : Appends old new (head ++ entries_bytes given)
+  pub appended : Appends old new (head ++ entries_bytes given)
   pub sendable : AllByRecursion IsSendable given
   pub fits : (given ≡ []) ⊎ (length new.bytes ≤ most)
   pub most_is : most ≡ length old.bytes + limit
   pub begin_is : begin ≡ length old.bytes + 16
 
-pub standing : {R : Type 0} (limit : ℕ) (all : List (Judged R)) (old z new : Buffer) (most begin : ℕ) (rest : List (Judged R)) → most ≡ length old.bytes + limit → begin ≡ length z.bytes
-    → Appends old z head → Filled most all z new rest → Standing limit all old new most begin rest
-standing limit all old z new most begin rest m b a f = record {
+pub has_written : {R : Type 0} (limit : ℕ) (all : List (Judged R)) (old z new : Buffer) (most begin : ℕ) (rest : List (Judged R)) → most ≡ length old.bytes + limit → begin ≡ length z.bytes
+    → Appends old z head → Filled most all z new rest → HasWritten limit all old new most begin rest
+has_written limit all old z new most begin rest m b a f = record {
   given = f.given;
   parts = f.parts;
-  behind = then_behind old z new head (entries_bytes f.given) a f.written;
+  appended = appends_both old z new head (entries_bytes f.given) a f.written;
   sendable = f.sendable;
   fits = f.fits;
   most_is = m;
-  begin_is = omega (arith, b, ap length a.behind, length-append old.bytes head, head_size);
+  begin_is = omega (arith, b, ap length a.appended, length-append old.bytes head, head_size);
 }
 
 -- sizes as numbers alone
-len_is : {R : Type 0} (limit : ℕ) (all : List (Judged R)) (old new : Buffer) (most begin : ℕ) (rest : List (Judged R)) (s : Standing limit all old new most begin rest)
+len_is : {R : Type 0} (limit : ℕ) (all : List (Judged R)) (old new : Buffer) (most begin : ℕ) (rest : List (Judged R)) (s : HasWritten limit all old new most begin rest)
     → length new.bytes ≡ length old.bytes + 16 + sum_by size_of_entry s.given
 len_is limit all old new most begin rest s =
     sum_is (length new.bytes) (length old.bytes) (length (head ++ entries_bytes s.given)) (length (entries_bytes s.given)) (sum_by size_of_entry s.given)
-    (ap length s.behind.behind ∙ length-append old.bytes (head ++ entries_bytes s.given)) (length-append head (entries_bytes s.given)) (entries_are s.given)
+    (ap length s.appended.appended ∙ length-append old.bytes (head ++ entries_bytes s.given)) (length-append head (entries_bytes s.given)) (entries_are s.given)
   where
     sum_is : (new old more entries sum : ℕ) → new ≡ old + more → more ≡ length head + entries → entries ≡ sum → new ≡ old + 16 + sum
     sum_is new old more entries sum p q r = omega (arith, p, q, r, head_size)
 
 -- a result that ends within the first bytes fits the limit, and a longer one doesn't
-within : {R : Type 0} (limit : ℕ) (all : List (Judged R)) (old new : Buffer) (most begin : ℕ) (rest : List (Judged R)) (s : Standing limit all old new most begin rest) → length new.bytes ≤ most → listing_size s.given ≤ limit
+within : {R : Type 0} (limit : ℕ) (all : List (Judged R)) (old new : Buffer) (most begin : ℕ) (rest : List (Judged R)) (s : HasWritten limit all old new most begin rest) → length new.bytes ≤ most → listing_size s.given ≤ limit
 within limit all old new most begin rest s le = plain limit (length old.bytes) (length new.bytes) most (sum_by size_of_entry s.given) (len_is limit all old new most begin rest s) s.most_is le
   where
     plain : (limit old new most sum : ℕ) → new ≡ old + 16 + sum → most ≡ old + limit → new ≤ most → 16 + sum ≤ limit
     plain limit old new most sum p q le = omega (arith, p, q, le)
 
-beyond : {R : Type 0} (limit : ℕ) (all : List (Judged R)) (old new : Buffer) (most begin : ℕ) (rest : List (Judged R)) (s : Standing limit all old new most begin rest) (more : ℕ) → most < length new.bytes + more → limit < listing_size s.given + more
+beyond : {R : Type 0} (limit : ℕ) (all : List (Judged R)) (old new : Buffer) (most begin : ℕ) (rest : List (Judged R)) (s : HasWritten limit all old new most begin rest) (more : ℕ) → most < length new.bytes + more → limit < listing_size s.given + more
 beyond limit all old new most begin rest s more lt = plain limit (length old.bytes) (length new.bytes) most (sum_by size_of_entry s.given) more (len_is limit all old new most begin rest s) s.most_is lt
   where
     plain : (limit old new most sum more : ℕ) → new ≡ old + 16 + sum → most ≡ old + limit → most < new + more → limit < 16 + sum + more
     plain limit old new most sum more p q lt = omega (arith, p, q, lt)
 
--- an entry that doesn't end within the first bytes goes past the limit
-passing : {R : Type 0} (limit : ℕ) (all : List (Judged R)) (old new : Buffer) (most begin : ℕ) (rest others : List (Judged R)) (e : Value entry) (s : Standing limit all old new most begin rest)
+-- an entry that doesn't end within the first bytes exceeds the limit
+passing : {R : Type 0} (limit : ℕ) (all : List (Judged R)) (old new : Buffer) (most begin : ℕ) (rest others : List (Judged R)) (e : Value entry) (s : HasWritten limit all old new most begin rest)
     → rest ≡ Ok e ∷ others → most < length new.bytes + length (linked_bytes e) → Passes limit (listing_size s.given) rest
-passing limit all old new most begin rest others e s is lt next behind same =
+passing limit all old new most begin rest others e s is lt next after same =
     let one : next ≡ e = cc in
     let size : length (linked_bytes next) ≡ size_of_entry next = entry_is next in
     let over : most < length new.bytes + length (linked_bytes next) = subst (λ (x : Value entry). most < length new.bytes + length (linked_bytes x)) (sym one) lt in
@@ -103,7 +103,7 @@ zero_spelled : (0 < 4294967296) × (◌≡◌ {A = ℕ} 0 0 × Unit {0})
 zero_spelled = (omega arith, (refl, tt))
 
 -- the facts of the whole result
-listed : {R : Type 0} (limit room : ℕ) (all : List (Judged R)) (old new then : Buffer) (most begin : ℕ) (rest : List (Judged R)) (eof : Bool) (s : Standing limit all old new most begin rest)
+listed : {R : Type 0} (limit room : ℕ) (all : List (Judged R)) (old new then : Buffer) (most begin : ℕ) (rest : List (Judged R)) (eof : Bool) (s : HasWritten limit all old new most begin rest)
     → limit + 8 ≤ room → listing limit all ≡ Ok (record { entries = s.given; eof = eof }) → length new.bytes ≤ most → Appends new then (end_bytes eof) → Lists (listing limit all) room old then
 listed limit room all old new then most begin rest eof s fits is le a =
     let same : map entry_normal s.given ≡ s.given = same_all s.given s.sendable in
@@ -112,31 +112,31 @@ listed limit room all old new then most begin rest eof s fits is le a =
       is = is;
       has_spelling = (omega arith, (omega arith, ((zero_spelled, zero_spelled), (sendable_all s.given s.sendable, tt))));
       in_normal_form = ap (λ (es : List (Value entry)). (26, (0, ((inl tt, inl tt), (es, eof))))) same;
-      written = subst (λ (b : List ℕ). Appends old then b) (sym (spelled s.given eof)) (then_behind old new then (head ++ entries_bytes s.given) (end_bytes eof) s.behind a);
-      within = omega (arith, ap length a.behind, length-append new.bytes (end_bytes eof), le, s.most_is, fits);
+      written = subst (λ (b : List ℕ). Appends old then b) (sym (spelled s.given eof)) (appends_both old new then (head ++ entries_bytes s.given) (end_bytes eof) s.appended a);
+      within = omega (arith, ap length a.appended, length-append new.bytes (end_bytes eof), le, s.most_is, fits);
     }
 
--- the buffer is as it was once the written bytes are cut off
-pub restored : {R : Type 0} (limit : ℕ) (all : List (Judged R)) (old new cut : Buffer) (most begin start : ℕ) (rest : List (Judged R)) → Standing limit all old new most begin rest → start ≡ length old.bytes
+-- the buffer is unchanged once the written bytes are truncated
+pub restored : {R : Type 0} (limit : ℕ) (all : List (Judged R)) (old new cut : Buffer) (most begin start : ℕ) (rest : List (Judged R)) → HasWritten limit all old new most begin rest → start ≡ length old.bytes
     → cut.bytes ≡ take start new.bytes → cut.room + start ≡ new.room + length new.bytes → cut ≡ old
-restored limit all old new cut most begin start rest s at bytes room = cut_back old new cut (head ++ entries_bytes s.given) start at s.behind bytes room
+restored limit all old new cut most begin start rest s at bytes room = cut_back old new cut (head ++ entries_bytes s.given) start at s.appended bytes room
 
 -- an entry is refused after those that fit
-pub refused : {R : Type 0} (limit : ℕ) (all : List (Judged R)) (old new : Buffer) (most begin : ℕ) (rest others : List (Judged R)) (refusal : R) → Standing limit all old new most begin rest → rest ≡ Err refusal ∷ others
+pub refused : {R : Type 0} (limit : ℕ) (all : List (Judged R)) (old new : Buffer) (most begin : ℕ) (rest others : List (Judged R)) (refusal : R) → HasWritten limit all old new most begin rest → rest ≡ Err refusal ∷ others
     → listing limit all ≡ Err (Refused refusal)
 refused {R} limit all old new most begin rest others refusal s is =
     ap (listing limit) (s.parts ∙ ap (λ (r : List (Judged R)). parted s.given r) is)
     ∙ refused_listing limit s.given others refusal (elim s.fits as (λ f. (s.given ≡ []) ⊎ (listing_size s.given ≤ limit)) [ inl e ↦ inl e | inr le ↦ inr (within limit all old new most begin rest s le) ])
 
-none_given : {R : Type 0} (limit : ℕ) (all : List (Judged R)) (old new : Buffer) (most begin : ℕ) (rest : List (Judged R)) (s : Standing limit all old new most begin rest) → most < length new.bytes → s.given ≡ []
+none_given : {R : Type 0} (limit : ℕ) (all : List (Judged R)) (old new : Buffer) (most begin : ℕ) (rest : List (Judged R)) (s : HasWritten limit all old new most begin rest) → most < length new.bytes → s.given ≡ []
 none_given limit all old new most begin rest s lt = elim s.fits as (λ f. s.given ≡ []) [ inl e ↦ e | inr le ↦ absurd (omega arith) ]
 
--- where no entry is returned, all are left
-all_left : {R : Type 0} (limit : ℕ) (all : List (Judged R)) (old new : Buffer) (most begin : ℕ) (rest : List (Judged R)) (s : Standing limit all old new most begin rest) → s.given ≡ [] → all ≡ rest
+-- if no entry is returned, all are left
+all_left : {R : Type 0} (limit : ℕ) (all : List (Judged R)) (old new : Buffer) (most begin : ℕ) (rest : List (Judged R)) (s : HasWritten limit all old new most begin rest) → s.given ≡ [] → all ≡ rest
 all_left {R} limit all old new most begin rest s none = s.parts ∙ ap (λ (g : List (Value entry)). parted g rest) none
 
 -- no entry was written, and the first doesn't fit
-pub none_fits : {R : Type 0} (limit : ℕ) (all : List (Judged R)) (old new : Buffer) (most begin : ℕ) (rest others : List (Judged R)) (e : Value entry) → Standing limit all old new most begin rest
+pub none_fits : {R : Type 0} (limit : ℕ) (all : List (Judged R)) (old new : Buffer) (most begin : ℕ) (rest others : List (Judged R)) (e : Value entry) → HasWritten limit all old new most begin rest
     → rest ≡ Ok e ∷ others → length new.bytes ≡ begin → most < length new.bytes + length (linked_bytes e) → listing limit all ≡ Err TooSmall
 none_fits {R} limit all old new most begin rest others e s is none lt =
     let empty : s.given ≡ [] = no_entries s.given (omega (arith, none, s.begin_is, len_is limit all old new most begin rest s)) in
@@ -148,7 +148,7 @@ none_fits {R} limit all old new most begin rest others e s is none lt =
     no_entries (w ∷ given) f = absurd (omega (arith, f, sum_by-cons size_of_entry w given))
 
 -- no entry is left
-pub ended : {R : Type 0} (limit room : ℕ) (all : List (Judged R)) (old new then : Buffer) (most begin start : ℕ) (rest : List (Judged R)) (r : Result (Unit {0}) (ListFault R)) → Standing limit all old new most begin rest
+pub ended : {R : Type 0} (limit room : ℕ) (all : List (Judged R)) (old new then : Buffer) (most begin start : ℕ) (rest : List (Judged R)) (r : Result (Unit {0}) (ListFault R)) → HasWritten limit all old new most begin rest
     → limit + 8 ≤ room → rest ≡ [] → EndsAs start most true new r then → OnOk r (Lists (listing limit all) room old then)
 ended {R} limit room all old new then most begin start rest (Err fault) s fits is e = tt
 ended {R} limit room all old new then most begin start rest (Ok done) s fits is e =
@@ -159,7 +159,7 @@ ended {R} limit room all old new then most begin start rest (Ok done) s fits is 
     listed limit room all old new then most begin rest true s fits whole e.0 e.1
 
 -- there is no entry, and a result without entries doesn't fit
-pub nothing_fits : {R : Type 0} (limit : ℕ) (all : List (Judged R)) (old new then : Buffer) (most begin start : ℕ) (rest : List (Judged R)) (r : Result (Unit {0}) (ListFault R)) → Standing limit all old new most begin rest → start ≡ length old.bytes
+pub nothing_fits : {R : Type 0} (limit : ℕ) (all : List (Judged R)) (old new then : Buffer) (most begin start : ℕ) (rest : List (Judged R)) (r : Result (Unit {0}) (ListFault R)) → HasWritten limit all old new most begin rest → start ≡ length old.bytes
     → rest ≡ [] → EndsAs start most true new r then → IfErr r (λ fault. (listing limit all ≡ Err fault) × (then ≡ old))
 nothing_fits {R} limit all old new then most begin start rest (Ok done) s at is e = tt
 nothing_fits {R} limit all old new then most begin start rest (Err fault) s at is e =
@@ -173,12 +173,12 @@ nothing_fits {R} limit all old new then most begin start rest (Err fault) s at i
     plain : (limit : ℕ) → limit < 16 + 0 + 0 → limit < 16
     plain limit lt = omega (arith, lt)
 
-some_given : {R : Type 0} (limit : ℕ) (all : List (Judged R)) (old new : Buffer) (most begin : ℕ) (rest : List (Judged R)) (s : Standing limit all old new most begin rest) → (length new.bytes ≡ begin → ⊥) → s.given ≡ [] → ⊥
+some_given : {R : Type 0} (limit : ℕ) (all : List (Judged R)) (old new : Buffer) (most begin : ℕ) (rest : List (Judged R)) (s : HasWritten limit all old new most begin rest) → (length new.bytes ≡ begin → ⊥) → s.given ≡ [] → ⊥
 some_given limit all old new most begin rest s some f =
     some (omega (arith, len_is limit all old new most begin rest s, s.begin_is, ap (sum_by size_of_entry) f))
 
 -- the next entry doesn't fit
-pub more_left : {R : Type 0} (limit room : ℕ) (all : List (Judged R)) (old new then : Buffer) (most begin start : ℕ) (rest others : List (Judged R)) (e : Value entry) (r : Result (Unit {0}) (ListFault R)) → Standing limit all old new most begin rest
+pub more_left : {R : Type 0} (limit room : ℕ) (all : List (Judged R)) (old new then : Buffer) (most begin start : ℕ) (rest others : List (Judged R)) (e : Value entry) (r : Result (Unit {0}) (ListFault R)) → HasWritten limit all old new most begin rest
     → limit + 8 ≤ room → rest ≡ Ok e ∷ others → (length new.bytes ≡ begin → ⊥) → most < length new.bytes + length (linked_bytes e) → EndsAs start most false new r then → OnOk r (Lists (listing limit all) room old then)
 more_left {R} limit room all old new then most begin start rest others e (Err fault) s fits is some lt ends = tt
 more_left {R} limit room all old new then most begin start rest others e (Ok done) s fits is some lt ends =
@@ -190,7 +190,7 @@ more_left {R} limit room all old new then most begin start rest others e (Ok don
     listed limit room all old new then most begin rest false s fits whole ends.0 ends.1
 
 -- then the buffer doesn't end beyond the limit
-pub no_fault : {R : Type 0} (limit : ℕ) (all : List (Judged R)) (old new then : Buffer) (most begin start : ℕ) (rest : List (Judged R)) (r : Result (Unit {0}) (ListFault R)) → Standing limit all old new most begin rest
+pub no_fault : {R : Type 0} (limit : ℕ) (all : List (Judged R)) (old new then : Buffer) (most begin start : ℕ) (rest : List (Judged R)) (r : Result (Unit {0}) (ListFault R)) → HasWritten limit all old new most begin rest
     → (length new.bytes ≡ begin → ⊥) → EndsAs start most false new r then → IfErr r (λ fault. (listing limit all ≡ Err fault) × (then ≡ old))
 no_fault limit all old new then most begin start rest (Ok done) s some e = tt
 no_fault limit all old new then most begin start rest (Err fault) s some e = absurd (some_given limit all old new most begin rest s some (none_given limit all old new most begin rest s e.1))

@@ -1,7 +1,7 @@
--- The XDR types of each operation's arguments and of its result, in the order of the standard
--- (RFC 8881, section 18; RFC 5662). They have the names of their parts and of the arms of their
--- unions. A result stands after the number and the status, where the status is OK. The comment at
--- an operation lists its arguments, and after a ';' its result, where it has one.
+-- The XDR types of each operation's arguments and of its result, in the order of the standard (RFC 8881, section 18;
+-- RFC 5662). They have the names of their parts and of the arms of their unions. If the status is OK, a result follows
+-- the number and the status. The comment at an operation lists its arguments, and after a ';' its result, if it has
+-- one.
 use Rattle.std.specs.Prelude.{ℕ, Bool, ◌+◌, ◌*◌, List, [], ◌∷◌, length, map, codes}
 use Rattle.std.proofs.Common.{inl, inr}
 use Rattle.std.specs.List.{sum_by}
@@ -9,11 +9,11 @@ use Rattle.xdr_wire.specs.Xdr.{Xdr, Value, padding, void, uint, hyper, boolean, 
 use Rattle.xdr_wire.specs.Xdr.{arm, no_more, fields}
 use Rattle.nfs_types.specs.Forms.{handle, stateid, time, bitmap, attributes, trimmed, trimmed_set}
 
--- opaque<> and string<>: names, link texts and data have no bound but the record's
+-- opaque<> and string<>: only the record bounds names, link texts and data
 abbrev pub bytes : Xdr
 bytes = opaque 0xffff_ffff
 
--- a word of one value: an enum or a union of one number
+-- a word of one value: an enum or a union of which only one number is used
 abbrev pub always : ℕ → Xdr
 always n = union (arm n void no_more)
 
@@ -32,11 +32,11 @@ set_of v = v.0
 abbrev pub values_of : Value attributes → List ℕ
 values_of v = v.1
 
--- how many bytes n bytes take with the zero bytes after them
+-- the number of bytes that n bytes take with their padding
 abbrev pub with_padding : ℕ → ℕ
 with_padding n = n + padding n
 
--- ACCESS (18.1): the rights requested; those supported, and those granted
+-- ACCESS (18.1): the access rights requested; those supported, and those granted
 abbrev pub access_args : Xdr
 access_args = uint
 
@@ -132,7 +132,7 @@ getattr_args = bitmap
 abbrev pub getattr_result : Xdr
 getattr_result = attributes
 
--- of this many words of the bitmap, and this many bytes of values
+-- with this many words of the bitmap, and this many bytes of values
 abbrev pub getattr_size : ℕ → ℕ → ℕ
 getattr_size words values = 16 + 4 * words + with_padding values
 
@@ -153,7 +153,7 @@ lookup_args = bytes
 
 -- LOOKUPP (18.14): nothing; nothing
 
--- NVERIFY (18.15): the attributes that are to differ
+-- NVERIFY (18.15): the attributes that must differ
 abbrev pub nverify_args : Xdr
 nverify_args = attributes
 
@@ -161,7 +161,7 @@ nverify_args = attributes
 abbrev pub open_how : Xdr
 open_how = union (arm 0 void (arm 1 (union (arm 0 attributes (arm 1 attributes no_more))) no_more))
 
--- such attributes without zero words at the end of their bitmap
+-- these attributes without zero words at the end of their bitmap
 abbrev pub open_how_normal : Value open_how → Value open_how
 open_how_normal (inl v) = inl v
 open_how_normal (inr (inl (inl v))) = inr (inl (inl (trimmed_set v)))
@@ -187,8 +187,8 @@ open_result = fields (stateid ∷ change_info ∷ always 0 ∷ bitmap ∷ always
 abbrev pub open_result_normal : Value open_result → Value open_result
 open_result_normal v = (v.0, (v.1.0, (v.1.1.0, (trimmed v.1.1.1.0, v.1.1.1.1))))
 
--- The arguments of an OPEN that aren't supported, up to the unsupported word. They are exclusive
--- creation (2, 3), and a claim of a reclaim or a delegation (1, 2, 3, 5, 6).
+-- The arguments of an OPEN that aren't supported, up to the unsupported word. They are exclusive creation (2, 3), and a
+-- claim of a reclaim or a delegation (1, 2, 3, 5, 6).
 abbrev pub exclusive : Xdr
 exclusive = union (arm 2 void (arm 3 void no_more))
 
@@ -255,7 +255,7 @@ read_args = fields (stateid ∷ hyper ∷ uint ∷ [])
 abbrev pub read_result : Xdr
 read_result = fields (boolean ∷ bytes ∷ [])
 
--- of this many bytes of the file
+-- with this many bytes of the file
 abbrev pub read_size : ℕ → ℕ
 read_size count = 16 + with_padding count
 
@@ -272,7 +272,7 @@ read_count v = v.1.1
 abbrev pub read_gives : Bool → List ℕ → Value read_result
 read_gives eof item = (eof, item)
 
--- READDIR (18.23): cookie, a verifier and a count that are ignored, the most bytes, the attributes
+-- READDIR (18.23): cookie, a verifier and a count that are ignored, the largest number of bytes, the attributes
 -- requested; a verifier, the entries, whether the end was reached
 abbrev pub readdir_args : Xdr
 readdir_args = fields (hyper ∷ fixed 8 ∷ uint ∷ uint ∷ bitmap ∷ [])
@@ -293,20 +293,20 @@ readdir_result = fields (zeros ∷ chain entry ∷ boolean ∷ [])
 abbrev pub readdir_result_normal : Value readdir_result → Value readdir_result
 readdir_result_normal v = (v.0, (map entry_normal v.1.0, v.1.1))
 
--- an entry after its link: of this many bytes of its name, this many words of its bitmap, and this
--- many bytes of values
+-- an entry after its link: with this many bytes of its name, this many words of its bitmap, and this many bytes of
+-- values
 abbrev pub entry_size : ℕ → ℕ → ℕ → ℕ
 entry_size name words values = 24 + with_padding name + 4 * words + with_padding values
 
 abbrev pub size_of_entry : Value entry → ℕ
 size_of_entry e = entry_size (length e.1.0) (length e.1.1.0) (length e.1.1.1)
 
--- of these entries
+-- with these entries
 abbrev pub readdir_size : List (Value entry) → ℕ
 readdir_size entries = 24 + sum_by size_of_entry entries
 
-abbrev pub listed_behind : Value readdir_args → ℕ
-listed_behind v = v.0
+abbrev pub listed_after : Value readdir_args → ℕ
+listed_after v = v.0
 
 abbrev pub listed_at_most : Value readdir_args → ℕ
 listed_at_most v = v.1.1.1.0
@@ -328,7 +328,7 @@ entry_attributes e = e.1.1
 abbrev pub readlink_result : Xdr
 readlink_result = bytes
 
--- of this many bytes of the text
+-- with this many bytes of the text
 abbrev pub readlink_size : ℕ → ℕ
 readlink_size text = 12 + with_padding text
 
@@ -339,7 +339,7 @@ remove_args = bytes
 abbrev pub remove_result : Xdr
 remove_result = change_info
 
--- RENAME (18.26): the old name, the new name; the changes of the source's directory and of the target's
+-- RENAME (18.26): the old name, the new name; the changes of the source directory and of the target directory
 abbrev pub rename_args : Xdr
 rename_args = fields (bytes ∷ bytes ∷ [])
 
@@ -356,7 +356,7 @@ new_name v = v.1
 
 -- SAVEFH (18.28): nothing; nothing
 
--- SETATTR (18.30): stateid, attributes; the attributes that were set, also where the operation fails
+-- SETATTR (18.30): stateid, attributes; the attributes that were set, also if the operation fails
 abbrev pub setattr_args : Xdr
 setattr_args = fields (stateid ∷ attributes ∷ [])
 
@@ -372,7 +372,7 @@ set_stateid v = v.0
 abbrev pub set_attributes : Value setattr_args → Value attributes
 set_attributes v = v.1
 
--- VERIFY (18.31): the attributes that are to be the same
+-- VERIFY (18.31): the attributes that must be the same
 abbrev pub verify_args : Xdr
 verify_args = attributes
 
@@ -411,7 +411,7 @@ write_reach v = reach v.1.1.0
 abbrev pub written_bytes : Value write_args → List ℕ
 written_bytes v = v.1.1.1
 
--- nfs_impl_id4: domain, name, a moment of any nanoseconds
+-- nfs_impl_id4: domain, name, a time with any nanoseconds
 abbrev pub implementation : Xdr
 implementation = fields (bytes ∷ bytes ∷ time ∷ [])
 
@@ -423,8 +423,8 @@ exchange_id_args = fields (fixed 8 ∷ opaque 1024 ∷ uint ∷ always 0 ∷ arr
 abbrev pub exchange_id_result : Xdr
 exchange_id_result = fields (hyper ∷ uint ∷ uint ∷ always 0 ∷ zeros ∷ opaque 11 ∷ opaque 11 ∷ always 0 ∷ [])
 
--- The arguments of an EXCHANGE_ID that aren't supported, up to the unsupported word: the protection
--- of state by SP4_MACH_CRED (1) or SP4_SSV (2).
+-- The arguments of an EXCHANGE_ID that aren't supported, up to the unsupported word: the protection of state by
+-- SP4_MACH_CRED (1) or SP4_SSV (2).
 abbrev pub protection : Xdr
 protection = union (arm 1 void (arm 2 void no_more))
 
@@ -441,11 +441,11 @@ abbrev pub exchange_id_flags : Value exchange_id_args → ℕ
 exchange_id_flags v = v.1.1.0
 
 -- the server owner's major ID, and the server scope
-abbrev pub told_server : Value exchange_id_result → List ℕ
-told_server v = v.1.1.1.1.1.0
+abbrev pub server_names : Value exchange_id_result → List ℕ
+server_names v = v.1.1.1.1.1.0
 
-abbrev pub told_scope : Value exchange_id_result → List ℕ
-told_scope v = v.1.1.1.1.1.1.0
+abbrev pub server_scope : Value exchange_id_result → List ℕ
+server_scope v = v.1.1.1.1.1.1.0
 
 -- this server's name, which is both
 abbrev pub SERVER_NAME : List ℕ

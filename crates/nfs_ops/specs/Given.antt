@@ -1,4 +1,4 @@
--- The results that are written straight from where their bytes are kept (RFC 8881, sections 18.7, 18.22 and 18.23).
+-- The results that are written straight from the place of their bytes (RFC 8881, sections 18.7, 18.22 and 18.23).
 use Rattle.std.specs.Prelude.{◌≡◌, ◌≤◌, ◌<◌, ℕ, Bool, List, Result, Ok, Err, length}
 use Rattle.xdr_wire.specs.Xdr.{Value}
 use Rattle.xdr_wire.specs.Buffer.{Buffer, Appends}
@@ -21,8 +21,8 @@ getattr_outcome given = Done GetAttr given
 abbrev pub readdir_outcome : Listing → Outcome
 readdir_outcome given = Done ReadDir (zeros_value, (given.entries, given.eof))
 
--- The item is put after the buffer's bytes, which fails exactly where it has more bytes than the
--- room. Then nothing changes.
+-- The item is appended to the buffer's bytes. This fails if and only if the item has more bytes than the room; then
+-- nothing changes.
 abbrev pub PutsWithin : {E : Type 0} → ℕ → Buffer → Buffer → Item → Result (Unit {0}) E → Type 0
 PutsWithin room old new item (Ok done) = Appends old new (item_spelling item) × (length (item_spelling item) ≤ room)
 PutsWithin room old new item (Err full) = (room < length (item_spelling item)) × (new ≡ old)

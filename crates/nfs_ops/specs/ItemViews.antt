@@ -1,4 +1,4 @@
--- The items of arrays and chains: each spells the value of its form.
+-- The items of arrays and chains, as values of their forms.
 use Rattle.std.specs.Prelude.{None}
 use Rattle.std.proofs.Common.{inl, inr}
 use Rattle.xdr_wire.specs.Xdr.{Value, uint}
@@ -31,7 +31,7 @@ callback_security_value (credentials.Gss gss) = inr (inr (inl (gss_handles_value
 abbrev pub entry_value : Entry → Value entry
 entry_value e = (e.cookie, (e.name.bytes.now, attributes_value e.attributes))
 
--- the attributes that are returned of an object
+-- the attributes that are returned for an object
 abbrev pub given_value : GivenAttributes → Value attributes
 given_value g =
     (given_set (bitmap_value g.asked), given_values g.book.now (facts_value g.facts.now) (bitmap_value g.asked))

@@ -1,4 +1,4 @@
--- An item on the wire: a form, and a value of it that is in normal form.
+-- An item as it is encoded: a form, and a value of it that is in normal form.
 use Rattle.std.specs.Prelude.{◌≡◌, ℕ, List, [], ◌∷◌, Some, None}
 use Rattle.xdr_wire.specs.Xdr.{Xdr, Value, void, uint, pair, fields, HasSpelling, spelling, Begins}
 use Rattle.xdr_wire.specs.Wire.{Normal, normalized, both}
@@ -49,7 +49,6 @@ ItemHasSpelling i = HasSpelling i.form i.value
 abbrev pub ItemIsNormal : Item → Type 0
 ItemIsNormal i = normalized i.normal i.value ≡ i.value
 
--- a spelling of the value, or of one with this normal form, is at the front of the bytes, and the
--- rest is after it
-abbrev pub Stands : Item → List ℕ → List ℕ → Type 0
-Stands i bytes rest = (v : Value i.form) × Begins i.form v bytes rest × (normalized i.normal v ≡ i.value)
+-- the bytes begin with an encoding of the value, or of one with this normal form, and the rest follows it
+abbrev pub IsAtStart : Item → List ℕ → List ℕ → Type 0
+IsAtStart i bytes rest = (v : Value i.form) × Begins i.form v bytes rest × (normalized i.normal v ≡ i.value)

@@ -1,5 +1,5 @@
--- The entries that READDIR returns: the longest beginning of those above the cookie that stays
--- within a limit (RFC 8881, section 18.23).
+-- The entries that READDIR returns: the longest prefix of those above the cookie that stays within a limit (RFC 8881,
+-- section 18.23).
 use Rattle.std.specs.Prelude.{◌≡◌, ◌≤◌, ◌<◌, ◌⊎◌, ◌↔◌, ◌+◌, ◌-◌, ℕ, min, Bool, true, nat_le, nat_lt, if◌then◌else◌}
 use Rattle.std.specs.Prelude.{List, [], ◌∷◌, ◌++◌, length, map, take, Option, Some, None, Result, Ok, Err}
 use Rattle.std.specs.List.{prefix_len, sum_by}
@@ -35,8 +35,8 @@ abbrev pub sizes_after : ℕ → List (Value entry) → List ℕ
 sizes_after size [] = []
 sizes_after size (e ∷ others) = (size + size_of_entry e) ∷ sizes_after (size + size_of_entry e) others
 
--- The most bytes of a result after its status: the client's maxcount, and the room without number
--- and status.
+-- The largest number of bytes of a result after its status: the client's maxcount, or the room without number and
+-- status, whichever is less.
 abbrev pub readdir_limit : ℕ → ℕ → ℕ
 readdir_limit maxcount room = min (room - 8) maxcount
 
@@ -48,12 +48,11 @@ given_before [] = []
 given_before (Ok e ∷ others) = e ∷ given_before others
 given_before (Err refusal ∷ others) = []
 
--- how many fit
+-- the number of entries that fit
 abbrev pub fitting : {R : Type 0} → ℕ → List (Judged R) → ℕ
 fitting limit all = prefix_len (λ size. nat_le size limit) (sizes_after empty_size (given_before all))
 
--- Each entry is judged before it is measured: the entries that fit are judged, and the one after
--- them.
+-- Each entry is judged before it is measured: the entries that fit are judged, and the one after them.
 abbrev pub judged_within : {R : Type 0} → ℕ → List (Judged R) → List (Judged R)
 judged_within limit all = take (1 + fitting limit all) all
 
@@ -77,15 +76,15 @@ abbrev pub listing_unless : {R : Type 0} → ℕ → List (Judged R) → Option 
 listing_unless limit all (Some refusal) = Err (Refused refusal)
 listing_unless limit all None = if some_fit limit all then Ok (those_fitting limit all) else Err TooSmall
 
--- The listing of all entries above the cookie, by rising cookie: those that fit, unless a judged
--- entry is refused, or nothing fits.
+-- The listing of all entries above the cookie, by rising cookie: those that fit, unless a judged entry is refused, or
+-- nothing fits.
 unfoldable pub listing : {R : Type 0} → ℕ → List (Judged R) → Result Listing (ListFault R)
 listing limit all = listing_unless limit all (first_refusal (judged_within limit all))
 
 -- ---- the facts of a listing
 
--- The entries are a beginning of all, none of it refused, that fits. After it is no entry, or one
--- that isn't refused and goes past the limit.
+-- The entries are a prefix of all, none of which is refused, and it fits. After the prefix there is no entry, or one
+-- that isn't refused and exceeds the limit.
 pub record IsLongest {R : Type 0} (limit : ℕ) (all : List (Judged R)) (given : Listing) : Type 0 where
   pub rest : List (Judged R)
   pub parts : all ≡ map Ok given.entries ++ rest
@@ -120,7 +119,7 @@ IsListing limit all (Err TooSmall) = IsTooSmall limit all
 abbrev pub linked_bytes : Value entry → List ℕ
 linked_bytes e = link (spelling entry) e
 
--- an entry that can be sent, and is read again as it is
+-- an entry that can be sent, and is read back unchanged
 abbrev pub IsSendable : Value entry → Type 0
 IsSendable e = HasSpelling entry e × (entry_normal e ≡ e)
 

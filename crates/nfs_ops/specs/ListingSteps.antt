@@ -14,8 +14,8 @@ use Rattle.nfs_ops.specs.declared.listing.ListFault.TheVariants.{TooSmall}
 use Rattle.nfs_ops.specs.declared.listing.Stop.{Stop}
 use Rattle.nfs_ops.specs.declared.listing.Stop.TheVariants as stop
 
--- The first of the entries are written, none of which is refused. With each of them the buffer
--- stayed within `most` bytes.
+-- A prefix of the entries is written, none of which is refused. With each of them the buffer stayed within `most`
+-- bytes.
 pub record Filled {R : Type 0} (most : ℕ) (all : List (Judged R)) (old new : Buffer)
     (rest : List (Judged R)) : Type 0 where
   pub given : List (Value entry)
@@ -36,7 +36,7 @@ abbrev pub FillsUp : {R : Type 0} → ℕ → List (Judged R) → Buffer → Sto
 FillsUp {R} most all old stopped new =
     (rest : List (Judged R)) × Filled most all old new rest × Stops most new stopped rest
 
--- the end mark and eof are put after the buffer's bytes, or only its first bytes are left
+-- the end mark and eof are appended to the buffer's bytes, or only its first bytes are left
 abbrev pub EndsAs : {R : Type 0} → ℕ → ℕ → Bool → Buffer → Result (Unit {0}) (ListFault R) → Buffer → Type 0
 EndsAs start most eof old (Ok done) new =
     (length old.bytes ≤ most) × Appends old new (to_be_bytes w32 0 ++ to_be_bytes w32 (number_of_bool eof))
@@ -44,7 +44,7 @@ EndsAs start most eof old (Err fault) new =
     (fault ≡ TooSmall) × (most < length old.bytes) × (new.bytes ≡ take start old.bytes)
     × (new.room + start ≡ old.room + length old.bytes)
 
--- the result is put after the buffer's bytes, within its room
+-- the result is appended to the buffer's bytes, within its room
 pub record Lists {R : Type 0} (listed : Result Listing (ListFault R)) (room : ℕ) (old new : Buffer) : Type 0 where
   pub given : Listing
   pub is : listed ≡ Ok given

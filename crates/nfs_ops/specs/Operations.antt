@@ -1,6 +1,5 @@
--- An operation with its arguments as it stands in a COMPOUND, and how the next one is read
--- (RFC 8881, sections 16.2 and 18). The names of the reading's steps and of how they go on
--- (`.._from`, `or_bad`) are for the prover alone.
+-- An operation with its arguments in a COMPOUND, and how the next one is read (RFC 8881, sections 16.2 and 18). The
+-- names of the reading's steps and of their continuations (`.._from`, `or_bad`) are only for the prover.
 use Rattle.std.specs.Prelude.{ℕ, Bool, true, false, ◌&&◌, ◌||◌, nat_le, if◌then◌else◌, List, [], ◌∷◌, Option, Some}
 use Rattle.std.specs.Prelude.{None, Ok, Err, is_ok}
 use Rattle.std.specs.Option.{option_map}
@@ -17,23 +16,23 @@ pub data Operation : Type 0 where
   Known : (k : OpKind) → Value (row k).takes.form → Operation
   -- an operation that isn't supported, or whose arguments aren't, with its number
   Unsupported : ℕ → Operation
-  -- a number that no operation has
+  -- a number that isn't the number of any operation
   Illegal : Operation
-  -- the arguments of the operation of this number can't be read
+  -- the arguments of the operation with this number can't be read
   Bad : ℕ → Operation
 
 -- OP_ILLEGAL
 abbrev pub illegal : ℕ
 illegal = 10044
 
--- the number that stands in the result
+-- the number in the result
 abbrev pub number_of : Operation → ℕ
 number_of (Known k v) = (row k).number
 number_of (Unsupported n) = n
 number_of Illegal = illegal
 number_of (Bad n) = n
 
--- the operation without its arguments; an entry that can't be run is none
+-- the operation without its arguments; none for an entry that can't be run
 abbrev pub kind_in : Operation → Option OpKind
 kind_in (Known k v) = Some k
 kind_in _ = None
@@ -42,7 +41,7 @@ kind_in _ = None
 abbrev pub placement_of : Operation → Option Placement
 placement_of op = option_map (λ k. (row k).placement) (kind_in op)
 
--- the number and the arguments, as they are written; without an operation the number alone
+-- the number and the arguments, as they are written; only the number if there is no operation
 abbrev pub op_item : Operation → Item
 op_item (Known k v) = numbered (row k).number (row k).takes v
 op_item (Unsupported n) = number n
@@ -54,23 +53,23 @@ abbrev pub is_built : Operation → Bool
 is_built (Known k v) = true
 is_built _ = false
 
--- a value of one of these forms is at the front
-abbrev pub any_stands : List Xdr → List ℕ → Bool
-any_stands [] bytes = false
-any_stands (t ∷ []) bytes = is_ok (read_at t bytes)
-any_stands (t ∷ s ∷ others) bytes = is_ok (read_at t bytes) || any_stands (s ∷ others) bytes
+-- the bytes begin with a value of one of these forms
+abbrev pub any_at_start : List Xdr → List ℕ → Bool
+any_at_start [] bytes = false
+any_at_start (t ∷ []) bytes = is_ok (read_at t bytes)
+any_at_start (t ∷ s ∷ others) bytes = is_ok (read_at t bytes) || any_at_start (s ∷ others) bytes
 
 -- the arguments, or that they aren't supported, whatever follows the unsupported word
 abbrev pub supported : (k : OpKind) → List ℕ → ReadOf (Value (row k).takes.form) → ReadOf Operation
 supported k bytes (Ok x) = Ok (Known k x.0, x.1)
 supported k bytes (Err fault) =
-    if any_stands (row k).unsupported bytes then Ok (Unsupported (row k).number, bytes) else Err fault
+    if any_at_start (row k).unsupported bytes then Ok (Unsupported (row k).number, bytes) else Err fault
 
 -- the arguments of this operation
 unfoldable pub arguments_of : OpKind → List ℕ → ReadOf Operation
 arguments_of k bytes = supported k bytes (in_normal_form (row k).takes.normal (read_at (row k).takes.form bytes))
 
--- a number whose operation isn't supported, whose arguments aren't read, or a number that no operation has
+-- a number whose operation isn't supported and whose arguments aren't read, or a number that isn't any operation's
 abbrev pub no_operation : ℕ → Operation
 no_operation n = if nat_le 3 n && nat_le n 58 then Unsupported n else Illegal
 

@@ -1,4 +1,4 @@
--- What the arms that read an operation or a result by its kind promise.
+-- The promises of the arms that read an operation or a result by its kind.
 use Rattle.std.specs.Prelude.{◌≡◌, ℕ, List, Option, Some, None, Result}
 use Rattle.xdr_wire.specs.Reading.{Gives}
 use Rattle.xdr_wire.specs.declared.fault.XdrFault.{XdrFault}
@@ -41,6 +41,6 @@ pub record IsDone (k : OpKind) (result : Item) (o : Outcome) : Type 0 where
 unfoldable pub IsRead : OpKind → List ℕ → List ℕ → Result Op XdrFault → Type 0
 IsRead k old new r = Gives op_view old new r (arguments_of k old)
 
--- what the form of this operation's result spells is read
+-- a result is decoded by the form of this operation's result
 unfoldable pub IsSpelled : OpKind → List ℕ → List ℕ → Result OpResult XdrFault → Type 0
 IsSpelled k old new r = Gives read_view old new r (spelled_of k old)

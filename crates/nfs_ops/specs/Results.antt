@@ -1,5 +1,5 @@
--- The result of an operation as it stands in a COMPOUND's (RFC 8881, sections 16.2 and 18). It has
--- its number, its status and, where that is OK, the value of its form.
+-- The result of an operation in that of a COMPOUND (RFC 8881, sections 16.2 and 18). It has its number, its status and,
+-- if that is OK, the value of its form.
 use Rattle.std.specs.Prelude.{ℕ, ◌==◌, if◌then◌else◌, [], ◌∷◌, Some}
 use Rattle.xdr_wire.specs.Xdr.{Value, uint, fields}
 use Rattle.nfs_types.specs.Forms.{bitmap, trimmed}
@@ -14,7 +14,7 @@ use Rattle.nfs_ops.specs.declared.OpKind.TheVariants.{SetAttr}
 pub data Outcome : Type 0 where
   -- the operation is OK, with this result
   Done : (k : OpKind) → Value (row k).gives.form → Outcome
-  -- the operation of this number has another status than OK
+  -- the operation with this number has another status than OK
   Refused : ℕ → ℕ → Outcome
   -- SETATTR has another status than OK, and nothing was set
   SetAttrRefused : ℕ → Outcome
@@ -40,10 +40,10 @@ outcome_status (Done k v) = 0
 outcome_status (Refused n status) = status
 outcome_status (SetAttrRefused status) = status
 
--- A refusal isn't OK: SERVERFAULT, which is answered nowhere else, is in its place.
+-- A refusal isn't OK: SERVERFAULT, which this server returns nowhere else, replaces OK.
 abbrev pub refusal : Status → ℕ
 refusal status = if statuses.number_of status == 0 then statuses.number_of ServerFault else statuses.number_of status
 
--- the operation of this number has this status, which isn't OK
+-- the operation with this number has this status, which isn't OK
 abbrev pub refused : ℕ → ℕ → Outcome
 refused n status = if n == (row SetAttr).number then SetAttrRefused status else Refused n status

@@ -1,4 +1,4 @@
--- The table of the operations (RFC 8881, section 18): a row each, in the order of their numbers.
+-- The table of the operations (RFC 8881, section 18): one row each, in the order of their numbers.
 use Rattle.std.specs.Prelude.{ℕ, Bool, true, false, ◌==◌, if◌then◌else◌, List, [], ◌∷◌, codes, Option, Some}
 use Rattle.std.specs.Prelude.{None}
 use Rattle.xdr_wire.specs.Xdr.{Xdr}
@@ -36,15 +36,14 @@ pub record Row : Type 0 where
   pub takes : Spelled
   -- the arguments that aren't supported, each up to the unsupported word
   pub unsupported : List Xdr
-  -- the result, after number and status where that is OK
+  -- the result, after number and status if the status is OK
   pub gives : Spelled
   -- whether the operation can change the tree
   pub changes : Bool
-  -- whether the operation may be answered DELAY; a replayed CREATE_SESSION never is, which is up to the caller
+  -- whether the operation may return DELAY; a replayed CREATE_SESSION never does, which its caller ensures
   pub delays : Bool
 
--- the number, the name, the arguments and the result of an operation that stands anywhere in a COMPOUND, changes
--- nothing in the tree and is never delayed
+-- the row of an operation that may be anywhere in a COMPOUND, changes nothing in the tree and never returns DELAY
 abbrev pub simple : ℕ → List ℕ → Spelled → Spelled → Row
 simple number name takes gives = record {
   number = number;
@@ -57,7 +56,7 @@ simple number name takes gives = record {
   delays = false;
 }
 
--- the same, but it stands at this place, lacks these arguments, can change the tree, or may be delayed
+-- the same, with this place, these unsupported arguments, a change of the tree, or DELAY
 abbrev pub placed : Placement → Row → Row
 placed place r = record r { placement = place }
 
@@ -116,11 +115,11 @@ all_kinds =
     ∷ ReadLink ∷ Remove ∷ Rename ∷ RestoreFh ∷ SaveFh ∷ SetAttr ∷ Verify ∷ Write ∷ ExchangeId ∷ CreateSession
     ∷ DestroySession ∷ Sequence ∷ DestroyClientId ∷ ReclaimComplete ∷ []
 
--- the first of the operations that has the number
+-- the first of these operations that has the number
 abbrev pub with_number : List OpKind → ℕ → Option OpKind
 with_number [] n = None
 with_number (k ∷ others) n = if n == (row k).number then Some k else with_number others n
 
--- the operation of a number, if this server has one
+-- the operation with this number, if this server has one
 unfoldable pub kind_at : ℕ → Option OpKind
 kind_at n = with_number all_kinds n

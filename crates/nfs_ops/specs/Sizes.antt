@@ -1,5 +1,5 @@
--- The most bytes of a result with its number and its status. No operation's meaning speaks of them, but contracts do:
--- with as much room a result is written.
+-- The largest number of bytes of a result with its number and its status. No operation's meaning depends on it, but
+-- contracts do: with as much room a result is written.
 use Rattle.std.specs.Prelude.{ℕ, ◌+◌, ◌*◌, ◌&&◌, Bool, true, false, length}
 use Rattle.xdr_wire.specs.Xdr.{Xdr, void, uint, hyper, boolean, fixed, opaque, pair, array, union, arm, no_more}
 use Rattle.nfs_ops.specs.Forms.{with_padding, getattr_size, read_size, readdir_size, readlink_size}
@@ -7,7 +7,7 @@ use Rattle.nfs_ops.specs.Rows.{row}
 use Rattle.nfs_ops.specs.Results.{Outcome, Done, Refused, SetAttrRefused}
 use Rattle.nfs_ops.specs.declared.OpKind.TheVariants.{GetAttr, Read, ReadDir, ReadLink}
 
--- the most bytes of a value of a form that has a bound, and 0 of another form
+-- the largest number of bytes of a value of a form that has a bound; 0 for any other form
 abbrev pub greatest : Xdr → ℕ
 greatest uint = 4
 greatest hyper = 8
@@ -19,7 +19,7 @@ greatest (array max uint) = 4 + 4 * max
 greatest (union (arm n void no_more)) = 4
 greatest _ = 0
 
--- whether a form is one of those
+-- whether a form has a bound
 abbrev pub has_bound : Xdr → Bool
 has_bound void = true
 has_bound uint = true
@@ -32,7 +32,7 @@ has_bound (array max uint) = true
 has_bound (union (arm n void no_more)) = true
 has_bound _ = false
 
--- the most bytes of a result that is only its number and its status
+-- the largest number of bytes of a result that is only its number and its status
 abbrev pub plain_size : ℕ
 plain_size = 8
 
@@ -40,12 +40,12 @@ plain_size = 8
 abbrev pub setattr_refused_size : ℕ
 setattr_refused_size = 12
 
--- The most bytes of a result of any operation that can change the tree. With as much room it runs,
--- and its result can be sent.
+-- The largest number of bytes of a result of any operation that can change the tree. With as much room the operation
+-- runs, and its result can be sent.
 abbrev pub change_size : ℕ
 change_size = 256
 
--- the bytes that an object or a request makes long count as many as they are
+-- bytes whose number an object or a request decides count in full
 abbrev pub most : Outcome → ℕ
 most (Done GetAttr v) = getattr_size (length v.0) (length v.1)
 most (Done Read v) = read_size (length v.1)
@@ -55,7 +55,7 @@ most (Done k v) = plain_size + greatest (row k).gives.form
 most (Refused n status) = plain_size
 most (SetAttrRefused status) = setattr_refused_size
 
--- the results whose size an object or a request decides: they have exactly as many bytes
+-- the results whose size an object or a request decides: they have exactly this many bytes
 abbrev pub carries_bytes : Outcome → Bool
 carries_bytes (Done GetAttr v) = true
 carries_bytes (Done Read v) = true

@@ -1,4 +1,4 @@
--- Each Rust value, without where it lies in memory: the value of its form.
+-- Each Rust value, by value: the value of its form.
 use Rattle.std.specs.Prelude.{ℕ, List, Some, None}
 use Rattle.std.proofs.Common.{inl, inr}
 use Rattle.xdr_wire.specs.Xdr.{Value}
@@ -324,7 +324,7 @@ result_view results.DestroyClientId = Done kinds.DestroyClientId tt
 result_view results.ReclaimComplete = Done kinds.ReclaimComplete tt
 result_view (results.Refused n status) = refused n (refusal status)
 
--- A result as it was read: a refusal has exactly the number of its status, and so never that of OK.
+-- A result as it was read: a refusal has exactly the number of its status, which is never that of OK.
 abbrev pub read_view : OpResult → Outcome
 read_view (results.Refused n status) = refused n (number_of status)
 read_view r = result_view r

@@ -5,7 +5,7 @@ use xdr_wire::{Full, Reader, Spell, Wire, Writer, XdrFault};
 /// The number of ACCESS.
 pub const OP_ACCESS: u32 = 3;
 
-/// Checks these rights of the caller. The arguments of ACCESS (RFC 8881, section 18.1).
+/// Checks these access rights of the caller. The arguments of ACCESS (RFC 8881, section 18.1).
 #[derive(Clone, Copy)]
 pub struct AccessArgs {
     /// ACCESS4 bits: READ 1, LOOKUP 2, MODIFY 4, EXTEND 8, DELETE 0x10, EXECUTE 0x20.
@@ -35,13 +35,13 @@ impl<'a> Wire<'a> for AccessArgs {
     }
 }
 
-/// The rights requested that are supported, and those that the caller has. The result of ACCESS
-/// (RFC 8881, section 18.1).
+/// The access rights requested that are supported, and those that the caller has. The result of ACCESS (RFC 8881,
+/// section 18.1).
 #[derive(Clone, Copy)]
 pub struct AccessResult {
     /// The rights that the server can check for the object.
     pub supported: u32,
-    /// The rights that are granted, among the supported ones.
+    /// The supported rights that are granted.
     pub granted: u32,
 }
 

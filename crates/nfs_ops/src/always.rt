@@ -2,7 +2,7 @@
 use std::alloc::Allocator;
 use xdr_wire::{Full, Reader, Spell, Wire, Writer, XdrFault};
 
-/// A word that is always `N`: an enum or a union of which one number is used. Another number is `BadChoice`.
+/// A word that is always `N`: an enum or a union of which only one number is used. `BadChoice`: another number.
 #[derive(Clone, Copy)]
 pub struct Always<const N: u32>;
 

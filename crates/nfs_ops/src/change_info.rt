@@ -3,8 +3,8 @@ use crate::always::Always;
 use std::alloc::Allocator;
 use xdr_wire::{Full, Reader, Spell, Wire, Writer, XdrFault};
 
-/// The change of a directory before and after an operation (RFC 8881, section 3.3.9,
-/// `change_info4`). It is always atomic.
+/// The change attribute of a directory before and after an operation (RFC 8881, section 3.3.9, `change_info4`). It is
+/// always atomic.
 #[derive(Clone, Copy)]
 pub struct ChangeInfo {
     pub before: u64,

@@ -7,15 +7,15 @@ use xdr_wire::{AtMostOne, Full, Reader, Spell, Wire, Writer, XdrFault};
 pub struct Channel {
     /// Padding of requests and replies.
     pub padding: u32,
-    /// The most bytes of a request.
+    /// The largest number of bytes of a request.
     pub request_size: u32,
-    /// The most bytes of a reply.
+    /// The largest number of bytes of a reply.
     pub reply_size: u32,
-    /// The most bytes of a reply that is cached.
+    /// The largest number of bytes of a cached reply.
     pub cached_size: u32,
-    /// The most operations of a COMPOUND.
+    /// The largest number of operations of a COMPOUND.
     pub operations: u32,
-    /// How many slots there are.
+    /// The number of slots.
     pub slots: u32,
     /// For RDMA.
     pub rdma: Option<u32>,

@@ -41,7 +41,7 @@ impl<'a> Wire<'a> for CloseArgs {
 /// The open was closed. The result of CLOSE (RFC 8881, section 18.2).
 #[derive(Clone, Copy)]
 pub struct CloseResult {
-    /// The invalid stateid, which no operation takes.
+    /// The invalid stateid, which no operation accepts.
     pub stateid: StateId,
 }
 

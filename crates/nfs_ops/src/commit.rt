@@ -6,7 +6,7 @@ use xdr_wire::{Full, Reader, Spell, Wire, Writer, XdrFault};
 /// The number of COMMIT.
 pub const OP_COMMIT: u32 = 5;
 
-/// Asks for the bytes written so far to be stable. The arguments of COMMIT (RFC 8881, section 18.3).
+/// Makes the bytes written before stable. The arguments of COMMIT (RFC 8881, section 18.3).
 #[derive(Clone, Copy)]
 pub struct CommitArgs {
     /// The offset of the bytes.
@@ -38,8 +38,8 @@ impl<'a> Wire<'a> for CommitArgs {
     }
 }
 
-/// The verifier of this server, which has no meaning: data that were written are stable. The result
-/// of COMMIT (RFC 8881, section 18.3).
+/// The verifier of this server, which has no meaning: data that were written are stable. The result of COMMIT (RFC
+/// 8881, section 18.3).
 #[derive(Clone, Copy)]
 pub struct CommitResult;
 

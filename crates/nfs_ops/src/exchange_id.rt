@@ -7,13 +7,13 @@ use xdr_wire::{AtMostOne, Full, Opaque, Reader, Spell, Wire, Writer, XdrFault};
 /// The number of EXCHANGE_ID.
 pub const OP_EXCHANGE_ID: u32 = 42;
 
-/// The bytes of the server's name.
+/// The number of bytes of the server's name.
 pub const MAX_SERVER: u32 = 11;
 
 /// The server's name: the server owner's major ID, and the server scope.
 pub const SERVER_NAME: &[u8] = b"nfs41-lists";
 
-/// Makes a client known, without protection of its state. The arguments of EXCHANGE_ID (RFC 8881, section 18.35).
+/// Registers a client, without protection of its state. The arguments of EXCHANGE_ID (RFC 8881, section 18.35).
 #[derive(Clone, Copy)]
 pub struct ExchangeIdArgs<'a> {
     /// The verifier of this incarnation of the client.

@@ -12,7 +12,7 @@ use xdr_wire::{Full, Reader, Spell, Wire, Writer, XdrFault};
 /// The number of GETATTR.
 pub const OP_GETATTR: u32 = 9;
 
-/// Asks for attributes. The arguments of GETATTR (RFC 8881, section 18.7).
+/// Requests attributes. The arguments of GETATTR (RFC 8881, section 18.7).
 #[derive(Clone, Copy)]
 pub struct GetAttrArgs {
     /// The attributes requested.
@@ -74,8 +74,8 @@ impl<'a> Wire<'a> for GetAttrResult<'a> {
     }
 }
 
-/// Writes the result of a GETATTR that is OK, each value once, straight to where the reply is taken
-/// from. `Full` exactly where it takes more than `room` bytes; then nothing is written.
+/// Writes the result of a GETATTR that is OK straight into the buffer that the reply is sent from, each value once.
+/// `Full`: exactly if it takes more than `room` bytes; then nothing is written.
 pub fn write_getattr<A: Allocator>(
     given: GivenAttributes<'_>,
     room: usize,

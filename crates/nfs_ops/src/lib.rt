@@ -1,4 +1,5 @@
-//! The operations of NFS version 4.1 and their results (RFC 8881, section 18), from bytes and to bytes.
+//! The operations of NFS version 4.1 and their results (RFC 8881, section 18): reading them from bytes and writing
+//! them.
 #![tactic(auto)]
 
 mod access;
@@ -98,7 +99,7 @@ pub use implementation::Implementation;
 
 // Laws of reading and writing.
 pub use laws::{
-    a_listing_is_the_longest, a_result_that_is_read_stands, a_result_that_stands_is_read,
+    a_listing_is_the_longest, a_result_at_the_start_is_read, a_result_that_is_read_is_at_the_start,
     a_written_result_is_read, changes_are_short, reading_a_result_looks_no_further,
     reading_is_spelling, reading_looks_no_further, refusals_are_short, results_are_bounded,
     sizes_of_carried_bytes_are_exact, what_is_written_is_read,
@@ -167,9 +168,9 @@ pub enum OpKind {
     ReclaimComplete,
 }
 
-/// The table of the operations, a row each. A row has its variant, with its arguments if it takes
-/// any, its number, its name, its place in a COMPOUND, and its result if it has one. Hands all rows
-/// to the macro `$by`, after the tokens that are there for it.
+/// The table of the operations, one row each. A row has its variant (with its arguments if it takes any), number, name
+/// and place in a COMPOUND, and its result if it has one. The macro passes all rows to the macro `$by`, after the
+/// tokens that it was given for it.
 macro_rules! rows {
     ($by:ident $(, $with:expr)*) => {
         $by! {
@@ -212,7 +213,7 @@ pub(crate) use rows;
 /// An operation with its arguments (RFC 8881, sections 16.2 and 18), or why there is none.
 #[derive(Drop)]
 pub enum Op<'a> {
-    /// ACCESS: checks rights of the caller.
+    /// ACCESS: checks access rights of the caller.
     Access(AccessArgs),
     /// CLOSE: closes an open.
     Close(CloseArgs),
@@ -220,45 +221,45 @@ pub enum Op<'a> {
     Commit(CommitArgs),
     /// CREATE: creates an object that isn't a file.
     Create(CreateArgs<'a>),
-    /// GETATTR: attributes of the object.
+    /// GETATTR: reads attributes of the object.
     GetAttr(GetAttrArgs),
-    /// GETFH: the current filehandle.
+    /// GETFH: returns the current filehandle.
     GetFh,
-    /// LINK: one more name.
+    /// LINK: adds a name.
     Link(LinkArgs<'a>),
-    /// LOOKUP: to a child.
+    /// LOOKUP: moves to a child.
     Lookup(LookupArgs<'a>),
-    /// LOOKUPP (section 18.14): to the parent.
+    /// LOOKUPP (section 18.14): moves to the parent.
     LookupP,
-    /// NVERIFY: goes on only if attributes differ.
+    /// NVERIFY: continues only if attributes differ.
     NVerify(NVerifyArgs<'a>),
     /// OPEN: opens a file.
     Open(OpenArgs<'a>),
-    /// PUTFH: to an object by its filehandle.
+    /// PUTFH: moves to an object by its filehandle.
     PutFh(PutFhArgs<'a>),
-    /// PUTROOTFH (section 18.21): to the root.
+    /// PUTROOTFH (section 18.21): moves to the root.
     PutRootFh,
-    /// READ: bytes of a file.
+    /// READ: reads bytes of a file.
     Read(ReadArgs),
-    /// READDIR: entries of a directory.
+    /// READDIR: lists entries of a directory.
     ReadDir(ReadDirArgs),
-    /// READLINK: the text of a symbolic link.
+    /// READLINK: reads the text of a symbolic link.
     ReadLink,
     /// REMOVE: removes a name.
     Remove(RemoveArgs<'a>),
     /// RENAME: moves a name.
     Rename(RenameArgs<'a>),
-    /// RESTOREFH (section 18.27): to the saved object.
+    /// RESTOREFH (section 18.27): moves to the saved object.
     RestoreFh,
     /// SAVEFH (section 18.28): saves the current object.
     SaveFh,
     /// SETATTR: sets attributes.
     SetAttr(SetAttrArgs<'a>),
-    /// VERIFY: goes on only if attributes have these values.
+    /// VERIFY: continues only if attributes have these values.
     Verify(VerifyArgs<'a>),
     /// WRITE: writes bytes of a file.
     Write(WriteArgs<'a>),
-    /// EXCHANGE_ID: makes a client known.
+    /// EXCHANGE_ID: registers a client.
     ExchangeId(ExchangeIdArgs<'a>),
     /// CREATE_SESSION: creates a session.
     CreateSession(CreateSessionArgs<'a>),
@@ -268,14 +269,14 @@ pub enum Op<'a> {
     Sequence(SequenceArgs),
     /// DESTROY_CLIENTID: destroys a client ID.
     DestroyClientId(DestroyClientIdArgs),
-    /// RECLAIM_COMPLETE: no more reclaims.
+    /// RECLAIM_COMPLETE: the client reclaims no more.
     ReclaimComplete(ReclaimCompleteArgs),
-    /// A number from 3 to 58 whose operation isn't supported, and whose arguments aren't read. It
-    /// may also be that of an OPEN or an EXCHANGE_ID whose arguments aren't supported.
+    /// A number from 3 to 58 whose operation isn't supported, and whose arguments aren't read. It may also be that of
+    /// an OPEN or an EXCHANGE_ID whose arguments aren't supported.
     Unsupported(u32),
-    /// A number that no operation has.
+    /// A number that isn't the number of any operation.
     Illegal,
-    /// The arguments of the operation of this number can't be read; where the number is missing it is OP_ILLEGAL.
+    /// The arguments of the operation with this number can't be read. If the number is missing, it is OP_ILLEGAL.
     Bad(u32),
 }
 
@@ -340,6 +341,6 @@ pub enum OpResult<'a> {
     DestroyClientId,
     /// RECLAIM_COMPLETE.
     ReclaimComplete,
-    /// The operation of this number has this status, which isn't OK.
+    /// The operation with this number has this status, which isn't OK.
     Refused(u32, Status),
 }

@@ -7,7 +7,7 @@ use xdr_wire::{Full, Reader, Spell, Wire, Writer, XdrFault};
 /// The number of LINK.
 pub const OP_LINK: u32 = 11;
 
-/// Gives the saved object one more name. The arguments of LINK (RFC 8881, section 18.9).
+/// Adds a name to the saved object. The arguments of LINK (RFC 8881, section 18.9).
 #[derive(Clone, Copy)]
 pub struct LinkArgs<'a> {
     /// The new name in the current directory.
@@ -37,7 +37,7 @@ impl<'a> Wire<'a> for LinkArgs<'a> {
     }
 }
 
-/// The name was made. The result of LINK (RFC 8881, section 18.9).
+/// The name was added. The result of LINK (RFC 8881, section 18.9).
 #[derive(Clone, Copy)]
 pub struct LinkResult {
     /// The change of the directory.

@@ -1,5 +1,5 @@
-//! READDIR's result (RFC 8881, section 18.23), written entry by entry to where the reply is taken
-//! from, as far as the entries fit.
+//! READDIR's result (RFC 8881, section 18.23), written entry by entry into the buffer that the reply is sent from, as
+//! far as the entries fit.
 ghost use Rattle.std.specs.Prelude.{◌≡◌, ◌≤◌, ◌+◌, ◌++◌, length, replicate, OnOk, IfErr, Err};
 ghost use Rattle.std.specs.Int.{w32, to_be_bytes};
 ghost use Rattle.xdr_wire.specs.Buffer.{Appends, Puts};
@@ -36,7 +36,7 @@ pub trait Entries {
 
     // The entries that are left, as they are judged.
     ghost left: { Self → List (Judged Self.Refusal) };
-    // The state that judging and writing leave as it was.
+    // The state that judging and writing leave unchanged.
     ghost Kept: { Type 0 } = { Unit {0} };
 
     ghost kept: { Self → Self.Kept };
@@ -47,8 +47,7 @@ pub trait Entries {
         ensures kept { Self.kept self.new ≡ Self.kept self.old };
 }
 
-/// Writes an entry after its link. `Full` exactly where the room is less than that takes; then
-/// nothing is written.
+/// Writes an entry after its link. `Full`: exactly if the room is less than that takes; then nothing is written.
 pub fn write_entry<A: Allocator>(given: GivenEntry<'_>, writer: &mut Writer<A>) -> Result<(), Full>
     ensures sendable { OnOk result (IsSendable (given_entry_value given.entry)) }
     ensures puts { Puts writer.old writer.new (linked_bytes (given_entry_value given.entry)) result }
@@ -61,11 +60,11 @@ pub fn write_entry<A: Allocator>(given: GivenEntry<'_>, writer: &mut Writer<A>) 
 pub enum ListFault<R> {
     /// An entry is refused, with this refusal.
     Refused(R),
-    /// Not even one entry fits, or there is none and a result without entries doesn't fit.
+    /// The first entry doesn't fit. Or there is no entry, and a result without entries doesn't fit.
     TooSmall,
 }
 
-/// Why no more entries are written.
+/// Why the writing of entries stops.
 #[derive(Clone, Copy)]
 pub(crate) enum Stop<R> {
     End,
@@ -73,8 +72,8 @@ pub(crate) enum Stop<R> {
     Full,
 }
 
-/// Writes as many of the entries as end within the first `most` bytes of the buffer. Each is judged
-/// before it is measured.
+/// Writes the entries as far as they end within the first `most` bytes of the buffer. Each is judged before it is
+/// measured.
 fn write_fitting<E: Entries, A: Allocator>(
     entries: &mut E,
     most: usize,
@@ -108,8 +107,8 @@ fn put_head<A: Allocator>(writer: &mut Writer<A>)
     (OP_READDIR, (0u32, Zeros)).write(writer).unwrap();
 }
 
-/// Writes the end mark of the entries and eof, or cuts the buffer back to its first `start` bytes
-/// where it has more than `most`.
+/// Writes the end mark of the entries and eof. If the buffer has more than `most` bytes, it truncates the buffer to its
+/// first `start` bytes instead.
 fn end_listing<R, A: Allocator>(
     start: usize,
     most: usize,
@@ -128,10 +127,10 @@ fn end_listing<R, A: Allocator>(
     Ok(())
 }
 
-/// Writes the result of a READDIR that is OK, each entry once, straight to where the reply is taken
-/// from. It is the longest beginning of the entries with which it takes, after number and status,
-/// at most `maxcount` bytes, and in all at most `room`. Each entry is judged before it is measured.
-/// Where one is refused, or nothing fits, nothing is written.
+/// Writes the result of a READDIR that is OK straight into the buffer that the reply is sent from, each entry once. It
+/// is the longest prefix of the entries within two limits. After number and status it takes at most `maxcount` bytes,
+/// and in all at most `room`. Each entry is judged before it is measured. If one is refused, or nothing fits, nothing
+/// is written.
 pub fn write_readdir<E: Entries, A: Allocator>(
     entries: &mut E,
     maxcount: u32,

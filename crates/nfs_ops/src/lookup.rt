@@ -6,7 +6,7 @@ use xdr_wire::{Full, Reader, Spell, Wire, Writer, XdrFault};
 /// The number of LOOKUP.
 pub const OP_LOOKUP: u32 = 15;
 
-/// Goes to a child of the current directory. The arguments of LOOKUP (RFC 8881, section 18.13).
+/// Moves to a child of the current directory. The arguments of LOOKUP (RFC 8881, section 18.13).
 #[derive(Clone, Copy)]
 pub struct LookupArgs<'a> {
     /// The child's name.

@@ -6,10 +6,10 @@ use xdr_wire::{Full, Reader, Spell, Wire, Writer, XdrFault};
 /// The number of NVERIFY.
 pub const OP_NVERIFY: u32 = 17;
 
-/// Goes on only if attributes differ. The arguments of NVERIFY (RFC 8881, section 18.15).
+/// Continues only if attributes differ. The arguments of NVERIFY (RFC 8881, section 18.15).
 #[derive(Clone, Copy)]
 pub struct NVerifyArgs<'a> {
-    /// The attributes, with the values that are to differ.
+    /// The attributes, with the values from which they must differ.
     pub attributes: Attributes<'a>,
 }
 

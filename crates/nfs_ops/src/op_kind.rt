@@ -11,7 +11,7 @@ use crate::{OpKind, rows};
 pub enum Placement {
     /// Anywhere, with a session or without one.
     Anywhere,
-    /// After a SEQUENCE alone.
+    /// Only after a SEQUENCE.
     InSession,
     /// The first operation: SEQUENCE.
     First,
@@ -19,7 +19,7 @@ pub enum Placement {
     Alone,
 }
 
-/// The number in the row of a kind.
+/// The number in the row of an operation.
 macro_rules! number {
     (
         $kind:expr;
@@ -31,7 +31,7 @@ macro_rules! number {
     };
 }
 
-/// The kind in the row of a number, if there is one.
+/// The operation in the row with a number, if there is one.
 macro_rules! kind {
     (
         $of:expr;
@@ -44,7 +44,7 @@ macro_rules! kind {
     };
 }
 
-/// The name in the row of a kind.
+/// The name in the row of an operation.
 macro_rules! name {
     (
         $kind:expr;
@@ -56,7 +56,7 @@ macro_rules! name {
     };
 }
 
-/// The place in the row of a kind.
+/// The place in the row of an operation.
 macro_rules! placement {
     (
         $kind:expr;
@@ -78,7 +78,7 @@ impl OpKind {
         rows!(number, self)
     }
 
-    /// The operation of a number, if this server has one.
+    /// The operation with this number. `None`: this server doesn't have it.
     #[tactic(auto, unfolding(crate::specs::Rows::kind_at))]
     pub fn of_number(number: u32) -> Option<OpKind>
         ensures { result ≡ kind_at number }
@@ -102,8 +102,8 @@ impl OpKind {
     }
 }
 
-/// The name of the operation of a number, in capitals and without the standard's `OP_` (RFC 8881,
-/// section 18): ASCII, at most 20 bytes. `None`: this server has no such operation.
+/// The name of the operation with this number, in capitals and without the standard's `OP_` (RFC 8881, section 18):
+/// ASCII, at most 20 bytes. `None`: this server doesn't have the operation.
 pub fn operation_name(op: u32) -> Option<&'static [u8]>
     ensures name { option_copied result ≡ names.operation_name op }
     ensures short { IfSome result (λ name. length name.now ≤ 20) }

@@ -13,11 +13,11 @@ pub const OP_OPEN: u32 = 18;
 /// creation isn't supported.
 #[derive(Clone, Copy)]
 pub enum OpenHow<'a> {
-    /// OPEN4_NOCREATE (0): the file has to be there.
+    /// OPEN4_NOCREATE (0): the file must exist.
     NoCreate,
-    /// UNCHECKED4 (0): the file may be there, and else is created with these attributes.
+    /// UNCHECKED4 (0): the file is created with these attributes, unless it exists.
     Unchecked(Attributes<'a>),
-    /// GUARDED4 (1): the file is created with these attributes, and must not be there.
+    /// GUARDED4 (1): the file is created with these attributes, and must not exist.
     Guarded(Attributes<'a>),
 }
 
@@ -106,11 +106,11 @@ pub struct OpenArgs<'a> {
     pub seqid: u32,
     /// The share access: the low byte is 1 for reading, 2 for writing, 3 for both.
     pub access: u32,
-    /// The share deny, against other opens.
+    /// The share deny: which access of other opens to deny.
     pub deny: u32,
     /// The client of the owner, ignored.
     pub client: u64,
-    /// The open owner, by the client's own name.
+    /// The open owner, as the client names it.
     pub owner: Opaque<'a, 1024>,
     /// Whether the file may be created.
     pub how: OpenHow<'a>,

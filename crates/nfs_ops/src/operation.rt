@@ -5,10 +5,10 @@ ghost use Rattle.nfs_ops.specs.Operations.{kind_in, number_of, placement_of};
 use crate::op_kind::Placement;
 use crate::{Op, OpKind, rows};
 
-/// OP_ILLEGAL, the number in the answer to a missing number and to a number that no operation has.
+/// OP_ILLEGAL, the number in the result for a missing number and for a number that isn't any operation's.
 pub(crate) const OP_ILLEGAL: u32 = 10_044;
 
-/// The number in the row of an operation, or the number of an entry without operation.
+/// The number in the row of an operation, or the number of an entry that isn't an operation.
 macro_rules! number {
     ($op:expr; $($row:ident $(($arguments:ident))? $number:ident $name:literal $place:ident $(($given:ident))?,)*) => {
         match $op {
@@ -19,7 +19,7 @@ macro_rules! number {
     };
 }
 
-/// The kind of an operation, or that an entry is none.
+/// The operation without its arguments; none for an entry that isn't an operation.
 macro_rules! kind {
     ($op:expr; $($row:ident $(($arguments:ident))? $number:ident $name:literal $place:ident $(($given:ident))?,)*) => {
         match $op {
@@ -32,21 +32,21 @@ macro_rules! kind {
 impl<'a> Op<'a> {
     ghost use Rattle.nfs_ops.specs.Views.{op_view};
 
-    /// The number that stands in the result.
+    /// The number in the result.
     pub fn number(&self) -> u32
         ensures { result ≡ number_of (op_view self.now) }
     {
         rows!(number, self)
     }
 
-    /// The operation without its arguments. `None`: this is no operation that can be run.
+    /// The operation without its arguments. `None`: this isn't an operation that can be run.
     pub fn kind(&self) -> Option<OpKind>
         ensures { result ≡ kind_in (op_view self.now) }
     {
         rows!(kind, self)
     }
 
-    /// The place of the operation in a COMPOUND. `None`: this is no operation that can be run.
+    /// The place of the operation in a COMPOUND. `None`: this isn't an operation that can be run.
     pub fn placement(&self) -> Option<Placement>
         ensures { result ≡ placement_of (op_view self.now) }
     {

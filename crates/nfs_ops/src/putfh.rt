@@ -6,7 +6,7 @@ use xdr_wire::{Full, Reader, Spell, Wire, Writer, XdrFault};
 /// The number of PUTFH.
 pub const OP_PUTFH: u32 = 22;
 
-/// Goes to an object by its filehandle. The arguments of PUTFH (RFC 8881, section 18.19).
+/// Moves to an object by its filehandle. The arguments of PUTFH (RFC 8881, section 18.19).
 #[derive(Clone, Copy)]
 pub struct PutFhArgs<'a> {
     /// The object's filehandle.

@@ -16,14 +16,14 @@ use xdr_wire::{Full, Reader, Source, Spell, Wire, Writer, XdrFault};
 /// The number of READ.
 pub const OP_READ: u32 = 25;
 
-/// Asks for bytes of a file. The arguments of READ (RFC 8881, section 18.22).
+/// Requests bytes of a file. The arguments of READ (RFC 8881, section 18.22).
 #[derive(Clone, Copy)]
 pub struct ReadArgs {
     /// The stateid of an open, or a special one.
     pub stateid: StateId,
     /// The offset of the bytes.
     pub offset: u64,
-    /// How many bytes at most.
+    /// The largest number of bytes to return.
     pub count: u32,
 }
 
@@ -54,7 +54,7 @@ impl<'a> Wire<'a> for ReadArgs {
     }
 }
 
-/// The most bytes that this server gives for a READ.
+/// The largest number of bytes that this server returns for a READ.
 pub const MAX_READ: u32 = 32_768;
 
 /// Bytes of the file. The result of READ (RFC 8881, section 18.22).
@@ -62,7 +62,7 @@ pub const MAX_READ: u32 = 32_768;
 pub struct ReadResult<'a> {
     /// Whether the file ends after the bytes.
     pub eof: bool,
-    /// The bytes, of which this server gives at most 32,768.
+    /// The bytes; this server returns at most 32,768.
     pub data: Bytes<'a>,
 }
 
@@ -98,9 +98,8 @@ fn put_head<A: Allocator>(eof: bool, writer: &mut Writer<A>)
     (OP_READ, (0u32, eof)).write(writer).unwrap();
 }
 
-/// Writes the result of a READ that is OK: whether the file ends after the bytes, and the bytes,
-/// which are at most `most`. They are copied from the source straight to where the reply is taken
-/// from.
+/// Writes the result of a READ that is OK: whether the file ends after the bytes, and the bytes, which are at most
+/// `most`. The source copies them straight into the buffer that the reply is sent from.
 pub fn write_read<S: Source, A: Allocator>(
     eof: bool,
     most: usize,

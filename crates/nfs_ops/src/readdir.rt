@@ -8,7 +8,7 @@ use xdr_wire::{Chain, Full, Reader, Spell, Wire, Writer, XdrFault};
 /// The number of READDIR.
 pub const OP_READDIR: u32 = 26;
 
-/// Asks for entries of a directory. The arguments of READDIR (RFC 8881, section 18.23).
+/// Requests entries of a directory. The arguments of READDIR (RFC 8881, section 18.23).
 #[derive(Clone, Copy)]
 pub struct ReadDirArgs {
     /// The cookie of the last entry that was returned, 0 at first.
@@ -17,7 +17,7 @@ pub struct ReadDirArgs {
     pub verifier: [u8; 8],
     /// Ignored.
     pub dircount: u32,
-    /// The most bytes of the result.
+    /// The largest number of bytes of the result.
     pub maxcount: u32,
     /// The attributes of each entry.
     pub asked: Bitmap,
@@ -91,7 +91,7 @@ impl<'a> Wire<'a> for Entry<'a> {
     }
 }
 
-/// An entry that is written, with the attributes that are returned of its object (RFC 8881, section 18.23, `entry4`).
+/// An entry that is written, with the attributes that are returned for its object (RFC 8881, section 18.23, `entry4`).
 #[derive(Clone, Copy)]
 pub struct GivenEntry<'a> {
     /// The cookie, rising from entry to entry.

@@ -37,7 +37,7 @@ fn read_exchange_id<'a>(reader: &mut Reader<'a>) -> Result<Op<'a>, XdrFault>
     }
 }
 
-/// The answer for a number without a row.
+/// The entry for a number without a row.
 fn no_operation<'a>(number: u32) -> Op<'a>
     ensures { op_view result ≡ specs.no_operation number }
 {
@@ -47,8 +47,7 @@ fn no_operation<'a>(number: u32) -> Op<'a>
     }
 }
 
-/// Reads the arguments of an operation of this kind, of which none is unsupported. `make` makes the
-/// operation of them.
+/// Reads the arguments of an operation of this kind, of which none is unsupported. `make` makes the operation of them.
 fn read_as<'a, T: Wire<'a>, F: FnOnce(T) -> Op<'a> + Drop>(
     kind: OpKind,
     make: F,
@@ -94,7 +93,7 @@ fn read_arguments<'a>(kind: OpKind, reader: &mut Reader<'a>) -> Result<Op<'a>, X
     rows!(arguments_of, kind, reader)
 }
 
-/// Reads the arguments of the operation of this number, if this server has it.
+/// Reads the arguments of the operation with this number, if this server has it.
 #[tactic(auto, unfolding(crate::specs::Operations::arguments_at, crate::specs::ReadsAs::IsRead))]
 fn read_numbered<'a>(number: u32, reader: &mut Reader<'a>) -> Result<Op<'a>, XdrFault>
     ensures { Gives op_view reader.old reader.new result (arguments_at number reader.old) }

@@ -5,10 +5,10 @@ use xdr_wire::{Full, Reader, Spell, Wire, Writer, XdrFault};
 /// The number of RECLAIM_COMPLETE.
 pub const OP_RECLAIM_COMPLETE: u32 = 58;
 
-/// Says that a client reclaims no more. The arguments of RECLAIM_COMPLETE (RFC 8881, section 18.51).
+/// Reports that a client reclaims no more. The arguments of RECLAIM_COMPLETE (RFC 8881, section 18.51).
 #[derive(Clone, Copy)]
 pub struct ReclaimCompleteArgs {
-    /// Whether for the file system of the current filehandle alone.
+    /// Whether the report is only about the file system of the current filehandle.
     pub one_fs: bool,
 }
 

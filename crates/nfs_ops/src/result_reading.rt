@@ -4,7 +4,8 @@ ghost use Rattle.xdr_wire.specs.Reading.{Gives};
 ghost use Rattle.nfs_types.specs.Status.{number_of};
 ghost use Rattle.nfs_types.specs.Views.{bitmap_value};
 ghost use Rattle.nfs_ops.specs.ResultReading.{result_at, done_at, done_of, outcome_conforms};
-ghost use Rattle.nfs_ops.specs.ResultReading.{setattr_refused, refused_from, refused_at, refusal_at, behind_status};
+ghost use Rattle.nfs_ops.specs.ResultReading.{setattr_refused, refused_from, refused_at, refusal_at};
+ghost use Rattle.nfs_ops.specs.ResultReading.{outcome_after_status};
 ghost use Rattle.nfs_ops.specs.ReadsAs.{IsDone, IsSpelled};
 ghost use Rattle.nfs_ops.specs.Rows.{row};
 ghost use Rattle.nfs_ops.specs.Views.{read_view};
@@ -14,7 +15,7 @@ use crate::{OP_SETATTR, OpKind, OpResult, rows};
 use nfs_types::{Bitmap, StateId, Status};
 use xdr_wire::{Reader, Wire, XdrFault};
 
-/// The status of this number (section 15.1), where there is one and it isn't OK.
+/// The status with this number (section 15.1). `None`: there is none, or it is OK.
 #[tactic(auto, unfolding(crate::specs::ResultReading::refusal_at))]
 fn refusal_of(number: u32) -> Option<Status>
     ensures { option_map number_of result ≡ refusal_at number }
@@ -61,15 +62,15 @@ macro_rules! given_of {
     };
 }
 
-/// Reads what the form of an operation's result spells.
+/// Decodes a result by the form of the operation's result.
 fn read_spelled<'a>(kind: OpKind, reader: &mut Reader<'a>) -> Result<OpResult<'a>, XdrFault>
     ensures { IsSpelled kind reader.old reader.new result }
 {
     rows!(given_of, kind, reader)
 }
 
-/// Whether a result has the values that rules fix: CLOSE the invalid stateid, EXCHANGE_ID this
-/// server's name twice, and SEQUENCE as its target the highest slot that is granted.
+/// Whether a result has the values that rules fix. CLOSE has the invalid stateid. EXCHANGE_ID has this server's name
+/// twice. SEQUENCE has the highest slot that is granted as its target.
 fn conforms(outcome: &OpResult<'_>) -> bool
     ensures { result ≡ outcome_conforms (read_view outcome.now) }
 {
@@ -96,7 +97,7 @@ fn read_done<'a>(kind: OpKind, reader: &mut Reader<'a>) -> Result<OpResult<'a>, 
     Ok(outcome)
 }
 
-/// Reads the result of the operation of this number.
+/// Reads the result of the operation with this number.
 #[tactic(auto, unfolding(crate::specs::ResultReading::done_at))]
 fn read_numbered<'a>(number: u32, reader: &mut Reader<'a>) -> Result<OpResult<'a>, XdrFault>
     ensures { Gives read_view reader.old reader.new result (done_at number reader.old) }
@@ -107,14 +108,14 @@ fn read_numbered<'a>(number: u32, reader: &mut Reader<'a>) -> Result<OpResult<'a
     }
 }
 
-/// Whether a set has no number.
+/// Whether a set is empty.
 fn is_empty(set: &Bitmap) -> bool
     ensures { result ≡ (length (bitmap_value set.now) == 0) }
 {
     *set == Bitmap::empty()
 }
 
-/// Reads the bitmap of a SETATTR that is refused, which is empty.
+/// Reads the bitmap of a SETATTR that is refused, which must be empty.
 fn read_refused_setattr<'a>(
     status: Status,
     reader: &mut Reader<'a>,
@@ -131,7 +132,7 @@ fn read_refused_setattr<'a>(
 }
 
 /// Reads the rest of a refusal: the bitmap of SETATTR, else nothing.
-fn read_behind_refusal<'a>(
+fn read_after_refusal<'a>(
     number: u32,
     status: Status,
     reader: &mut Reader<'a>,
@@ -144,7 +145,7 @@ fn read_behind_refusal<'a>(
     }
 }
 
-/// Reads the bytes after another status than OK.
+/// Reads the bytes after a status other than OK.
 #[tactic(auto, unfolding(crate::specs::ResultReading::refused_at))]
 fn read_refused<'a>(
     number: u32,
@@ -154,19 +155,19 @@ fn read_refused<'a>(
     ensures { Gives read_view reader.old reader.new result (refused_at number status reader.old) }
 {
     match refusal_of(status) {
-        Some(status) => read_behind_refusal(number, status, reader),
+        Some(status) => read_after_refusal(number, status, reader),
         None => Err(XdrFault::BadChoice),
     }
 }
 
 /// Reads the bytes after a status.
-#[tactic(auto, unfolding(crate::specs::ResultReading::behind_status))]
-fn read_behind_status<'a>(
+#[tactic(auto, unfolding(crate::specs::ResultReading::outcome_after_status))]
+fn read_after_status<'a>(
     number: u32,
     status: u32,
     reader: &mut Reader<'a>,
 ) -> Result<OpResult<'a>, XdrFault>
-    ensures { Gives read_view reader.old reader.new result (behind_status number status reader.old) }
+    ensures { Gives read_view reader.old reader.new result (outcome_after_status number status reader.old) }
 {
     match status {
         0 => read_numbered(number, reader),
@@ -174,15 +175,16 @@ fn read_behind_status<'a>(
     }
 }
 
-/// Reads a result, as a client does. A fault leaves the reader where the result begins. Besides what
-/// the forms refuse, it is `BadChoice` where
+/// Reads a result, as a client does. A fault leaves the reader at the beginning of the result. Besides what the forms
+/// refuse, these are `BadChoice`:
+///
 /// - no operation has the number of a result that is OK, or no status that of one that isn't;
 /// - CLOSE returns another stateid than the invalid one (section 18.2.4);
 /// - EXCHANGE_ID returns another server owner or another scope than this server's (2.5, 2.10.4);
 /// - SEQUENCE returns another target than the highest slot that it grants (18.46.3);
 /// - SETATTR is refused, and its bitmap isn't empty (18.30.3).
 ///
-/// The bytes of READ and the text of READLINK have no bound but the record's.
+/// Only the record bounds the bytes of READ and the text of READLINK.
 #[tactic(auto, unfolding(crate::specs::ResultReading::result_at))]
 pub fn read_result<'a>(reader: &mut Reader<'a>) -> Result<OpResult<'a>, XdrFault>
     ensures { Gives read_view reader.old reader.new result (result_at reader.old) }
@@ -190,7 +192,7 @@ pub fn read_result<'a>(reader: &mut Reader<'a>) -> Result<OpResult<'a>, XdrFault
     let mut ahead = reader.fork();
     let number = ahead.u32()?;
     let status = ahead.u32()?;
-    let outcome = read_behind_status(number, status, &mut ahead)?;
+    let outcome = read_after_status(number, status, &mut ahead)?;
     *reader = ahead;
     Ok(outcome)
 }

@@ -24,16 +24,16 @@ fn refusal(status: Status) -> u32
     }
 }
 
-/// Says to the prover how long an array is.
+/// Proves the length of an array to the prover.
 fn is_whole<const N: usize>(bytes: &[u8; N])
     ensures { length bytes.now ≡ N }
 {
     let _bytes = *bytes;
 }
 
-/// Writes that the operation of this number has this status, and not OK: where it is OK,
-/// SERVERFAULT stands there. SETATTR has an empty bitmap after its status. `Full` exactly where the
-/// room is less than that takes, at most 12 bytes; then nothing is written.
+/// Writes a refusal: the operation with this number has this status. If the status is OK, SERVERFAULT is written in its
+/// place. SETATTR has an empty bitmap after its status. `Full`: exactly if the room is less than that takes, at most 12
+/// bytes; then nothing is written.
 pub fn write_refusal<A: Allocator>(
     number: u32,
     status: Status,
@@ -54,7 +54,7 @@ pub fn write_refusal<A: Allocator>(
     }
 }
 
-/// Writes a refusal, as the arms of [`put_result`] say it.
+/// Writes a refusal, with the contract of the arms of [`put_result`].
 #[tactic(auto, unfolding(crate::specs::Writing::IsWrittenWithin))]
 fn put_refusal<A: Allocator>(
     number: u32,
@@ -67,7 +67,7 @@ fn put_refusal<A: Allocator>(
     write_refusal(number, status, writer)
 }
 
-/// Writes number, status OK and a result that takes no more bytes than its form says.
+/// Writes number, status OK and a result that takes no more bytes than its form allows.
 fn put<T: Spell, A: Allocator>(number: u32, given: T, writer: &mut Writer<A>) -> Result<(), Full>
     requires { length (spelling T.form (T.view given)) ≤ greatest T.form }
     ensures { IsWrittenWithin (item_of number (record { form = T.form; normal = T.normal }) (T.view given))
@@ -76,7 +76,7 @@ fn put<T: Spell, A: Allocator>(number: u32, given: T, writer: &mut Writer<A>) ->
     (number, (0u32, given)).write(writer)
 }
 
-/// Writes the result in a row, once the prover knows how long these bytes of it are.
+/// Writes the result in a row, once the prover knows the length of these bytes of it.
 macro_rules! whole {
     ($bytes:expr, $number:ident $given:ident, $writer:expr) => {{
         is_whole(&$bytes);
@@ -84,7 +84,7 @@ macro_rules! whole {
     }};
 }
 
-/// Writes a result as long as what it carries.
+/// Writes a result whose length is that of what it carries.
 macro_rules! carried {
     ($number:ident $given:ident, $writer:expr) => { ($crate::$number, (0u32, $given)).write($writer) };
 }
@@ -123,10 +123,9 @@ fn put_result<A: Allocator>(outcome: OpResult, writer: &mut Writer<A>) -> Result
     rows!(done_of, outcome, writer)
 }
 
-/// Writes a result: its number, its status and, where that is OK, the result of the operation.
-/// `Full` exactly where the room is less than that takes; then nothing is written. It takes at most
-/// the bytes that `most` gives. Those are at most 256 of an operation that can change the tree, and
-/// at most 12 of a refusal.
+/// Writes a result: its number, its status and, if that is OK, the result of the operation. `Full`: exactly if the room
+/// is less than that takes; then nothing is written. It takes at most the bytes that `most` gives. Those are at most
+/// 256 for an operation that can change the tree, and at most 12 for a refusal.
 #[tactic(auto, unfolding(crate::specs::Writing::IsWrittenWithin))]
 pub fn write_result<A: Allocator>(outcome: OpResult, writer: &mut Writer<A>) -> Result<(), Full>
     ensures has_spelling { OnOk result (ItemHasSpelling (outcome_item (result_view outcome.entry))) }

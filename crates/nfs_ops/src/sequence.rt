@@ -52,7 +52,7 @@ impl<'a> Wire<'a> for SequenceArgs {
     }
 }
 
-/// The request goes on. The result of SEQUENCE (RFC 8881, section 18.46).
+/// The request continues. The result of SEQUENCE (RFC 8881, section 18.46).
 #[derive(Clone, Copy)]
 pub struct SequenceResult {
     /// The session ID.

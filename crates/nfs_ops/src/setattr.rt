@@ -9,7 +9,7 @@ pub const OP_SETATTR: u32 = 34;
 /// Sets attributes. The arguments of SETATTR (RFC 8881, section 18.30).
 #[derive(Clone, Copy)]
 pub struct SetAttrArgs<'a> {
-    /// The stateid of an open or a special one, checked where the size is set.
+    /// The stateid of an open or a special one, checked if the size is set.
     pub stateid: StateId,
     /// The attributes, with their values.
     pub attributes: Attributes<'a>,

@@ -143,30 +143,30 @@ impl<'a> Wire<'a> for Protection {
     }
 }
 
-type OpenFront<'a, T> = (u32, (u32, (u32, (u64, (Opaque<'a, 1024>, T)))));
+type OpenPrefix<'a, T> = (u32, (u32, (u32, (u64, (Opaque<'a, 1024>, T)))));
 
 fn asks_exclusive(reader: &Reader<'_>) -> bool
     ensures { result ≡ is_ok (read_at open_exclusive reader.now) }
 {
     let mut ahead = reader.fork();
-    OpenFront::<(Always<1>, Exclusive)>::read(&mut ahead).is_ok()
+    OpenPrefix::<(Always<1>, Exclusive)>::read(&mut ahead).is_ok()
 }
 
 fn asks_other_claim(reader: &Reader<'_>) -> bool
     ensures { result ≡ is_ok (read_at open_by_other_claim reader.now) }
 {
     let mut ahead = reader.fork();
-    OpenFront::<(OpenHow, OtherClaim)>::read(&mut ahead).is_ok()
+    OpenPrefix::<(OpenHow, OtherClaim)>::read(&mut ahead).is_ok()
 }
 
-/// Whether the arguments of an OPEN ask for exclusive creation, or by a claim of a reclaim or a delegation.
+/// Whether the arguments of an OPEN request exclusive creation, or have a claim of a reclaim or a delegation.
 pub(crate) fn is_open_unsupported(reader: &Reader<'_>) -> bool
     ensures { result ≡ is_ok (read_at open_exclusive reader.now) || is_ok (read_at open_by_other_claim reader.now) }
 {
     asks_exclusive(reader) || asks_other_claim(reader)
 }
 
-/// Whether the arguments of an EXCHANGE_ID ask for protection of the client's state.
+/// Whether the arguments of an EXCHANGE_ID request protection of the client's state.
 pub(crate) fn is_exchange_id_unsupported(reader: &Reader<'_>) -> bool
     ensures { result ≡ is_ok (read_at exchange_id_protected reader.now) }
 {

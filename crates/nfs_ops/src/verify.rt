@@ -6,7 +6,7 @@ use xdr_wire::{Full, Reader, Spell, Wire, Writer, XdrFault};
 /// The number of VERIFY.
 pub const OP_VERIFY: u32 = 37;
 
-/// Goes on only if attributes have these values. The arguments of VERIFY (RFC 8881, section 18.31).
+/// Continues only if attributes have these values. The arguments of VERIFY (RFC 8881, section 18.31).
 #[derive(Clone, Copy)]
 pub struct VerifyArgs<'a> {
     /// The attributes, with these values.

@@ -60,7 +60,7 @@ pub struct WriteArgs<'a> {
     pub stateid: StateId,
     /// The offset of the bytes.
     pub offset: u64,
-    /// How stable they are to be.
+    /// How stable they must be.
     pub stable: StableHow,
     /// The bytes.
     pub data: Bytes<'a>,

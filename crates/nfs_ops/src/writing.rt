@@ -28,7 +28,7 @@ fn put<T: Spell, A: Allocator>(number: u32, value: T, writer: &mut Writer<A>) ->
     (number, value).write(writer)
 }
 
-/// The number in the row of an operation with its arguments, or the number of an entry without operation.
+/// Writes the number in the row of an operation with its arguments, or the number of an entry that isn't an operation.
 macro_rules! written {
     (
         $op:expr, $writer:expr;
@@ -50,9 +50,9 @@ fn put_op<A: Allocator>(op: Op, writer: &mut Writer<A>) -> Result<(), Full>
     rows!(written, op, writer)
 }
 
-/// Writes an operation: its number and its arguments. Of an operation that isn't supported, that is
-/// illegal or that is bad only the number, as only it was read. `Full` exactly where the room is
-/// less than that takes; then nothing is written.
+/// Writes an operation: its number and its arguments. For an operation that isn't supported, is illegal or is bad, it
+/// writes only the number, since only that was read. `Full`: exactly if the room is less than that takes; then nothing
+/// is written.
 #[tactic(auto, unfolding(crate::specs::Writing::IsWritten))]
 pub fn write_op<A: Allocator>(op: Op, writer: &mut Writer<A>) -> Result<(), Full>
     ensures has_spelling { OnOk result (ItemHasSpelling (op_item (op_view op.entry))) }

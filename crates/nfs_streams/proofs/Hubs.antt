@@ -1,4 +1,4 @@
--- The answers of the hub about a connection that is open in its state.
+-- The results of the hub for a connection that is open in its state.
 use Rattle.std.proofs.Common.{◌≡◌, ◌≢◌, ◌≤◌, ℕ, Bool, false, List, [], ◌∷◌, length, arith, Option, Some, None, option_map, refl, sym, ap, subst, ◌∙◌, inl, inr}
 use Rattle.std.specs.Prelude.{◌↔◌, true, IfSome, IsTrue, MatchOption}
 use Rattle.std.specs.Option.{unwrap_or}
@@ -12,7 +12,7 @@ use Rattle.nfs_hub.specs.Answer.{Served}
 use Rattle.nfs_hub.specs.Machine.{Connected, State, OnConnection, ChangesConnection}
 use Rattle.nfs_hub.specs.Hub.{IsHub, SameConnection, IsUnchanged, pending_at, broken_at}
 use Rattle.nfs_streams.specs.Seats.{IsFresh, AreWaiting, FewAreWaiting}
-use Rattle.nfs_streams.specs.Standing.{StreamEnds}
+use Rattle.nfs_streams.specs.Stages.{StreamEnds}
 use Rattle.nfs_streams.specs.declared.streams.StreamEnd.TheVariants as end
 use Rattle.nfs_streams.proofs.Lists.{none_some}
 
@@ -35,7 +35,7 @@ module _ {A : Type 0} (hub : Hub A) (state : State) (is : IsHub hub state) where
   pub broken_of : (id : ℕ) (c : Connected) → state.connection id ≡ Some c → broken_at hub id ≡ Some c.broken
   broken_of id c e = same_broken (get nat_cmp hub.connections id) (state.connection id) c (is.connections id) e
 
-  -- an unchanged hub is in its state before
+  -- an unchanged hub represents the same state
   pub unchanged : (new : Hub A) → IsUnchanged hub new → IsHub new state
   unchanged new same = record {
     served = is.served ∙ sym same.served;
@@ -56,7 +56,7 @@ stepped id step old c new opened on =
     let h = subst (λ (o : Option Connected). MatchOption o (new ≡ old) (λ c. (d : Connected) × step old.served c new.served d × ChangesConnection id (Some d) old new × (new.next ≡ old.next))) opened on in
     record { after = h.0; does = h.1; changed = h.2.changed; others = h.2.others; next = h.3 }
 
--- numbers still to come stay so, where an open connection changes
+-- numbers that aren't given yet stay unused if an open connection changes
 pub fresh_on : (old new : State) (id : ℕ) (c : Connected) → IsFresh old → old.connection id ≡ Some c → ((k : ℕ) → k ≢ id → new.connection k ≡ old.connection k) → new.next ≡ old.next → IsFresh new
 fresh_on old new id c fresh opened others next k le =
     let le' : old.next ≤ k = subst (λ (n : ℕ). n ≤ k) next le in
@@ -65,7 +65,7 @@ fresh_on old new id c fresh opened others next k le =
       | inr ne ↦ others k ne ∙ fresh k le'
     ]
 
--- the bytes that the hub lends, if there are any, are those that are pending
+-- the bytes that the hub lends, if any, are those that are pending
 pub lent : {A : Type 0} (hub : Hub A) (id : ℕ) (bytes : Option (Bor (List ℕ))) (d : Bor (List ℕ)) → option_map (λ b. b.now) bytes ≡ pending_at hub id → AreWaiting hub id (unwrap_or bytes d).now
 lent hub id None d is pending at = absurd (none_some pending (is ∙ at))
 lent hub id (Some bytes) d is pending at = same bytes.now pending (is ∙ at)
@@ -73,21 +73,21 @@ lent hub id (Some bytes) d is pending at = same bytes.now pending (is ∙ at)
     same : (x y : List ℕ) → Some x ≡ Some y → y ≡ x
     same x y e = cc
 
--- a stream has ended inside a record, or after a whole one
-module _ {A : Type 0} (hub : Hub A) (id : ℕ) (b : Bool) (tells : (s : State) → IsHub hub s → broken_at hub id ≡ Some false → IfSome (s.connection id) (λ c. IsTrue b ↔ (c.rest ≢ []))) where
-  told_inside : (s : State) → IsHub hub s → (c : Connected) → s.connection id ≡ Some c → c.broken ≡ false → IsTrue b ↔ (c.rest ≢ [])
-  told_inside s is c opened whole =
-      subst (λ (o : Option Connected). IfSome o (λ d. IsTrue b ↔ (d.rest ≢ []))) opened (tells s is (broken_of hub s is id c opened ∙ ap (λ (x : Bool). Some x) whole))
+-- a stream has ended, inside a record or after a complete one
+module _ {A : Type 0} (hub : Hub A) (id : ℕ) (b : Bool) (answers : (s : State) → IsHub hub s → broken_at hub id ≡ Some false → IfSome (s.connection id) (λ c. IsTrue b ↔ (c.rest ≢ []))) where
+  inside_is : (s : State) → IsHub hub s → (c : Connected) → s.connection id ≡ Some c → c.broken ≡ false → IsTrue b ↔ (c.rest ≢ [])
+  inside_is s is c opened whole =
+      subst (λ (o : Option Connected). IfSome o (λ d. IsTrue b ↔ (d.rest ≢ []))) opened (answers s is (broken_of hub s is id c opened ∙ ap (λ (x : Bool). Some x) whole))
 
   pub ends_inside : b ≡ true → StreamEnds end.Inside hub id
-  ends_inside yes_is s is c opened whole = (told_inside s is c opened whole).0 yes_is
+  ends_inside yes_is s is c opened whole = (inside_is s is c opened whole).0 yes_is
 
   pub ends_between : b ≡ false → StreamEnds end.Ended hub id
-  ends_between no_is s is c opened whole = empty c.rest (told_inside s is c opened whole)
+  ends_between no_is s is c opened whole = empty c.rest (inside_is s is c opened whole)
     where
       empty : (rest : List ℕ) → IsTrue b ↔ (rest ≢ []) → rest ≡ []
-      empty [] told = refl
-      empty (x ∷ rest) told = let true_is : b ≡ true = told.1 (λ e. cc) in absurd (both b true_is no_is)
+      empty [] sent = refl
+      empty (x ∷ rest) sent = let true_is : b ≡ true = sent.1 (λ e. cc) in absurd (both b true_is no_is)
         where
           both : (b : Bool) → b ≡ true → b ≡ false → ⊥
           both b e f = cc

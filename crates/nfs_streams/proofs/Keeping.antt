@@ -1,193 +1,160 @@
--- The trail, and what outlives a restart, are kept while serving goes on.
-use Rattle.std.proofs.Common.{◌≡◌, inl, inr, ⊎_elim, ℕ, Bool, true, false, List, [], ◌∷◌, ◌++◌, Option, Some, None, refl, sym, ◌∙◌, ap, subst}
-use Rattle.std.proofs.lemmas.List.{append-nil}
-use Rattle.journal.specs.Disk.{Act as DiskAct, on_disk}
-use Rattle.journal.specs.Frames.{Bytes, Frame}
-use Rattle.journal.specs.Files.{Content, bodies}
-use Rattle.journal.specs.Opening.{in_slot}
-use Rattle.journal.specs.Crash.{IsFront}
-use Rattle.journal.specs.Living.{IsKept as IsKeptIn, Chance, all_kept}
-use Rattle.journal.proofs.Living.{live_law}
-use Rattle.tree_store.specs.Running.{Store as TreeStore}
-use Rattle.client_changes.proofs.Alike.{same_is_near}
-use Rattle.tree_store.specs.Kept.{Kept, IsAs, Covers, Follows}
-use Rattle.tree_store.specs.Holds.{IsHeld}
-use Rattle.tree_store.specs.Leaving.{Fluked, Leaves}
-use Rattle.tree_store.specs.Standing.{Stands as StandsFor}
+-- The trail and the persistent state stay kept while serving continues.
+use Rattle.std.proofs.Common.{◌≡◌, inl, inr, ℕ, true, List, [], ◌∷◌, ◌++◌, Option, Some, None, refl, sym, ◌∙◌, ap, subst}
+use Rattle.std.specs.Prelude.{◌⊎◌}
+use Rattle.store_journal.specs.Disk.{Act as DiskAct}
+use Rattle.store_journal.specs.Journaled.{IsIn}
+use Rattle.call_store.specs.declared.store.Store.{Store as CallStore}
+use Rattle.call_store.specs.Lasting.{IsLasting}
+use Rattle.call_store.specs.Crash.{KeptRepresent}
+use Rattle.call_store.specs.Serving.{Serving}
 use Rattle.access_guard.specs.declared.line.Line.{Line}
-use Rattle.node_tree.specs.World.{World}
-use Rattle.tree_changes.specs.Noting.{Noted}
-use Rattle.compound_run.specs.State.{State as ServerState, known_of}
-use Rattle.nfs_streams.specs.Lasting.{kept_of}
-use Rattle.hub_laws.specs.Notes.{world_of}
+use Rattle.compound_run.specs.State.{State as ServerState}
+use Rattle.hub_laws.specs.Kept.{Logs, log_goes_on}
+use Rattle.hub_laws.proofs.Logged.{logs_same, logs_step, step_logs}
 use Rattle.nfs_hub.specs.declared.hub.Hub.{Hub}
 use Rattle.nfs_hub.specs.Answer.{Served as ServedState}
-use Rattle.nfs_hub.specs.Machine.{State}
+use Rattle.nfs_hub.specs.Machine.{State, Event, Step}
 use Rattle.nfs_streams.specs.declared.serving.Limits.{Limits}
 use Rattle.nfs_streams.specs.Acts.{Act, Kept as KeptTrail, IsStored}
 use Rattle.nfs_streams.specs.Runs.{Runs, HasKept}
-use Rattle.nfs_streams.specs.Keeping.{IsQuiet, IsShown, WasSo, HoldsShown, Survives, AlwaysSurvives, SurvivesIn, IsOpen, disk_of}
-use Rattle.nfs_streams.specs.Standing.{Origin, StoringIn}
+use Rattle.nfs_streams.specs.Keeping.{IsQuiet, CoversReplies, Survives, AlwaysSurvives, SurvivesIn, IsOpen, disk_of}
+use Rattle.nfs_streams.specs.Stages.{Origin, StoringIn}
+use Rattle.nfs_streams.proofs.Lasting.{lasting_on, represents_alone}
 
 -- ---- the trail is kept
 
--- another act comes, and the trail stays as it was kept
+-- a trail that was kept is still kept after another act
 pub still_kept : {lines : List Line} {total : ℕ} {act : Act} {acts : List Act} → HasKept lines total acts → HasKept lines total (act ∷ acts)
 still_kept k = record { state = k.state; kept = inr k.kept; lines_are = k.lines_are; total_is = k.total_is }
 
 pub now_kept : (acts : List Act) (state now : ServerState) → state ≡ now → HasKept now.trail now.total (KeptTrail state ∷ acts)
 now_kept acts state now is = record { state = state; kept = inl refl; lines_are = ap (λ (x : ServerState). x.trail) is; total_is = ap (λ (x : ServerState). x.total) is }
 
--- ---- what a store stands for is found
+-- ---- a run continues
 
-front_of_none : (front : List Frame) → IsFront front [] → front ≡ []
-front_of_none [] it = refl
-front_of_none (f ∷ front) it = absurd (never it.is)
+-- the state at the end of a run
+pub covers_now : (limits : Limits) (acts : List Act) (start s : State) (run : Runs limits acts start s) (t : ServerState) → t ≡ s.served.state → CoversReplies limits acts start s run t
+covers_now limits [] start s run t is = is
+covers_now limits (act ∷ acts) start s run t is = inl is
+
+-- one state is represented, and it covers the replies
+pub one_survives : (history : List DiskAct) (limits : Limits) (acts : List Act) (start s : State) (run : Runs limits acts start s) (store : CallStore) (t : ServerState) → Serving store t (disk_of acts ++ history) → CoversReplies limits acts start s run t → Survives history limits acts start s run
+one_survives history limits acts start s run store t serving covers = record {
+  states = t ∷ [];
+  represents = represents_alone store t (disk_of acts ++ history) serving;
+  covers_replies = λ u is. one u is;
+}
   where
-    never : [] ≡ f ∷ (front ++ it.more) → ⊥
-    never e = cc
+    one : (u : ServerState) → IsIn u (t ∷ []) → CoversReplies limits acts start s run u
+    one u (inl same) = subst (CoversReplies limits acts start s run) (sym same) covers
+    one u (inr none) = absurd none
 
-abbrev content_with : List Bytes → List Bytes → Content
-content_with parts records = record { parts = parts; records = records }
+now_survives : (history : List DiskAct) (limits : Limits) (acts : List Act) (start s : State) (run : Runs limits acts start s) → AlwaysSurvives history limits acts start s run → Survives history limits acts start s run
+now_survives history limits [] start s run always = always
+now_survives history limits (act ∷ acts) start s run always = always.0
 
-whole : (c : Content) (front : List Frame) → front ≡ [] → content_with c.parts (c.records ++ bodies front) ≡ c
-whole c front none = ap (λ (l : List Frame). content_with c.parts (c.records ++ bodies l)) none ∙ ap (content_with c.parts) (append-nil c.records)
+survives_on : (history : List DiskAct) (limits : Limits) (act : Act) (acts : List Act) (start s : State) (run : Runs limits (act ∷ acts) start s) → IsQuiet act → disk_of (act ∷ acts) ≡ disk_of acts → Survives history limits acts start run.0 run.1 → Survives history limits (act ∷ acts) start s run
+survives_on history limits act acts start s run quiet same was = record {
+  states = was.states;
+  represents = subst (λ (d : List DiskAct). KeptRepresent was.states (d ++ history)) (sym same) was.represents;
+  covers_replies = λ t is. inr (quiet, was.covers_replies t is);
+}
 
-never_both : {t : Bool} → t ≡ true → t ≡ false → ⊥
-never_both is isnt = cc
+-- after a quiet act that isn't on the disk
+pub always_on : (history : List DiskAct) (limits : Limits) (act : Act) (acts : List Act) (start s : State) (run : Runs limits (act ∷ acts) start s) → IsQuiet act → disk_of (act ∷ acts) ≡ disk_of acts → AlwaysSurvives history limits acts start run.0 run.1 → AlwaysSurvives history limits (act ∷ acts) start s run
+always_on history limits act acts start s run quiet same was = (survives_on history limits act acts start s run quiet same (now_survives history limits acts start run.0 run.1 was), was)
 
-pub stands_leaves : (key : ℕ) (history : List DiskAct) (store : TreeStore) (kept : Kept) → StandsFor key history store kept → Leaves key history (IsHeld kept)
-stands_leaves key history store kept st a b left_a left_b =
-    let law = live_law (all_kept key store.journal.generation store.journal.slot st.frames st.content) true history st.live a b left_a left_b in
-    let never : Chance key store.journal.generation st.frames [] (on_disk store.journal.slot history) (in_slot store.journal.slot left_a.more left_b.more) → ⊥ = λ chance. absurd (never_both chance.0 st.none_loose) in (
-      λ slot number content chosen.
-          ⊎_elim
-          (λ (k : IsKeptIn store.journal.slot store.journal.generation [] st.content slot number content).
-          inl (st.content, k.content_is ∙ ap (λ (c : Content). Some c) (whole st.content k.front (front_of_none k.front k.of_later)), st.holds))
-          (λ (by : Chance key store.journal.generation st.frames [] (on_disk store.journal.slot history) (in_slot store.journal.slot left_a.more left_b.more)). absurd (never by))
-          (law.0 slot number content chosen),
-      λ unknown refused. absurd (never (law.1 unknown refused)),
-    )
-
--- less is said
-pub leaves_also : (key : ℕ) (history : List DiskAct) (is also : Option Content → Type 0) → ((c : Option Content) → is c → also c) → Leaves key history is → Leaves key history also
-leaves_also key history is also so left a b m n =
-    let both = left a b m n in (
-      λ slot generation content chosen. ⊎_elim (λ (it : is content). inl (so content it)) (λ (f : Fluked key history a b). inr f) (both.0 slot generation content chosen),
-      both.1,
-    )
-
--- ---- a run goes on
-
--- what is kept covers the state at the end of a run
-pub now_shown : (limits : Limits) (acts : List Act) (start s : State) (run : Runs limits acts start s) (kept : Kept) → Covers (kept_of s.served.state) kept → IsShown limits acts start s run kept
-now_shown limits [] start s run kept covers = covers
-now_shown limits (act ∷ acts) start s run kept covers = inl covers
-
--- what is kept is all that there is at the end of a run
-pub now_was : (limits : Limits) (acts : List Act) (start s : State) (run : Runs limits acts start s) (kept : Kept) → IsAs (kept_of s.served.state) kept → WasSo limits acts start s run kept
-now_was limits [] start s run kept is = is
-now_was limits (act ∷ acts) start s run kept is = inl is
-
-now_survives : (key : ℕ) (history : List DiskAct) (limits : Limits) (acts : List Act) (start s : State) (run : Runs limits acts start s) → AlwaysSurvives key history limits acts start s run → Survives key history limits acts start s run
-now_survives key history limits [] start s run always = always
-now_survives key history limits (act ∷ acts) start s run always = always.0
-
-survives_on : (key : ℕ) (history : List DiskAct) (limits : Limits) (act : Act) (acts : List Act) (start s : State) (run : Runs limits (act ∷ acts) start s) → IsQuiet act → disk_of (act ∷ acts) ≡ disk_of acts
-    → Survives key history limits acts start run.0 run.1 → Survives key history limits (act ∷ acts) start s run
-survives_on key history limits act acts start s run quiet same was =
-    subst (λ (d : List DiskAct). Leaves key (d ++ history) (HoldsShown limits (act ∷ acts) start s run)) (sym same)
-    (leaves_also key (disk_of acts ++ history) (HoldsShown limits acts start run.0 run.1) (HoldsShown limits (act ∷ acts) start s run) (λ c h. (h.0, h.1, h.2, h.3, inr (quiet, h.4), inr h.5)) was)
-
--- after a quiet act that is none of the disk
-pub always_on : (key : ℕ) (history : List DiskAct) (limits : Limits) (act : Act) (acts : List Act) (start s : State) (run : Runs limits (act ∷ acts) start s) → IsQuiet act → disk_of (act ∷ acts) ≡ disk_of acts
-    → AlwaysSurvives key history limits acts start run.0 run.1 → AlwaysSurvives key history limits (act ∷ acts) start s run
-always_on key history limits act acts start s run quiet same was =
-    (survives_on key history limits act acts start s run quiet same (now_survives key history limits acts start run.0 run.1 was), was)
-
-pub survives_in_on : (first : Option TreeStore) (history : List DiskAct) (limits : Limits) (act : Act) (acts : List Act) (start s : State) (run : Runs limits (act ∷ acts) start s) → IsQuiet act → disk_of (act ∷ acts) ≡ disk_of acts
+pub survives_in_on : (first : Option CallStore) (history : List DiskAct) (limits : Limits) (act : Act) (acts : List Act) (start s : State) (run : Runs limits (act ∷ acts) start s) → IsQuiet act → disk_of (act ∷ acts) ≡ disk_of acts
     → SurvivesIn first history limits acts start run.0 run.1 → SurvivesIn first history limits (act ∷ acts) start s run
 survives_in_on None history limits act acts start s run quiet same was = tt
-survives_in_on (Some first) history limits act acts start s run quiet same was = always_on first.journal.key history limits act acts start s run quiet same was
+survives_in_on (Some first) history limits act acts start s run quiet same was = always_on history limits act acts start s run quiet same was
 
--- what is kept covers the state at the end of a run, and a crash then leaves that
-pub covers_leaves : (key : ℕ) (history : List DiskAct) (limits : Limits) (acts : List Act) (start s : State) (run : Runs limits acts start s) (store : TreeStore) (kept : Kept) → StandsFor key (disk_of acts ++ history) store kept → WasSo limits acts start s run kept → Covers (kept_of s.served.state) kept
-    → Survives key history limits acts start s run
-covers_leaves key history limits acts start s run store kept stands was covers =
-    leaves_also key (disk_of acts ++ history) (IsHeld kept) (HoldsShown limits acts start s run) (λ c h. (h.0, kept, h.1, h.2, now_shown limits acts start s run kept covers, was)) (stands_leaves key (disk_of acts ++ history) store kept stands)
+-- ---- the store continues
 
--- ---- the store goes on
-
--- the act is none of the disk, and doesn't say that a state is stored
+-- the act isn't on the disk, and stores no state
 abbrev pub IsAside : Act → List Act → Type 0
 IsAside act acts = (disk_of (act ∷ acts) ≡ disk_of acts) × ((state : ServerState) → IsStored (act ∷ acts) state → IsStored acts state)
 
--- the notes lead on
-abbrev pub NotesLead : State → State → Type 0
-NotesLead old new = (base : World) → Noted base (world_of old) → Noted base (world_of new)
+-- the server stays, or changes by an event that is logged
+abbrev pub Follows : State → State → Type 0
+Follows old new = (new.served ≡ old.served) ⊎ ((event : Event) × log_goes_on event × Step event old new)
 
-pub same_notes : (old new : State) → new.served ≡ old.served → NotesLead old new
-same_notes old new same base noted = subst (λ (s : ServedState). Noted base s.state.realm.world) (sym same) noted
+-- what is known of a server that has changed since it was stored
+pub record Since (base now : ServedState) : Type 0 where
+  pub logs : Logs [] base now
+  pub sessions : now.in_sessions ≡ true
+  pub lasting : IsLasting now.state
 
-pub goes_on : (first now : Option TreeStore) (o : Origin) (act : Act) (acts : List Act) (s : State) (run : Runs o.limits (act ∷ acts) o.start s) → IsQuiet act → IsAside act acts → NotesLead run.0 s → StoringIn first now o acts run.0 run.1 → StoringIn first now o (act ∷ acts) s run
-goes_on None None o act acts s run quiet aside leads was = tt
-goes_on None (Some store) o act acts s run quiet aside leads was = absurd was
-goes_on (Some first) None o act acts s run quiet aside leads was = absurd was
-goes_on (Some first) (Some store) o act acts s run quiet aside leads was = record {
-  kept = was.kept;
-  stands = subst (λ (d : List DiskAct). StandsFor first.journal.key (d ++ o.history) store was.kept) (sym aside.0) was.stands;
-  follows = (was.follows.0, was.follows.1, leads was.follows.0 was.follows.2);
-  shown = inr (quiet, was.shown);
-  was = inr was.was;
-  last = λ state stored. was.last state (aside.1 state stored);
-  always = always_on first.journal.key o.history o.limits act acts o.start s run quiet aside.0 was.always;
-}
+pub since : (base : ServedState) (old new : State) → Since base old.served → Follows old new → Since base new.served
+since base old new was (inl same) = subst (Since base) (sym same) was
+since base old new was (inr (event, on, step)) =
+    let sent = step_logs event old new _ on was.sessions was.logs.log step in
+    record { logs = logs_step base old.served new.served was.logs sent.1; sessions = sent.0; lasting = lasting_on event old new on step was.lasting }
 
--- by an act of the hub or of the streams that changes nothing
-pub goes_as : (first now : Option TreeStore) (o : Origin) (act : Act) (acts : List Act) (s : State) (run : Runs o.limits (act ∷ acts) o.start s) → IsQuiet act → IsAside act acts → run.0 ≡ s → StoringIn first now o acts run.0 run.1 → StoringIn first now o (act ∷ acts) s run
-goes_as first now o act acts s run quiet aside same was = goes_on first now o act acts s run quiet aside (λ base noted. subst (λ (t : State). Noted base (world_of t)) same noted) was
-
--- Bytes are written, or it isn't known whether they were, where all is stored.
-pub tells : (first now : Option TreeStore) (o : Origin) (act : Act) (acts : List Act) (s : State) (run : Runs o.limits (act ∷ acts) o.start s) → IsAside act acts → NotesLead run.0 s → IsStored acts s.served.state → StoringIn first now o acts run.0 run.1 → StoringIn first now o (act ∷ acts) s run
-tells None None o act acts s run aside leads all was = tt
-tells None (Some store) o act acts s run aside leads all was = absurd was
-tells (Some first) None o act acts s run aside leads all was = absurd was
-tells (Some first) (Some store) o act acts s run aside leads all was =
-    let stands = subst (λ (d : List DiskAct). StandsFor first.journal.key (d ++ o.history) store was.kept) (sym aside.0) was.stands in
-    let covers = was.last s.served.state all in
+pub goes_on : (first now : Option CallStore) (o : Origin) (act : Act) (acts : List Act) (s : State) (run : Runs o.limits (act ∷ acts) o.start s) → IsQuiet act → IsAside act acts → Follows run.0 s → StoringIn first now o acts run.0 run.1 → StoringIn first now o (act ∷ acts) s run
+goes_on None None o act acts s run quiet aside follows was = tt
+goes_on None (Some store) o act acts s run quiet aside follows was = absurd was
+goes_on (Some first) None o act acts s run quiet aside follows was = absurd was
+goes_on (Some first) (Some store) o act acts s run quiet aside follows was =
+    let on = since was.base run.0 s (record { logs = was.logs; sessions = was.sessions; lasting = was.lasting }) follows in
     record {
-      kept = was.kept;
-      stands = stands;
-      follows = (was.follows.0, was.follows.1, leads was.follows.0 was.follows.2);
-      shown = inl covers;
-      was = inr was.was;
+      base = was.base;
+      serving = subst (λ (d : List DiskAct). Serving store was.base.state (d ++ o.history)) (sym aside.0) was.serving;
+      logs = on.logs;
+      sessions = on.sessions;
+      lasting = on.lasting;
+      covers_replies = inr (quiet, was.covers_replies);
       last = λ state stored. was.last state (aside.1 state stored);
-      always = (covers_leaves first.journal.key o.history o.limits (act ∷ acts) o.start s run store was.kept stands (inr was.was) covers, was.always);
+      always = always_on o.history o.limits act acts o.start s run quiet aside.0 was.always;
+    }
+
+-- after an act of the hub or of the streams that changes nothing
+pub goes_as : (first now : Option CallStore) (o : Origin) (act : Act) (acts : List Act) (s : State) (run : Runs o.limits (act ∷ acts) o.start s) → IsQuiet act → IsAside act acts → run.0 ≡ s → StoringIn first now o acts run.0 run.1 → StoringIn first now o (act ∷ acts) s run
+goes_as first now o act acts s run quiet aside same was = goes_on first now o act acts s run quiet aside (inl (ap (λ (t : State). t.served) (sym same))) was
+
+-- Bytes are written, or may have been written, while everything is stored.
+pub replies_survive : (first now : Option CallStore) (o : Origin) (act : Act) (acts : List Act) (s : State) (run : Runs o.limits (act ∷ acts) o.start s) → IsAside act acts → s.served ≡ run.0.served → IsStored acts s.served.state → StoringIn first now o acts run.0 run.1 → StoringIn first now o (act ∷ acts) s run
+replies_survive None None o act acts s run aside same all was = tt
+replies_survive None (Some store) o act acts s run aside same all was = absurd was
+replies_survive (Some first) None o act acts s run aside same all was = absurd was
+replies_survive (Some first) (Some store) o act acts s run aside same all was =
+    let serving = subst (λ (d : List DiskAct). Serving store was.base.state (d ++ o.history)) (sym aside.0) was.serving in
+    let on = since was.base run.0 s (record { logs = was.logs; sessions = was.sessions; lasting = was.lasting }) (inl same) in
+    let covers : CoversReplies o.limits (act ∷ acts) o.start s run was.base.state = inl (was.last s.served.state all) in
+    record {
+      base = was.base;
+      serving = serving;
+      logs = on.logs;
+      sessions = on.sessions;
+      lasting = on.lasting;
+      covers_replies = covers;
+      last = λ state stored. was.last state (aside.1 state stored);
+      always = (one_survives o.history o.limits (act ∷ acts) o.start s run store was.base.state serving covers, was.always);
     }
 
 -- serving stops
-pub stops : (first now : Option TreeStore) (o : Origin) (acts : List Act) (s : State) (run : Runs o.limits acts o.start s) → StoringIn first now o acts s run → SurvivesIn first o.history o.limits acts o.start s run
+pub stops : (first now : Option CallStore) (o : Origin) (acts : List Act) (s : State) (run : Runs o.limits acts o.start s) → StoringIn first now o acts s run → SurvivesIn first o.history o.limits acts o.start s run
 stops None now o acts s run was = tt
 stops (Some first) None o acts s run was = absurd was
 stops (Some first) (Some store) o acts s run was = was.always
 
--- and by this act
-pub stops_by : (first now : Option TreeStore) (o : Origin) (act : Act) (acts : List Act) (s : State) (run : Runs o.limits (act ∷ acts) o.start s) → IsQuiet act → disk_of (act ∷ acts) ≡ disk_of acts → StoringIn first now o acts run.0 run.1
+-- serving stops by this act
+pub stops_by : (first now : Option CallStore) (o : Origin) (act : Act) (acts : List Act) (s : State) (run : Runs o.limits (act ∷ acts) o.start s) → IsQuiet act → disk_of (act ∷ acts) ≡ disk_of acts → StoringIn first now o acts run.0 run.1
     → SurvivesIn first o.history o.limits (act ∷ acts) o.start s run
 stops_by first now o act acts s run quiet same was = survives_in_on first o.history o.limits act acts o.start s run quiet same (stops first now o acts run.0 run.1 was)
 
 -- serving begins
-pub opens : {A : Type 0} (store : Option TreeStore) (o : Origin) (hub : Hub A) (kept : Kept) → o.start.served ≡ hub.service → IsOpen store o.history kept hub → StoringIn store store o [] o.start refl
-opens None o hub kept is open_so = tt
-opens (Some store) o hub kept is open_so =
-    let as_is = subst (λ (w : ServedState). IsAs (kept_of w.state) kept) (sym is) open_so.is in
-    let covers : Covers (kept_of o.start.served.state) kept = record { world_is = as_is.world_is; clients_are = same_is_near kept.1 (known_of o.start.served.state) as_is.clients_are } in
+pub opens : {A : Type 0} (store : Option CallStore) (o : Origin) (hub : Hub A) → o.start.served ≡ hub.service → IsOpen store o.history hub → StoringIn store store o [] o.start refl
+opens None o hub is open_is = tt
+opens (Some store) o hub is open_is =
+    let serving : Serving store o.start.served.state o.history = subst (λ (w : ServedState). Serving store w.state o.history) (sym is) open_is.serving in
     record {
-      kept = kept;
-      stands = open_so.stands;
-      follows = subst (λ (w : ServedState). Follows kept w.state.realm.world) (sym is) open_so.follows;
-      shown = covers;
-      was = as_is;
+      base = o.start.served;
+      serving = serving;
+      logs = logs_same o.start.served (ap (λ (w : ServedState). w.log) is ∙ open_is.logs);
+      sessions = ap (λ (w : ServedState). w.in_sessions) is ∙ open_is.sessions;
+      lasting = subst (λ (w : ServedState). IsLasting w.state) (sym is) open_is.lasting;
+      covers_replies = refl;
       last = λ state stored. absurd stored;
-      always = covers_leaves store.journal.key o.history o.limits [] o.start o.start refl store kept open_so.stands as_is covers;
+      always = one_survives o.history o.limits [] o.start o.start refl store o.start.served.state serving refl;
     }

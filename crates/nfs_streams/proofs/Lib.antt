@@ -1,5 +1,7 @@
 pub mod Lists
 pub mod Hubs
+pub mod Lasting
+pub mod Prefixes
 pub mod Keeping
 pub mod Changing
 pub mod Storing

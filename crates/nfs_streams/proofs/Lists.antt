@@ -6,7 +6,7 @@ use Rattle.std.proofs.lemmas.List.{get_or-set_same, get_or-set_other, get_or_def
 use Rattle.std.proofs.lemmas.List.Sums.{sum_by-set, sum_by-cons}
 use Rattle.nfs_streams.specs.declared.peer.Peer.{Peer}
 use Rattle.nfs_streams.specs.declared.streams.StreamEnd.{StreamEnd}
-use Rattle.nfs_streams.specs.Acts.{Act, Admitted, Closed, Heard, Begun, Given, Adds, conn_at, ahead, left_of_piece, turns_at, fault_at, MAX_PIECE}
+use Rattle.nfs_streams.specs.Acts.{Act, Admitted, Closed, Received, Begun, Given, Adds, conn_at, ahead, left_of_piece, turns_at, fault_at, MAX_PIECE}
 use Rattle.nfs_hub.specs.declared.fault.HubFault.{HubFault}
 use Rattle.nfs_streams.specs.Seats.{place_at, taken}
 
@@ -22,7 +22,7 @@ set_there ps i j x ne = get_or-set_other ps i j x None ne
 pub set_back : {A : Type 0} (ps : List (Option (Peer A))) (i : ℕ) (x : Option (Peer A)) → place_at ps i ≡ x → set ps i x ≡ ps
 set_back ps i x is = subst (λ (y : Option (Peer _)). set ps i y ≡ ps) is (set-get_or ps i None)
 
--- 1 where a place is taken
+-- 1 if a place is taken
 abbrev pub one : {A : Type 0} → Option (Peer A) → ℕ
 one x = cond (is_some x) 1 0
 
@@ -58,20 +58,20 @@ closed_here acts i end = rw (eq-eqb i i refl) refl
 pub closed_there : (acts : List Act) (i j : ℕ) (end : StreamEnd) → j ≢ i → conn_at (Closed i end ∷ acts) j ≡ conn_at acts j
 closed_there acts i j end ne = rw (ne_eqb j i ne) refl
 
--- the facts of the place of a read
-pub ahead_heard : (acts : List Act) (i : ℕ) (bytes : List ℕ) → ahead (Heard i bytes ∷ acts) i ≡ ahead acts i ++ bytes
-ahead_heard acts i bytes = rw (eq-eqb i i refl) refl
+-- what is known of a place after a read
+pub ahead_received : (acts : List Act) (i : ℕ) (bytes : List ℕ) → ahead (Received i bytes ∷ acts) i ≡ ahead acts i ++ bytes
+ahead_received acts i bytes = rw (eq-eqb i i refl) refl
 
-pub turns_heard : (acts : List Act) (i : ℕ) (bytes : List ℕ) → turns_at (Heard i bytes ∷ acts) i ≡ turns_at acts i + 1
-turns_heard acts i bytes = rw (eq-eqb i i refl) refl
+pub turns_received : (acts : List Act) (i : ℕ) (bytes : List ℕ) → turns_at (Received i bytes ∷ acts) i ≡ turns_at acts i + 1
+turns_received acts i bytes = rw (eq-eqb i i refl) refl
 
-pub ahead_heard_there : (acts : List Act) (i j : ℕ) (bytes : List ℕ) → j ≢ i → ahead (Heard i bytes ∷ acts) j ≡ ahead acts j
-ahead_heard_there acts i j bytes ne = rw (ne_eqb j i ne) refl
+pub ahead_received_there : (acts : List Act) (i j : ℕ) (bytes : List ℕ) → j ≢ i → ahead (Received i bytes ∷ acts) j ≡ ahead acts j
+ahead_received_there acts i j bytes ne = rw (ne_eqb j i ne) refl
 
-pub turns_heard_there : (acts : List Act) (i j : ℕ) (bytes : List ℕ) → j ≢ i → turns_at (Heard i bytes ∷ acts) j ≡ turns_at acts j
-turns_heard_there acts i j bytes ne = rw (ne_eqb j i ne) refl
+pub turns_received_there : (acts : List Act) (i j : ℕ) (bytes : List ℕ) → j ≢ i → turns_at (Received i bytes ∷ acts) j ≡ turns_at acts j
+turns_received_there acts i j bytes ne = rw (ne_eqb j i ne) refl
 
--- the facts of the place of bytes that are given
+-- what is known of a place after bytes of it are given
 pub ahead_given : (acts : List Act) (i : ℕ) (bytes : List ℕ) (fault : Option HubFault) → ahead (Given i bytes fault ∷ acts) i ≡ drop (length bytes) (ahead acts i)
 ahead_given acts i bytes fault = rw (eq-eqb i i refl) refl
 
@@ -90,7 +90,7 @@ fault_given_there acts i j bytes fault ne = rw (ne_eqb j i ne) refl
 pub left_begun : (acts : List Act) (i : ℕ) → left_of_piece (Begun i ∷ acts) i ≡ MAX_PIECE
 left_begun acts i = rw (eq-eqb i i refl) refl
 
--- the facts of the place of a stream that is admitted
+-- what is known of a place after a stream is admitted
 pub ahead_admitted : (acts : List Act) (i id : ℕ) → ahead (Admitted i id ∷ acts) i ≡ []
 ahead_admitted acts i id = rw (eq-eqb i i refl) refl
 
@@ -115,11 +115,11 @@ admitted_here acts i id = rw (eq-eqb i i refl) refl
 pub admitted_there : (acts : List Act) (i id j : ℕ) → j ≢ i → conn_at (Admitted i id ∷ acts) j ≡ conn_at acts j
 admitted_there acts i id j ne = rw (ne_eqb j i ne) refl
 
--- the connection that was read at a place
+-- the connection of a place, as it is read from the list
 pub read_at : {A : Type 0} (ps : List (Option (Peer A))) (i : ℕ) (x y : Option (Peer A)) → i < length ps → get_or ps i x ≡ y → place_at ps i ≡ y
 read_at ps i x y lt at = get_or_default ps i None x lt ∙ at
 
--- one place more is free
+-- one more place is free
 pub all_freed : {A : Type 0} (ps ps' : List (Option (Peer A))) (i : ℕ) → i < length ps → ps' ≡ set ps i None → ((k : ℕ) → k < i → place_at ps k ≡ None) → (k : ℕ) → k < i + 1 → place_at ps' k ≡ None
 all_freed ps ps' i lt same free k le =
     ap (λ (l : List (Option (Peer _))). place_at l k) same ∙ elim (cases_eq k i) [
@@ -138,7 +138,7 @@ none_past ps n le free k =
 pub set_len : {A : Type 0} (ps ps' : List (Option (Peer A))) (i : ℕ) (x : Option (Peer A)) → ps' ≡ set ps i x → length ps' ≡ length ps
 set_len ps ps' i x same = ap (λ (l : List (Option (Peer _))). length l) same ∙ length-set ps i x
 
--- a list of some items, by its test
+-- a count that isn't 0 is positive
 pub some_left : (n : ℕ) → false ≡ (n == 0) → 0 < n
 some_left n e =
     elim (cases_eq n 0) [
@@ -149,7 +149,7 @@ some_left n e =
     not_both : false ≡ true → ⊥
     not_both e = cc
 
--- the rest of a range after its first n items
+-- the rest of a range after its first `n` items
 pub slice_skip : (xs : List ℕ) (from n to : ℕ) → n ≤ to - from → slice_range xs (from + n) to ≡ drop n (slice_range xs from to)
 slice_skip xs from n to le =
     let m = to - (from + n) in

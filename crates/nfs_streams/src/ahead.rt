@@ -1,4 +1,4 @@
-//! Bytes that were read of a stream and aren't given to the hub yet.
+//! Bytes that were read from a stream and aren't given to the hub yet.
 ghost use Rattle.std.specs.Prelude.{◌≡◌, ◌≤◌, length, take, drop, [], IfOk, IsTrue, ◌↔◌};
 
 use crate::streams::{Moved, Streams};
@@ -8,8 +8,8 @@ use std::marker::Model;
 /// The most bytes of one read.
 const MAX_READ: usize = 131_072;
 
-/// The bytes that were read of a stream and aren't given yet, in their order. Its memory, for one
-/// read, is taken as it is made.
+/// The bytes that were read from a stream and aren't given yet, in order. Their memory, for one read, is allocated when
+/// this is made.
 #[derive(Drop)]
 pub(crate) struct Ahead<A: Allocator + Copy> {
     bytes: Vec<u8, A>,
@@ -28,7 +28,7 @@ impl<A: Allocator + Copy> Model for Ahead<A> {
 }
 
 impl<A: Allocator + Copy> Ahead<A> {
-    ghost use Rattle.nfs_streams.specs.Standing.{ReadGives};
+    ghost use Rattle.nfs_streams.specs.Stages.{ReadGives};
 
     /// No bytes, and the memory for one read.
     pub(crate) fn new(alloc: A) -> Result<Self, AllocError>
@@ -49,7 +49,7 @@ impl<A: Allocator + Copy> Ahead<A> {
         self.from == self.to
     }
 
-    /// Reads of the stream of a place at most 131,072 bytes, where none are left.
+    /// Reads at most 131,072 bytes from the stream of a place, if none are left.
     pub(crate) fn read<S: Streams<A>>(&mut self, streams: &mut S, place: usize) -> Moved
         ensures { ReadGives place result self.new (S.acts streams.old) (S.acts streams.new) }
     {
@@ -62,8 +62,8 @@ impl<A: Allocator + Copy> Ahead<A> {
         moved
     }
 
-    /// The first bytes, at most `most`.
-    pub(crate) fn front(&self, most: usize) -> &[u8]
+    /// The first bytes, at most `most` of them.
+    pub(crate) fn prefix(&self, most: usize) -> &[u8]
         ensures { result.now ≡ take most self.now }
     {
         let len = most.min(self.to - self.from);

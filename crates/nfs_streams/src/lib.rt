@@ -8,4 +8,4 @@ mod serving;
 mod streams;
 
 pub use serving::{AllEnd, Limits, serve_all};
-pub use streams::{Knock, Moved, StreamEnd, Streams, Wait};
+pub use streams::{Arrival, Moved, StreamEnd, Streams, Wait};

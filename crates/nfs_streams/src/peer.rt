@@ -6,18 +6,18 @@ ghost use Rattle.nfs_hub.specs.Hub.{Goes};
 ghost use Rattle.nfs_streams.specs.declared.serving.Limits.{Limits};
 ghost use Rattle.nfs_streams.specs.Acts.{Act, Adds, Closed};
 ghost use Rattle.nfs_streams.specs.Seats.{AreWaiting, FewAreWaiting};
-ghost use Rattle.nfs_streams.specs.Standing.{Listening, Giving, Piecing, Unkept, Answering, Changes, StreamEnds};
-ghost use Rattle.nfs_streams.specs.Standing.{broken_end, given_stage, kept_stage, stays};
+ghost use Rattle.nfs_streams.specs.Stages.{Listening, Giving, Piecing, Unkept, Answering, Changes, StreamEnds};
+ghost use Rattle.nfs_streams.specs.Stages.{broken_end, given_stage, kept_stage, stays};
 
 use crate::ahead::Ahead;
 use crate::streams::{Moved, StreamEnd, Streams};
 use nfs_hub::{Clock, ConnId, Hub, HubFault};
 use std::alloc::Allocator;
 
-/// The most bytes of a piece of what was read of a connection.
+/// The most bytes of a piece. A piece is a part of what was read from a connection.
 const PIECE: usize = 4096;
 
-/// The most bytes of replies that wait where a piece begins.
+/// The most bytes of waiting replies with which a piece may begin.
 const MAX_WAITING: usize = 4096;
 
 /// The most bytes of one write.
@@ -27,25 +27,26 @@ const MAX_WRITTEN: usize = 131_072;
 #[derive(Drop)]
 pub(crate) struct Peer<A: Allocator + Copy> {
     pub(crate) conn: ConnId,
-    /// The second in which the connection was admitted, or bytes were read or written last.
-    pub(crate) since: i64,
-    /// The turns of the connection so far: reads of its stream that gave bytes.
+    /// The second of the monotonic clock in which the connection was admitted, or in which bytes were last read or
+    /// written.
+    pub(crate) since: u64,
+    /// The turns of the connection so far: reads of its stream that returned bytes.
     pub(crate) turns: u64,
     /// Why the hub takes no more bytes of the connection.
     pub(crate) fault: Option<HubFault>,
-    /// The bytes that were read of its stream and aren't given yet.
+    /// The bytes that were read from its stream and aren't given yet.
     pub(crate) ahead: Ahead<A>,
 }
 
-/// The outcome of a connection's part of a turn.
+/// The result of a connection's part of a turn.
 #[derive(Clone, Copy)]
 pub(crate) enum Turned {
     /// No bytes were read or written.
     Idle,
-    /// Bytes were read or written, or are to be given.
+    /// Bytes were read or written, or have to be given.
     Busy,
     /// The connection is closed.
-    Gone,
+    Done,
 }
 
 /// The bytes of a connection that wait to be written.
@@ -94,15 +95,14 @@ pub(crate) fn shut<A: Allocator + Copy, S: Streams<A>>(
     end: StreamEnd,
 )
     ensures goes { Goes (Close conn) hub.old hub.new }
-    ensures said { Adds (S.acts streams.old) (S.acts streams.new) (Closed place end ∷ []) }
+    ensures acts_added { Adds (S.acts streams.old) (S.acts streams.new) (Closed place end ∷ []) }
 {
     streams.close(place, end);
     let _ = hub.close(conn);
 }
 
-/// Where no bytes wait to be written and all that was read is given, reads of the stream of a
-/// place. The connection is closed where the stream has ended or failed, where the connection is
-/// broken, or where it has had `most` turns.
+/// Reads from the stream of a place, if no bytes wait to be written, and everything that was read is given. Closes the
+/// connection if the stream has ended or failed, if the connection is broken, or if it has had `most` turns.
 pub(crate) fn listen<A: Allocator + Copy, S: Streams<A>, C: Clock>(
     hub: &mut Hub<A>,
     streams: &mut S,
@@ -121,37 +121,37 @@ pub(crate) fn listen<A: Allocator + Copy, S: Streams<A>, C: Clock>(
     }
     if let Some(fault) = peer.fault {
         shut(hub, streams, place, peer.conn, fault_end(fault));
-        return Turned::Gone;
+        return Turned::Done;
     }
     if !peer.ahead.is_empty() {
-        // It is given in this turn, so the next one doesn't wait.
+        // The bytes are given in this turn, so the next one doesn't wait.
         return Turned::Busy;
     }
     if peer.turns >= most {
         shut(hub, streams, place, peer.conn, StreamEnd::Turns);
-        return Turned::Gone;
+        return Turned::Done;
     }
     match peer.ahead.read(streams, place) {
         Moved::Bytes(_) => {
             peer.turns += 1;
-            peer.since = clock.now().seconds;
+            peer.since = clock.second();
             Turned::Busy
         }
         Moved::NotYet => Turned::Idle,
         Moved::Over => {
             let end = stream_end(hub, peer.conn);
             shut(hub, streams, place, peer.conn, end);
-            Turned::Gone
+            Turned::Done
         }
         Moved::Failed => {
             shut(hub, streams, place, peer.conn, StreamEnd::Read);
-            Turned::Gone
+            Turned::Done
         }
     }
 }
 
-/// How many bytes may be given: a piece where few bytes wait to be written, else what is left of
-/// the piece that was begun.
+/// How many bytes may be given. If few bytes wait to be written, a piece begins. Else this is what remains of the piece
+/// that was begun.
 #[tactic(auto, using(crate::proofs::Hubs::few))]
 fn room<A: Allocator + Copy>(hub: &Hub<A>, conn: ConnId, left: usize) -> usize
     ensures { (result ≡ left) ⊎ ((result ≡ 4096) × FewAreWaiting hub.now conn) }
@@ -162,9 +162,9 @@ fn room<A: Allocator + Copy>(hub: &Hub<A>, conn: ConnId, left: usize) -> usize
     PIECE
 }
 
-/// Gives at most `most` bytes that were read to the hub, as far as the end of the first record in
-/// them. Answers how many.
-fn feed_front<A: Allocator + Copy, C: Clock>(
+/// Gives the hub at most `most` of the bytes that were read, up to the end of the first record in them. Returns their
+/// number.
+fn feed_prefix<A: Allocator + Copy, C: Clock>(
     hub: &mut Hub<A>,
     clock: &C,
     peer: &mut Peer<A>,
@@ -178,9 +178,9 @@ fn feed_front<A: Allocator + Copy, C: Clock>(
     ensures within { result ≤ most }
     ensures further { peer.old.ahead ≢ [] → 0 < most → length peer.new.ahead < length peer.old.ahead }
 {
-    let front = peer.ahead.front(most);
-    let len = front.len();
-    match hub.feed_record(peer.conn, front, clock.now()) {
+    let prefix = peer.ahead.prefix(most);
+    let len = prefix.len();
+    match hub.feed_record(peer.conn, prefix, clock.now()) {
         Ok(n) => {
             peer.ahead.skip(n);
             n
@@ -193,9 +193,9 @@ fn feed_front<A: Allocator + Copy, C: Clock>(
     }
 }
 
-/// Gives at most `most` bytes, as far as the end of the first record in them, and keeps the trail.
-/// Answers how many are left of `most`. `None`: the trail couldn't be kept.
-fn give_front<A: Allocator + Copy, S: Streams<A>, C: Clock>(
+/// Gives at most `most` bytes, up to the end of the first record in them, and keeps the trail. Returns how many of
+/// `most` remain. `None`: the trail couldn't be kept.
+fn give_prefix<A: Allocator + Copy, S: Streams<A>, C: Clock>(
     hub: &mut Hub<A>,
     streams: &mut S,
     clock: &C,
@@ -210,7 +210,7 @@ fn give_front<A: Allocator + Copy, S: Streams<A>, C: Clock>(
         (record { hub = hub.new; peer = Some peer.new; acts = S.acts streams.new }) }
     ensures further { peer.old.ahead ≢ [] → 0 < most → length peer.new.ahead < length peer.old.ahead }
 {
-    let n = feed_front(hub, clock, peer, most);
+    let n = feed_prefix(hub, clock, peer, most);
     let kept = streams.keep(hub.server());
     if !kept {
         return None;
@@ -218,9 +218,9 @@ fn give_front<A: Allocator + Copy, S: Streams<A>, C: Clock>(
     Some(most - n)
 }
 
-/// Gives what was read of the stream of a place to the hub, one record after the other. It does so
-/// in pieces of at most 4,096 bytes, while at most 4,096 bytes of replies wait. The trail is kept
-/// after each record. `false`: it couldn't be kept.
+/// Gives the hub what was read from the stream of a place, one record after the other. It does so in pieces of at most
+/// 4,096 bytes, while at most 4,096 bytes of replies wait. The trail is kept after each record. `false`: it couldn't be
+/// kept.
 pub(crate) fn give<A: Allocator + Copy, S: Streams<A>, C: Clock>(
     hub: &mut Hub<A>,
     streams: &mut S,
@@ -241,7 +241,7 @@ pub(crate) fn give<A: Allocator + Copy, S: Streams<A>, C: Clock>(
         if most == 0 {
             return true;
         }
-        let Some(rest) = give_front(hub, streams, clock, place, peer, most) else {
+        let Some(rest) = give_prefix(hub, streams, clock, place, peer, most) else {
             return false;
         };
         left = rest;
@@ -249,8 +249,8 @@ pub(crate) fn give<A: Allocator + Copy, S: Streams<A>, C: Clock>(
     true
 }
 
-/// Writes the waiting bytes, at most 131,072 of them, as far as the stream takes them at once. The
-/// connection is closed where writing fails.
+/// Writes at most 131,072 of the waiting bytes, as far as the stream takes them at once. Closes the connection if the
+/// write fails.
 pub(crate) fn answer<A: Allocator + Copy, S: Streams<A>, C: Clock>(
     hub: &mut Hub<A>,
     streams: &mut S,
@@ -266,17 +266,17 @@ pub(crate) fn answer<A: Allocator + Copy, S: Streams<A>, C: Clock>(
     if bytes.is_empty() {
         return Turned::Idle;
     }
-    match streams.write(place, &bytes[..bytes.len().min(MAX_WRITTEN)]) {
+    match Streams::write(streams, place, &bytes[..bytes.len().min(MAX_WRITTEN)]) {
         Moved::Bytes(n) => {
             let _ = hub.consume(peer.conn, n);
-            peer.since = clock.now().seconds;
+            peer.since = clock.second();
             Turned::Busy
         }
         Moved::NotYet => Turned::Idle,
         Moved::Over | Moved::Failed => {
             // Nothing more can be told.
             shut(hub, streams, place, peer.conn, StreamEnd::Write);
-            Turned::Gone
+            Turned::Done
         }
     }
 }

@@ -1,4 +1,4 @@
-//! The places of connections: each has one connection or none.
+//! The places of connections. Each has one connection or none.
 ghost use Rattle.std.specs.Prelude.{◌≡◌, ◌≤◌, ◌<◌, ℕ, List, length, set, None, IfSome};
 ghost use Rattle.std.specs.Bool.{OnTrue, OnFalse};
 ghost use Rattle.nfs_hub.specs.Machine.{State};
@@ -8,32 +8,37 @@ ghost use Rattle.nfs_streams.specs.declared.serving.Limits.{Limits};
 ghost use Rattle.nfs_streams.specs.declared.streams.StreamEnd.{StreamEnd};
 ghost use Rattle.nfs_streams.specs.declared.streams.StreamEnd.TheVariants as end;
 ghost use Rattle.nfs_streams.specs.Runs.{most_open};
-ghost use Rattle.nfs_streams.specs.Standing.{Stage, Left, left_of, Listening, Knocking, Giving, Full, Answering};
-ghost use Rattle.nfs_streams.specs.Standing.{Ending, IsClosing, closed_stage, kept_stage, Moves};
+ghost use Rattle.nfs_streams.specs.Stages.{Stage, Left, left_of, Listening, Arriving, Giving, Full, Answering};
+ghost use Rattle.nfs_streams.specs.Stages.{Ending, IsClosing, closed_stage, kept_stage, Moves};
 
 use crate::ahead::Ahead;
 use crate::peer::{Peer, Turned, answer, give, listen, shut};
 use crate::serving::Limits;
-use crate::streams::{Knock, StreamEnd, Streams, Wait};
+use crate::streams::{Arrival, StreamEnd, Streams, Wait};
+use call_store::Store;
 use nfs_hub::{Clock, Hub, MAX_CONNECTIONS};
 use std::alloc::Allocator;
-use tree_store::Store;
+use who_book::Book;
 
-/// A connection on which no bytes were read or written for this many seconds of the clock is quiet.
+/// A connection is quiet if no bytes were read or written on it for this many seconds of the clock.
 const QUIET: u64 = 2;
 
-/// The way in: which connections may still be opened. And the store.
+/// The state of admission: which connections may still be opened. Also the store, and what waits for a later turn.
 #[derive(Drop)]
-pub(crate) struct Door<A: Allocator + Copy> {
-    /// The connections' memory is taken from this.
+pub(crate) struct AcceptState<A: Allocator + Copy> {
+    /// The allocator of the connections' memory.
     pub(crate) alloc: A,
     pub(crate) limits: Limits,
     /// The number of connections that may still be opened.
     pub(crate) left: u64,
-    /// The stream that came last couldn't be taken, or there was no memory for it.
+    /// The stream that arrived last couldn't be taken, or an allocation for it failed.
     pub(crate) refused: bool,
-    /// The store of what outlives a restart, if there is one.
-    pub(crate) store: Option<Store<A>>,
+    /// The store of persistent state, if there is one.
+    pub(crate) store: Option<Store>,
+    /// The second of the monotonic clock in which a record was last appended, if no mark was appended since.
+    pub(crate) unmarked: Option<u64>,
+    /// The book that has arrived and isn't loaded yet, because the allocation for its entry in the log failed.
+    pub(crate) book: Option<Book>,
 }
 
 /// The most connections that may be open at once.
@@ -43,7 +48,7 @@ fn most_places(limits: Limits) -> usize
     limits.places.min(MAX_CONNECTIONS)
 }
 
-/// Whether `most` places are taken, or more.
+/// Whether at least `most` places are taken.
 fn are_taken<A: Allocator + Copy>(places: &[Option<Peer<A>>], most: usize) -> bool
     ensures many { OnTrue result (most ≤ taken places.now) }
     ensures few { OnFalse result (taken places.now < most) }
@@ -57,137 +62,137 @@ fn are_taken<A: Allocator + Copy>(places: &[Option<Peer<A>>], most: usize) -> bo
     count >= most
 }
 
-/// Opens a connection at a free place for the stream that has just knocked. Whether there was memory for it.
+/// Opens a connection at a free place for the stream that has just arrived. Returns whether the allocations succeeded.
 fn admit<A: Allocator + Copy, S: Streams<A>, C: Clock>(
     hub: &mut Hub<A>,
     streams: &mut S,
     clock: &C,
     places: &mut [Option<Peer<A>>],
     index: usize,
-    door: &mut Door<A>,
+    accept: &mut AcceptState<A>,
 ) -> bool
     requires within { index < length places.old }
     requires sixteen { length places.old ≤ 16 }
     requires free { place_at places.old index ≡ None }
-    requires some { 0 < door.old.left }
-    requires few { taken places.old < most_open door.old.limits }
-    ensures moves { (n : ℕ) → Moves (Knocking n) (Listening n) door.old.limits
-        (record { hub = hub.old; places = places.old; left = left_of door.old; acts = S.acts streams.old })
-        (record { hub = hub.new; places = places.new; left = left_of door.new; acts = S.acts streams.new }) }
+    requires some { 0 < accept.old.left }
+    requires few { taken places.old < most_open accept.old.limits }
+    ensures moves { (n : ℕ) → Moves (Arriving n) (Listening n) accept.old.limits
+        (record { hub = hub.old; places = places.old; left = left_of accept.old; acts = S.acts streams.old })
+        (record { hub = hub.new; places = places.new; left = left_of accept.new; acts = S.acts streams.new }) }
     ensures len { length places.new ≡ length places.old }
-    ensures most { door.new.limits ≡ door.old.limits }
+    ensures most { accept.new.limits ≡ accept.old.limits }
 {
-    let Ok(ahead) = Ahead::new(door.alloc) else {
-        door.refused = true;
+    let Ok(ahead) = Ahead::new(accept.alloc) else {
+        accept.refused = true;
         return false;
     };
     let Ok(conn) = hub.connect() else {
-        door.refused = true;
+        accept.refused = true;
         return false;
     };
     streams.admit(index, conn);
     places[index] = Some(Peer {
         conn,
-        since: clock.now().seconds,
+        since: clock.second(),
         turns: 0,
         fault: None,
         ahead,
     });
-    door.left -= 1;
+    accept.left -= 1;
     true
 }
 
-/// Opens a connection at a free place for a stream that has come, if there is one and the limits
-/// allow it. Whether it was opened.
-fn let_in<A: Allocator + Copy, S: Streams<A>, C: Clock>(
+/// Opens a connection at a free place for a stream that has arrived, if there is one and the limits allow it. Returns
+/// whether it was opened.
+fn admit_next<A: Allocator + Copy, S: Streams<A>, C: Clock>(
     hub: &mut Hub<A>,
     streams: &mut S,
     clock: &C,
     places: &mut [Option<Peer<A>>],
     index: usize,
-    door: &mut Door<A>,
+    accept: &mut AcceptState<A>,
 ) -> bool
     requires within { index < length places.old }
     requires sixteen { length places.old ≤ 16 }
     requires free { place_at places.old index ≡ None }
-    ensures moves { (n : ℕ) → Moves (Listening n) (Listening n) door.old.limits
-        (record { hub = hub.old; places = places.old; left = left_of door.old; acts = S.acts streams.old })
-        (record { hub = hub.new; places = places.new; left = left_of door.new; acts = S.acts streams.new }) }
+    ensures moves { (n : ℕ) → Moves (Listening n) (Listening n) accept.old.limits
+        (record { hub = hub.old; places = places.old; left = left_of accept.old; acts = S.acts streams.old })
+        (record { hub = hub.new; places = places.new; left = left_of accept.new; acts = S.acts streams.new }) }
     ensures len { length places.new ≡ length places.old }
-    ensures most { door.new.limits ≡ door.old.limits }
+    ensures most { accept.new.limits ≡ accept.old.limits }
 {
-    if door.left == 0 {
+    if accept.left == 0 {
         return false;
     }
-    if are_taken(places, most_places(door.limits)) {
+    if are_taken(places, most_places(accept.limits)) {
         return false;
     }
-    match streams.knocks() {
-        Knock::Nobody => {
-            door.refused = false;
+    match streams.arrival() {
+        Arrival::Nobody => {
+            accept.refused = false;
             false
         }
-        Knock::Waiting => {
-            door.refused = true;
+        Arrival::Waiting => {
+            accept.refused = true;
             false
         }
-        Knock::Here => admit(hub, streams, clock, places, index, door),
+        Arrival::Here => admit(hub, streams, clock, places, index, accept),
     }
 }
 
-/// Reads of the connection of a place, or admits a stream at a free one. Whether anything was done.
+/// Reads from the connection of a place, or admits a stream at a free place. Returns whether anything was done.
 fn listen_at<A: Allocator + Copy, S: Streams<A>, C: Clock>(
     hub: &mut Hub<A>,
     streams: &mut S,
     clock: &C,
     places: &mut [Option<Peer<A>>],
     index: usize,
-    door: &mut Door<A>,
+    accept: &mut AcceptState<A>,
 ) -> bool
     requires within { index < length places.old }
     requires sixteen { length places.old ≤ 16 }
-    ensures moves { (n : ℕ) → Moves (Listening n) (Listening n) door.old.limits
-        (record { hub = hub.old; places = places.old; left = left_of door.old; acts = S.acts streams.old })
-        (record { hub = hub.new; places = places.new; left = left_of door.new; acts = S.acts streams.new }) }
+    ensures moves { (n : ℕ) → Moves (Listening n) (Listening n) accept.old.limits
+        (record { hub = hub.old; places = places.old; left = left_of accept.old; acts = S.acts streams.old })
+        (record { hub = hub.new; places = places.new; left = left_of accept.new; acts = S.acts streams.new }) }
     ensures len { length places.new ≡ length places.old }
-    ensures most { door.new.limits ≡ door.old.limits }
+    ensures most { accept.new.limits ≡ accept.old.limits }
 {
     let Some(peer) = &mut places[index] else {
-        return let_in(hub, streams, clock, places, index, door);
+        return admit_next(hub, streams, clock, places, index, accept);
     };
-    match listen(hub, streams, clock, index, peer, door.limits.reads) {
+    match listen(hub, streams, clock, index, peer, accept.limits.reads) {
         Turned::Idle => false,
         Turned::Busy => true,
-        Turned::Gone => {
+        Turned::Done => {
             places[index] = None;
             true
         }
     }
 }
 
-/// Reads or admits at each place. Whether anything was done.
+/// Reads or admits at each place. Returns whether anything was done.
 pub(crate) fn listen_all<A: Allocator + Copy, S: Streams<A>, C: Clock>(
     hub: &mut Hub<A>,
     streams: &mut S,
     clock: &C,
     places: &mut [Option<Peer<A>>],
-    door: &mut Door<A>,
+    accept: &mut AcceptState<A>,
 ) -> bool
     requires { length places.old ≤ 16 }
-    ensures moves { (n : ℕ) → Moves (Listening n) (Listening n) door.old.limits
-        (record { hub = hub.old; places = places.old; left = left_of door.old; acts = S.acts streams.old })
-        (record { hub = hub.new; places = places.new; left = left_of door.new; acts = S.acts streams.new }) }
-    ensures most { door.new.limits ≡ door.old.limits }
+    ensures moves { (n : ℕ) → Moves (Listening n) (Listening n) accept.old.limits
+        (record { hub = hub.old; places = places.old; left = left_of accept.old; acts = S.acts streams.old })
+        (record { hub = hub.new; places = places.new; left = left_of accept.new; acts = S.acts streams.new }) }
+    ensures most { accept.new.limits ≡ accept.old.limits }
 {
     let mut busy = false;
     for index in 0..places.len() {
-        let done = listen_at(hub, streams, clock, places, index, door);
+        let done = listen_at(hub, streams, clock, places, index, accept);
         busy |= done;
     }
     busy
 }
 
-/// Gives what was read of the stream of a place. `false`: the trail couldn't be kept.
+/// Gives the hub what was read from the stream of a place. `false`: the trail couldn't be kept.
 fn give_at<A: Allocator + Copy, S: Streams<A>, C: Clock>(
     hub: &mut Hub<A>,
     streams: &mut S,
@@ -208,7 +213,7 @@ fn give_at<A: Allocator + Copy, S: Streams<A>, C: Clock>(
     give(hub, streams, clock, index, peer)
 }
 
-/// Gives what was read of the streams of all places. `false`: the trail couldn't be kept.
+/// Gives the hub what was read from the streams of all places. `false`: the trail couldn't be kept.
 pub(crate) fn give_all<A: Allocator + Copy, S: Streams<A>, C: Clock>(
     hub: &mut Hub<A>,
     streams: &mut S,
@@ -229,7 +234,7 @@ pub(crate) fn give_all<A: Allocator + Copy, S: Streams<A>, C: Clock>(
     true
 }
 
-/// Writes the waiting bytes of the connection of a place. Whether anything was done.
+/// Writes the waiting bytes of the connection of a place. Returns whether anything was done.
 fn answer_at<A: Allocator + Copy, S: Streams<A>, C: Clock>(
     hub: &mut Hub<A>,
     streams: &mut S,
@@ -250,14 +255,14 @@ fn answer_at<A: Allocator + Copy, S: Streams<A>, C: Clock>(
     match answer(hub, streams, clock, index, peer) {
         Turned::Idle => false,
         Turned::Busy => true,
-        Turned::Gone => {
+        Turned::Done => {
             places[index] = None;
             true
         }
     }
 }
 
-/// Writes the waiting bytes of each place. Whether anything was done.
+/// Writes the waiting bytes of each place. Returns whether anything was done.
 pub(crate) fn answer_all<A: Allocator + Copy, S: Streams<A>, C: Clock>(
     hub: &mut Hub<A>,
     streams: &mut S,
@@ -299,7 +304,7 @@ fn shut_at<A: Allocator + Copy, S: Streams<A>>(
     places[index] = None;
 }
 
-/// Closes all connections still open.
+/// Closes all connections that are still open.
 pub(crate) fn shut_all<A: Allocator + Copy, S: Streams<A>>(
     hub: &mut Hub<A>,
     streams: &mut S,
@@ -316,15 +321,15 @@ pub(crate) fn shut_all<A: Allocator + Copy, S: Streams<A>>(
     }
 }
 
-/// The place of the connection that has been quiet for longest, if it has been quiet for long enough to be closed.
-fn quietest<A: Allocator + Copy>(places: &[Option<Peer<A>>], now: i64) -> Option<usize>
+/// The place of the connection that has been quiet the longest, if that is long enough to be closed.
+fn quietest<A: Allocator + Copy>(places: &[Option<Peer<A>>], now: u64) -> Option<usize>
     ensures { IfSome result (λ index. index < length places.now) }
 {
     let mut found = None;
     let mut longest = QUIET;
     for index in 0..places.len() {
         if let Some(peer) = &places[index] {
-            let quiet = now.abs_diff(peer.since);
+            let quiet = now.saturating_sub(peer.since);
             if quiet >= longest {
                 longest = quiet;
                 found = Some(index);
@@ -334,9 +339,9 @@ fn quietest<A: Allocator + Copy>(places: &[Option<Peer<A>>], now: i64) -> Option
     found
 }
 
-/// Closes the connection that has been quiet for longest, if that was long, for the stream that has
-/// just knocked at a full house. How long the next wait may take.
-fn let_go<A: Allocator + Copy, S: Streams<A>, C: Clock>(
+/// Closes the connection that has been quiet the longest, if that was long, for the stream that has just arrived while
+/// all places are taken. Returns how long the next wait may take.
+fn expire_client<A: Allocator + Copy, S: Streams<A>, C: Clock>(
     hub: &mut Hub<A>,
     streams: &mut S,
     clock: &C,
@@ -347,53 +352,56 @@ fn let_go<A: Allocator + Copy, S: Streams<A>, C: Clock>(
         (record { hub = hub.old; places = places.old; left = left; acts = S.acts streams.old })
         (record { hub = hub.new; places = places.new; left = left; acts = S.acts streams.new }) }
 {
-    let Some(index) = quietest(places, clock.now().seconds) else {
+    let Some(index) = quietest(places, clock.second()) else {
         return Wait::Second;
     };
     shut_at(hub, streams, places, index, StreamEnd::Quiet);
     Wait::No
 }
 
-/// Closes the connection that has been quiet for longest, if that was long. It does so where the
-/// limit of open connections is reached and room is to be made for another stream that has come.
-/// Answers how long the next wait may take, where nothing else is to do.
+/// Makes room for another stream that has arrived, if the limit of open connections is reached and the limits ask for
+/// it. It closes the connection that has been quiet the longest, if that was long. Returns how long the next wait may
+/// take if nothing else is to be done.
 pub(crate) fn make_room<A: Allocator + Copy, S: Streams<A>, C: Clock>(
     hub: &mut Hub<A>,
     streams: &mut S,
     clock: &C,
     places: &mut [Option<Peer<A>>],
-    door: &Door<A>,
+    accept: &AcceptState<A>,
 ) -> Wait
-    ensures { (n : ℕ) (left : Left) → Moves (Listening n) (Listening n) door.now.limits
+    ensures { (n : ℕ) (left : Left) → Moves (Listening n) (Listening n) accept.now.limits
         (record { hub = hub.old; places = places.old; left = left; acts = S.acts streams.old })
         (record { hub = hub.new; places = places.new; left = left; acts = S.acts streams.new }) }
 {
-    if door.left == 0 {
+    if accept.left == 0 {
         return Wait::Event;
     }
-    if !are_taken(places, most_places(door.limits)) {
-        return if door.refused {
+    if !are_taken(places, most_places(accept.limits)) {
+        return if accept.refused {
             Wait::Second
         } else {
             Wait::Event
         };
     }
-    if !door.limits.makes_room {
+    if !accept.limits.makes_room {
         return Wait::Event;
     }
-    match streams.knocks() {
-        Knock::Nobody => Wait::Event,
-        Knock::Waiting => Wait::Second,
-        Knock::Here => let_go(hub, streams, clock, places),
+    match streams.arrival() {
+        Arrival::Nobody => Wait::Event,
+        Arrival::Waiting => Wait::Second,
+        Arrival::Here => expire_client(hub, streams, clock, places),
     }
 }
 
 /// Whether no place is taken, and no further connection may be opened.
-pub(crate) fn are_served<A: Allocator + Copy>(places: &[Option<Peer<A>>], door: &Door<A>) -> bool
-    ensures none { OnTrue result (door.now.left ≡ 0) }
+pub(crate) fn are_served<A: Allocator + Copy>(
+    places: &[Option<Peer<A>>],
+    accept: &AcceptState<A>,
+) -> bool
+    ensures none { OnTrue result (accept.now.left ≡ 0) }
     ensures free { OnTrue result (taken places.now ≡ 0) }
 {
-    if door.left != 0 {
+    if accept.left != 0 {
         return false;
     }
     !are_taken(places, 1)

@@ -1,89 +1,160 @@
 //! Serving all streams, one turn after another.
-ghost use Rattle.std.specs.Prelude.{◌≡◌, ◌≤◌, ℕ, List, Option, length, IfOk};
-ghost use Rattle.journal.specs.Disk.{Act as DiskAct};
-ghost use Rattle.journal.specs.Keeping.{passage};
-ghost use Rattle.tree_store.specs.Kept.{Kept};
+ghost use Rattle.std.specs.Bool.{OnTrue};
+ghost use Rattle.std.specs.Prelude.{◌≡◌, ◌≤◌, ℕ, List, Option, None, length, IfOk};
+ghost use Rattle.store_journal.specs.Disk.{Act as DiskAct};
+ghost use Rattle.store_journal.specs.Passage.{passage};
 ghost use Rattle.nfs_hub.specs.Answer.{Served as ServedState};
 ghost use Rattle.nfs_hub.specs.Machine.{Event};
-ghost use Rattle.nfs_hub.specs.Hub.{LeadsTo};
+ghost use Rattle.nfs_hub.specs.Hub.{IsUnchanged, IsHistoryOf};
 ghost use Rattle.nfs_streams.specs.Acts.{Act};
 ghost use Rattle.nfs_streams.specs.Seats.{taken};
-ghost use Rattle.nfs_streams.specs.Keeping.{IsOpen, KeepsTree};
-ghost use Rattle.nfs_streams.specs.Standing.{Left, left_of, Listening, Giving, Loads, Moves, RunGives};
-ghost use Rattle.nfs_streams.specs.Standing.{stored_stage, turned_stage};
+ghost use Rattle.nfs_streams.specs.Keeping.{IsOpen, KeepsLog, MarksStore};
+ghost use Rattle.nfs_streams.specs.Stages.{BookLoads, Left, left_of, Listening, Trailing, Answering, Moves, RunGives};
+ghost use Rattle.nfs_streams.specs.Stages.{given_all_stage, looked_stage, marked_stage, stored_stage, turned_stage};
 ghost use Rattle.nfs_streams.specs.All.{ServesAll};
 
 use crate::peer::Peer;
-use crate::places::{Door, answer_all, are_served, give_all, listen_all, make_room, shut_all};
+use crate::places::{
+    AcceptState, answer_all, are_served, give_all, listen_all, make_room, shut_all,
+};
 use crate::streams::{Streams, Wait};
-use compound_run::Lent;
-use nfs_hub::{Clock, Hub, MAX_CONNECTIONS};
+use call_store::Store;
+use nfs_hub::{Clock, Hub, HubFault, MAX_CONNECTIONS};
 use std::alloc::{AllocError, Allocator};
-use tree_store::Store;
+use who_book::Book;
 
-/// How far streams are served.
+/// The limits of serving.
 #[derive(Clone, Copy, Debug)]
 pub struct Limits {
     /// The most connections that are open at once. More than 16 count as 16.
     pub places: usize,
-    /// The number of connections that are opened in all.
+    /// The total number of connections that are opened.
     pub connections: u64,
-    /// The turns of each connection: reads of its stream that give bytes.
+    /// The turns of each connection: reads of its stream that return bytes.
     pub reads: u64,
-    /// The number of waits in all.
+    /// The total number of waits.
     pub turns: u64,
-    /// Whether a client that was silent for longer than a lease is let go where many are known ([`Hub::let_go`]).
+    /// Whether a client that was silent for longer than a lease is expired when many clients are known
+    /// ([`Hub::expire_client`]).
     pub leases: bool,
-    /// Whether a connection that is quiet is let go for another stream that knocks where as many are open as may be.
+    /// Whether a quiet connection is closed for another stream that arrives when the limit of open connections is
+    /// reached.
     pub makes_room: bool,
 }
 
 /// How serving all streams ended.
 #[derive(Clone, Copy, Debug, PartialEq, Eq)]
 pub enum AllEnd {
-    /// The limit of connections was opened, and all of them are closed.
+    /// All connections that the limit allows were opened, and all of them are closed.
     Served = 1,
-    /// The waits are used up.
+    /// The limit of waits is reached.
     Turns = 2,
     /// Waiting failed.
     Wait = 3,
     /// The trail couldn't be kept. No bytes were written after that.
     Keep = 4,
-    /// What outlives a restart couldn't be stored. No bytes were written after that.
+    /// The persistent state couldn't be stored. No bytes were written after that.
     Store = 6,
-    /// There was no memory for the places. Serving didn't begin, and the streams were asked nothing.
+    /// The allocation of the places failed. Serving didn't begin, and the streams weren't called.
     Memory = 5,
 }
 
-/// Why no replies may be written, and serving ends.
+/// Why no replies may be written, so that serving ends.
 #[derive(Clone, Copy, Debug, PartialEq, Eq)]
 pub(crate) enum Halt {
     /// The trail couldn't be kept.
     Keep,
-    /// What outlives a restart couldn't be stored.
+    /// The persistent state couldn't be stored.
     Store,
 }
 
-/// How long the next wait may take: none where something was done.
-fn pause(busy: bool, room: Wait) -> Wait {
-    if busy { Wait::No } else { room }
+/// How long the next wait may take. It takes no time if something was done, and at most a second while a book waits or
+/// a record is unmarked.
+fn pause<A: Allocator + Copy>(busy: bool, room: Wait, accept: &AcceptState<A>) -> Wait {
+    if accept.book.is_some() {
+        return Wait::Second;
+    }
+    if busy {
+        return Wait::No;
+    }
+    if accept.unmarked.is_some() && room == Wait::Event {
+        return Wait::Second;
+    }
+    room
 }
 
-/// Loads another book of names, if one has come. Where no epoch is left for it the book before stays (`Hub::reload`).
-fn load_book<A: Allocator + Copy, S: Streams<A>>(hub: &mut Hub<A>, streams: &mut S)
-    ensures { Loads hub.old hub.new (S.acts streams.old) (S.acts streams.new) }
+/// Loads a book of names. If no epoch is left for the book, it is dropped, and the previous book stays (`Hub::reload`).
+/// If the allocation for its entry in the log fails, the book is returned.
+fn load_book<A: Allocator + Copy>(hub: &mut Hub<A>, book: Book) -> Option<Book>
+    ensures { BookLoads book result hub.old hub.new }
+{
+    match hub.reload(book) {
+        Ok(_) => None,
+        Err(unloaded) => match unloaded.fault {
+            HubFault::Memory => Some(unloaded.book),
+            HubFault::NoSuch | HubFault::Broken | HubFault::TooMany | HubFault::Exhausted => None,
+        },
+    }
+}
+
+/// Loads the book that waits, if there is one. Returns whether none waits now.
+fn load_waiting<A: Allocator + Copy>(hub: &mut Hub<A>, accept: &mut AcceptState<A>) -> bool
+    ensures moves { (n : ℕ) (places : List (Option (Peer A))) (now : Option (List Act)) →
+        Moves (Listening n) (Listening n) accept.old.limits
+        (record { hub = hub.old; places = places; left = left_of accept.old; acts = now })
+        (record { hub = hub.new; places = places; left = left_of accept.new; acts = now }) }
+    ensures loaded { OnTrue result (accept.new.book ≡ None) }
+    ensures most { accept.new.limits ≡ accept.old.limits }
+{
+    let Some(book) = accept.book.take() else {
+        return true;
+    };
+    accept.book = load_book(hub, book);
+    accept.book.is_none()
+}
+
+/// Asks for another book of names, and loads it if one has arrived. Returns whether none waits now.
+fn ask_book<A: Allocator + Copy, S: Streams<A>>(
+    hub: &mut Hub<A>,
+    streams: &mut S,
+    accept: &mut AcceptState<A>,
+) -> bool
+    requires { accept.old.book ≡ None }
+    ensures moves { (n : ℕ) (places : List (Option (Peer A))) →
+        Moves (Listening n) (looked_stage result n) accept.old.limits
+        (record { hub = hub.old; places = places; left = left_of accept.old; acts = S.acts streams.old })
+        (record { hub = hub.new; places = places; left = left_of accept.new; acts = S.acts streams.new }) }
+    ensures most { accept.new.limits ≡ accept.old.limits }
 {
     let Some(book) = streams.book() else {
-        return;
+        return true;
     };
-    let _ = hub.reload(book);
+    accept.book = load_book(hub, book);
+    accept.book.is_none()
 }
 
-/// Says to the hub by which second clients are heard and silent, if leases end.
-fn say_second<A: Allocator + Copy, C: Clock>(hub: &mut Hub<A>, clock: &C, limits: Limits)
-    ensures { (n : ℕ) (left : Left) (places : List (Option (Peer A))) (now : Option (List Act)) →
-        Moves (Giving n) (Giving n) limits (record { hub = hub.old; places = places; left = left; acts = now })
-        (record { hub = hub.new; places = places; left = left; acts = now }) }
+/// Loads the book that waits, if there is one, and then another one that has arrived. `false`: one still waits, and no
+/// bytes may be given.
+fn load_books<A: Allocator + Copy, S: Streams<A>>(
+    hub: &mut Hub<A>,
+    streams: &mut S,
+    accept: &mut AcceptState<A>,
+) -> bool
+    ensures moves { (n : ℕ) (places : List (Option (Peer A))) →
+        Moves (Listening n) (looked_stage result n) accept.old.limits
+        (record { hub = hub.old; places = places; left = left_of accept.old; acts = S.acts streams.old })
+        (record { hub = hub.new; places = places; left = left_of accept.new; acts = S.acts streams.new }) }
+    ensures most { accept.new.limits ≡ accept.old.limits }
+{
+    if !load_waiting(hub, accept) {
+        return false;
+    }
+    ask_book(hub, streams, accept)
+}
+
+/// Sets the second by which the hub renews and expires leases, if leases expire.
+fn advance_clock<A: Allocator + Copy, C: Clock>(hub: &mut Hub<A>, clock: &C, limits: Limits)
+    ensures { IsUnchanged hub.old hub.new }
 {
     if !limits.leases {
         return;
@@ -91,113 +162,201 @@ fn say_second<A: Allocator + Copy, C: Clock>(hub: &mut Hub<A>, clock: &C, limits
     hub.set_second(clock.second());
 }
 
-/// Lets the most silent client go, if leases end and one is to go.
+/// Loads books that have arrived, and keeps the trail. If no book waits, it gives the hub what was read from the
+/// streams of all places. `false`: the trail couldn't be kept.
+fn run_calls<A: Allocator + Copy, S: Streams<A>, C: Clock>(
+    hub: &mut Hub<A>,
+    streams: &mut S,
+    clock: &C,
+    places: &mut [Option<Peer<A>>],
+    accept: &mut AcceptState<A>,
+) -> bool
+    ensures moves { (n : ℕ) → Moves (Listening n) (given_all_stage result n) accept.old.limits
+        (record { hub = hub.old; places = places.old; left = left_of accept.old; acts = S.acts streams.old })
+        (record { hub = hub.new; places = places.new; left = left_of accept.new; acts = S.acts streams.new }) }
+    ensures len { length places.new ≡ length places.old }
+    ensures most { accept.new.limits ≡ accept.old.limits }
+{
+    let loaded = load_books(hub, streams, accept);
+    if !streams.keep(hub.server()) {
+        return false;
+    }
+    if !loaded {
+        return true;
+    }
+    advance_clock(hub, clock, accept.limits);
+    give_all(hub, streams, clock, places)
+}
+
+/// Expires the most silent client, if leases expire and one is to expire.
 fn expire<A: Allocator + Copy, C: Clock>(hub: &mut Hub<A>, clock: &C, limits: Limits)
     ensures { (n : ℕ) (left : Left) (places : List (Option (Peer A))) (now : Option (List Act)) →
-        Moves (Giving n) (Giving n) limits (record { hub = hub.old; places = places; left = left; acts = now })
+        Moves (Trailing n) (Trailing n) limits (record { hub = hub.old; places = places; left = left; acts = now })
         (record { hub = hub.new; places = places; left = left; acts = now }) }
 {
     if !limits.leases {
         return;
     }
-    let _ = hub.let_go(clock.now());
+    let _ = hub.expire_client(clock.now());
 }
 
-/// Keeps the tree and what is known of clients in the store, if there is one. Whether they are kept.
-fn keep_tree<A: Allocator + Copy, S: Streams<A>>(
+/// Keeps what the hub has logged in the store, if there is one. Returns whether it is kept.
+fn keep_log<A: Allocator + Copy, S: Streams<A>>(
     hub: &Hub<A>,
     streams: &mut S,
     alloc: A,
-    store: &mut Option<Store<A>>,
+    store: &mut Option<Store>,
 ) -> bool
-    ensures { KeepsTree (passage S.adds streams.old streams.new) hub.now store.old result store.new }
+    ensures { KeepsLog (passage S.adds streams.old streams.new) hub.now store.old result store.new }
 {
     let Some(store) = store else {
         return true;
     };
-    let server = hub.server();
-    let done = store.keep(streams, alloc, server.tree(), Lent::of(server));
+    let Some(log) = hub.log() else {
+        return false;
+    };
+    let done = store.keep(streams, alloc, log, hub.server());
     done.is_ok()
 }
 
-/// Stores what outlives a restart, if there is a store, and forgets what was noted of it. Whether it could be stored.
-fn store<A: Allocator + Copy, S: Streams<A>>(
+/// The second in which a record was last appended, if no mark was appended since. It is the present second if anything
+/// was logged since the log was begun.
+fn unmarked_since<A: Allocator + Copy, C: Clock>(
+    hub: &Hub<A>,
+    clock: &C,
+    before: Option<u64>,
+) -> Option<u64> {
+    match hub.log() {
+        Some(log) if !log.is_empty() => Some(clock.second()),
+        _ => before,
+    }
+}
+
+/// Stores the persistent state, if there is a store, and begins the log anew. Returns whether it could be stored.
+fn store<A: Allocator + Copy, S: Streams<A>, C: Clock>(
     hub: &mut Hub<A>,
     streams: &mut S,
-    door: &mut Door<A>,
+    clock: &C,
+    accept: &mut AcceptState<A>,
 ) -> bool
     ensures stores { (n : ℕ) (limits : Limits) (places : List (Option (Peer A))) →
-        Moves (Giving n) (stored_stage result n) limits
-        (record { hub = hub.old; places = places; left = left_of door.old; acts = S.acts streams.old })
-        (record { hub = hub.new; places = places; left = left_of door.new; acts = S.acts streams.new }) }
-    ensures most { door.new.limits ≡ door.old.limits }
+        Moves (Trailing n) (stored_stage result n) limits
+        (record { hub = hub.old; places = places; left = left_of accept.old; acts = S.acts streams.old })
+        (record { hub = hub.new; places = places; left = left_of accept.new; acts = S.acts streams.new }) }
+    ensures most { accept.new.limits ≡ accept.old.limits }
 {
-    if !keep_tree(hub, streams, door.alloc, &mut door.store) {
+    if !keep_log(hub, streams, accept.alloc, &mut accept.store) {
         return false;
     }
-    hub.clear_notes();
+    accept.unmarked = unmarked_since(hub, clock, accept.unmarked);
+    hub.begin_log();
     true
 }
 
-/// One turn. All places are read; a book that has come is loaded, and the trail is kept; what was
-/// read is given to the hub, and the trail is kept after each record. The most silent client is let
-/// go, where one is to go. What outlives a restart is stored, if there is a store; and then the
-/// waiting bytes of all places are written. Answers how long the next wait may take. `Err`: the
-/// trail couldn't be kept, or what outlives a restart couldn't be stored, and no bytes were given
-/// or written after that.
+/// Whether a mark is due: a record was appended, and the clock is in a later second now.
+fn is_due(unmarked: Option<u64>, now: u64) -> bool {
+    match unmarked {
+        Some(second) => second < now,
+        None => false,
+    }
+}
+
+/// Marks the store, if there is one: everything up to here is durable.
+fn mark_store<A: Allocator + Copy, S: Streams<A>>(
+    streams: &mut S,
+    alloc: A,
+    store: &mut Option<Store>,
+) -> bool
+    ensures { MarksStore (passage S.adds streams.old streams.new) store.old result store.new }
+{
+    let Some(store) = store else {
+        return true;
+    };
+    let done = store.mark(streams, alloc);
+    done.is_ok()
+}
+
+/// Marks the store in a later second than that in which a record was last appended. `false`: that failed.
+fn mark<A: Allocator + Copy, S: Streams<A>, C: Clock>(
+    streams: &mut S,
+    clock: &C,
+    accept: &mut AcceptState<A>,
+) -> bool
+    ensures marks { (n : ℕ) (limits : Limits) (hub : Hub A) (places : List (Option (Peer A))) →
+        Moves (Answering n) (marked_stage result n) limits
+        (record { hub = hub; places = places; left = left_of accept.old; acts = S.acts streams.old })
+        (record { hub = hub; places = places; left = left_of accept.new; acts = S.acts streams.new }) }
+    ensures most { accept.new.limits ≡ accept.old.limits }
+{
+    if !is_due(accept.unmarked, clock.second()) {
+        return true;
+    }
+    accept.unmarked = None;
+    mark_store(streams, accept.alloc, &mut accept.store)
+}
+
+/// One turn.
+/// - All places are read.
+/// - The book that waits is loaded, and one that has arrived, and the trail is kept.
+/// - What was read is given to the hub, and the trail is kept after each record. While a book waits nothing is given.
+/// - The most silent client is expired, if one is to expire.
+/// - The persistent state is stored, if there is a store.
+/// - The waiting bytes of all places are written.
+/// - The store is marked, in a later second than that of the last record.
+///
+/// Returns how long the next wait may take. `Err`: the trail couldn't be kept, or the persistent state couldn't be
+/// stored. No bytes were given or written after that.
 fn turn<A: Allocator + Copy, S: Streams<A>, C: Clock>(
     hub: &mut Hub<A>,
     streams: &mut S,
     clock: &C,
     places: &mut [Option<Peer<A>>],
-    door: &mut Door<A>,
+    accept: &mut AcceptState<A>,
 ) -> Result<Wait, Halt>
     requires { length places.old ≤ 16 }
-    ensures moves { (n : ℕ) → Moves (Listening n) (turned_stage result n) door.old.limits
-        (record { hub = hub.old; places = places.old; left = left_of door.old; acts = S.acts streams.old })
-        (record { hub = hub.new; places = places.new; left = left_of door.new; acts = S.acts streams.new }) }
-    ensures most { door.new.limits ≡ door.old.limits }
+    ensures moves { (n : ℕ) → Moves (Listening n) (turned_stage result n) accept.old.limits
+        (record { hub = hub.old; places = places.old; left = left_of accept.old; acts = S.acts streams.old })
+        (record { hub = hub.new; places = places.new; left = left_of accept.new; acts = S.acts streams.new }) }
+    ensures most { accept.new.limits ≡ accept.old.limits }
 {
-    let heard = listen_all(hub, streams, clock, places, door);
-    load_book(hub, streams);
-    if !streams.keep(hub.server()) {
+    let received_bytes = listen_all(hub, streams, clock, places, accept);
+    if !run_calls(hub, streams, clock, places, accept) {
         return Err(Halt::Keep);
     }
-    say_second(hub, clock, door.limits);
-    if !give_all(hub, streams, clock, places) {
-        return Err(Halt::Keep);
-    }
-    expire(hub, clock, door.limits);
-    if !store(hub, streams, door) {
+    expire(hub, clock, accept.limits);
+    if !store(hub, streams, clock, accept) {
         return Err(Halt::Store);
     }
-    let told = answer_all(hub, streams, clock, places);
-    let room = make_room(hub, streams, clock, places, door);
-    Ok(pause(heard | told, room))
+    let sent = answer_all(hub, streams, clock, places);
+    if !mark(streams, clock, accept) {
+        return Err(Halt::Store);
+    }
+    let room = make_room(hub, streams, clock, places, accept);
+    Ok(pause(received_bytes | sent, room, accept))
 }
 
-/// As many turns as the limits say, unless all connections are served earlier or something fails.
+/// Runs turns up to the limit. It ends earlier if all connections are served, or something fails.
 fn run<A: Allocator + Copy, S: Streams<A>, C: Clock>(
     hub: &mut Hub<A>,
     streams: &mut S,
     clock: &C,
     places: &mut [Option<Peer<A>>],
-    door: &mut Door<A>,
+    accept: &mut AcceptState<A>,
 ) -> AllEnd
     requires { length places.old ≤ 16 }
-    ensures { RunGives result door.old.limits
-        (record { hub = hub.old; places = places.old; left = left_of door.old; acts = S.acts streams.old })
-        (record { hub = hub.new; places = places.new; left = left_of door.new; acts = S.acts streams.new }) }
+    ensures { RunGives result accept.old.limits
+        (record { hub = hub.old; places = places.old; left = left_of accept.old; acts = S.acts streams.old })
+        (record { hub = hub.new; places = places.new; left = left_of accept.new; acts = S.acts streams.new }) }
 {
     let mut how = Wait::No;
-    for _turn in 0..door.limits.turns {
-        if are_served(places, door) {
+    for _turn in 0..accept.limits.turns {
+        if are_served(places, accept) {
             return AllEnd::Served;
         }
         if !streams.wait(how) {
             return AllEnd::Wait;
         }
-        match turn(hub, streams, clock, places, door) {
+        match turn(hub, streams, clock, places, accept) {
             Ok(next) => how = next,
             Err(Halt::Keep) => return AllEnd::Keep,
             Err(Halt::Store) => return AllEnd::Store,
@@ -206,28 +365,37 @@ fn run<A: Allocator + Copy, S: Streams<A>, C: Clock>(
     AllEnd::Turns
 }
 
-/// Serves streams at these places, none of which is taken, and then lets go all streams still open.
+/// Serves streams at these places, all of which are free, and then closes all streams that are still open.
 fn serve_at<A: Allocator + Copy, S: Streams<A>, C: Clock>(
     hub: &mut Hub<A>,
     streams: &mut S,
     clock: &C,
     places: &mut [Option<Peer<A>>],
-    mut door: Door<A>,
+    mut accept: AcceptState<A>,
 ) -> AllEnd
     requires sixteen { length places.old ≤ 16 }
     requires free { taken places.old ≡ 0 }
-    requires all { door.left ≡ door.limits.connections }
-    ensures { (first : ServedState) (events : List Event) → LeadsTo first events hub.old →
-        (history : List DiskAct) (kept : Kept) → IsOpen door.store history kept hub.old →
-        ServesAll first events (record { limits = door.limits; store = door.store; history = history }) result
+    requires all { accept.left ≡ accept.limits.connections }
+    requires none { accept.book ≡ None }
+    ensures { (first : ServedState) (events : List Event) → IsHistoryOf first events hub.old →
+        (history : List DiskAct) → IsOpen accept.store history hub.old →
+        ServesAll first events (record { limits = accept.limits; store = accept.store; history = history }) result
         (record { hub = hub.old; acts = S.acts streams.old }) (record { hub = hub.new; acts = S.acts streams.new }) }
 {
-    let end = run(hub, streams, clock, places, &mut door);
+    let end = run(hub, streams, clock, places, &mut accept);
     shut_all(hub, streams, places);
     end
 }
 
-/// As many free places as connections may be open at once.
+/// The second since which the store waits for a mark when serving begins. It may have unmarked records.
+fn first_mark<C: Clock>(store: &Option<Store>, clock: &C) -> Option<u64> {
+    if store.is_some() {
+        return Some(clock.second());
+    }
+    None
+}
+
+/// One free place for each connection that may be open at the same time.
 fn free_places<A: Allocator + Copy>(alloc: A) -> Result<Vec<Option<Peer<A>>, A>, AllocError>
     ensures { IfOk result (λ places. (length places.items ≤ 16) × (taken places.items ≡ 0)) }
 {
@@ -238,57 +406,62 @@ fn free_places<A: Allocator + Copy>(alloc: A) -> Result<Vec<Option<Peer<A>>, A>,
     Ok(places)
 }
 
-/// Serves streams, as many at once as there are places, until `limits.connections` connections were
-/// opened and are closed, or for `limits.turns` waits. Then it lets go all streams still open. One
-/// place serves them one after the other.
+/// Serves streams, at most one at each place, until `limits.connections` connections were opened and are closed, or for
+/// `limits.turns` waits. Then it closes all streams that are still open. With one place it serves them one after the
+/// other.
 ///
-/// A turn waits once. Then at each place at most 131,072 bytes are read, if all that was read before
-/// is given and no reply of that connection waits to be written. Or a stream that has come is
-/// admitted, if the place is free. It is asked for another book of names, and one that has come is
-/// loaded. So each call whose last byte is read after a book had come is judged by that book. What
-/// was read is given to the hub, in order, one record after the other, and **the lines of the trail
-/// are kept after each, before the next one runs**. So none is lost. It is given in pieces of at
-/// most 4,096 bytes, the next only while at most 4,096 bytes of replies wait; the rest waits until
-/// these are written. So a peer that sends and doesn't read costs 4,096 bytes and the replies to
-/// 4,096 bytes. Then all that outlives a restart of the server is kept in the store, if there is
-/// one, **before any byte of a reply to what ran is written**. So a crash at any moment leaves all
-/// of which a reply was written, and a sync is for all calls of a turn. The notes of the tree's
-/// changes are forgotten then. Last the waiting bytes are written, at most 128 KiB of each
-/// connection, as far as the streams take them.
+/// A turn waits once, and then does this:
+/// - At each place with a connection it reads at most 131,072 bytes, if everything that was read before is given and no
+///   reply of that connection waits to be written. At a free place it admits a stream that has arrived.
+/// - It asks for another book of names, and loads one that has arrived. So each call whose last byte is read after a
+///   book had arrived is judged by that book. If the allocation for the book's entry in the log fails, nothing is given
+///   until the book is loaded. Each turn tries that again.
+/// - It gives the hub what was read, in order, one record after the other. **The lines of the trail are kept after each
+///   record, before the next one runs**, so none is lost. The bytes are given in pieces of at most 4,096 bytes. The
+///   next piece begins only while at most 4,096 bytes of replies wait, and the rest waits until these are written. So a
+///   peer that sends and doesn't read costs 4,096 bytes and the replies to 4,096 bytes.
+/// - If there is a store, it stores all persistent state: all that outlives a restart of the server. It does so
+///   **before any byte of a reply to what ran is written**. So a crash at any moment leaves everything of which a reply
+///   was written. One sync covers all calls of a turn. The log then begins anew.
+/// - It writes the waiting bytes, at most 128 KiB of each connection, as far as the streams take them.
+/// - It marks the store, in the first turn of a later second than that of the last record. So while a record is
+///   unmarked a wait takes at most a second.
 ///
-/// The store is one over the files of `streams` that was begun with the tree and the numbers that
-/// the server has. The server has noted the changes of its tree since then.
+/// The store has to be over the files of `streams`, and to keep the server as it is. The hub's log has to be begun and
+/// empty. The server's sessions have to be persistent.
 ///
-/// A stream that ends or fails is let go at once and its connection closed. A stream whose
-/// connection is broken or has had its turns is let go after its replies. The others go on; `close`
-/// says how each ended. It may be that the limit of open connections is reached, another stream has
-/// come, and room is to be made. Then the stream of which no bytes were read or written for longest
-/// is let go, if for two seconds of the clock none were. Until then the other stream waits outside.
-/// So does a stream that can't be taken, or for which there is no memory: a connection takes 131,072
-/// bytes of `alloc` besides what the hub takes. It is tried again in the next turn, which comes
-/// within a second.
+/// A stream that ends or fails is closed at once, with its connection. A stream whose connection is broken or has had
+/// its turns is closed after its replies. The others go on. `close` reports how each ended.
+///
+/// If the limit of open connections is reached and another stream has arrived, room may have to be made. Then the
+/// stream on which no bytes were read or written for the longest time is closed, if that is at least two seconds of the
+/// clock. Until then the other stream waits outside. So does a stream that can't be taken, or for which an allocation
+/// fails: a connection takes 131,072 bytes of `alloc` besides what the hub takes. Such a stream is tried again in the
+/// next turn, which comes within a second.
 pub fn serve_all<A: Allocator + Copy, S: Streams<A>, C: Clock>(
     alloc: A,
     hub: &mut Hub<A>,
     streams: &mut S,
     clock: &C,
-    store: Option<Store<A>>,
+    store: Option<Store>,
     limits: Limits,
 ) -> AllEnd
-    ensures { (first : ServedState) (events : List Event) → LeadsTo first events hub.old →
-        (history : List DiskAct) (kept : Kept) → IsOpen store history kept hub.old →
+    ensures { (first : ServedState) (events : List Event) → IsHistoryOf first events hub.old →
+        (history : List DiskAct) → IsOpen store history hub.old →
         ServesAll first events (record { limits = limits; store = store; history = history }) result
         (record { hub = hub.old; acts = S.acts streams.old }) (record { hub = hub.new; acts = S.acts streams.new }) }
 {
     let Ok(mut places) = free_places(alloc) else {
         return AllEnd::Memory;
     };
-    let door = Door {
+    let accept = AcceptState {
         alloc,
         limits,
         left: limits.connections,
         refused: false,
+        unmarked: first_mark(&store, clock),
         store,
+        book: None,
     };
-    serve_at(hub, streams, clock, &mut places[..], door)
+    serve_at(hub, streams, clock, &mut places[..], accept)
 }

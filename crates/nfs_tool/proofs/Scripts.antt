@@ -18,8 +18,8 @@ use Rattle.nfs_hub.specs.Served.{IsPiece}
 use Rattle.nfs_hub.specs.declared.hub.Hub.{Hub}
 use Rattle.nfs_hub.proofs.TurnLaws.{consumes_kept}
 use Rattle.nfs_tool.specs.Reloading.{Giving, Lent, Loads}
-use Rattle.nfs_tool.specs.ScriptLines.{Said, Run, Reload, is_skipped, line_in}
-use Rattle.nfs_tool.specs.Script.{is_answered, is_loaded, load_text, told_text, Tells, LineWrites, LinePrints, Print, RunGives, is_within, joined, IsCut, IsScriptFault, Stands, IsFresh, Answered, Answers, GoesOn, Puts, IsTrailOf, WritesTrail, trail_line, trail_text, Finished, Finishes, Reads, ScriptGives, output, printing, underway, unread, past}
+use Rattle.nfs_tool.specs.ScriptLines.{Order, Run, Reload, is_skipped, line_in}
+use Rattle.nfs_tool.specs.Script.{is_answered, is_loaded, load_text, answer_or_fault_text, Prints, LineWrites, LinePrints, Print, RunGives, is_within, joined, IsCut, IsScriptFault, HasRun, IsFresh, Answered, Answers, GoesOn, Puts, IsTrailOf, WritesTrail, trail_line, trail_text, Finished, Finishes, Reads, ScriptGives, output, printing, underway, unread, past}
 use Rattle.nfs_tool.specs.declared.reloading.LoadFault.{LoadFault}
 use Rattle.nfs_client.specs.declared.running.Answer.{Answer}
 use Rattle.nfs_tool.specs.declared.scripting.Progress.{Progress}
@@ -27,31 +27,31 @@ use Rattle.nfs_client.specs.declared.fault.ToolFault.{ToolFault}
 
 -- ---- one line
 
-pub asked_told : {A T : Type 0} (gives : Giving T) (number : ℕ) (old new : Lent A T) (line : List ℕ) (held held' : Option (List ℕ)) (said : Said) (told : Result (Answer A) ToolFault) (result : Result Bool ToolFault)
-    → is_skipped line ≡ false → line_in line ≡ Some (Run said) → new.texts ≡ old.texts → RunGives number said old.hub new.hub told → Tells (output (told_text told) (is_answered told)) held held' result → LineWrites gives number (printing old held) (printing new held') line result
-asked_told gives number old new line held held' said told (Ok good) asks is stays runs tells =
-    (told_text told, inr (inr (inl (record { asks = asks; said = said; is = is; told = told; runs = runs; text = refl; answered = tells.0; stays = stays }))), tells.1)
-asked_told gives number old new line held held' said told (Err fault) asks is stays runs tells = subst IsScriptFault (sym tells) tt
+pub asked_printed : {A T : Type 0} (gives : Giving T) (number : ℕ) (old new : Lent A T) (line : List ℕ) (held held' : Option (List ℕ)) (order : Order) (answer : Result (Answer A) ToolFault) (result : Result Bool ToolFault)
+    → is_skipped line ≡ false → line_in line ≡ Some (Run order) → new.texts ≡ old.texts → RunGives number order old.hub new.hub answer → Prints (output (answer_or_fault_text answer) (is_answered answer)) held held' result → LineWrites gives number (printing old held) (printing new held') line result
+asked_printed gives number old new line held held' order answer (Ok good) asks is stays runs answers =
+    (answer_or_fault_text answer, inr (inr (inl (record { asks = asks; order = order; is = is; result = answer; runs = runs; text = refl; answered = answers.0; stays = stays }))), answers.1)
+asked_printed gives number old new line held held' order answer (Err fault) asks is stays runs answers = subst IsScriptFault (sym answers) tt
 
-pub reload_told : {A T : Type 0} (gives : Giving T) (number : ℕ) (old new : Lent A T) (line : List ℕ) (held held' : Option (List ℕ)) (name : List ℕ) (told : Result (Unit {0}) LoadFault) (result : Result Bool ToolFault)
-    → is_skipped line ≡ false → line_in line ≡ Some (Reload name) → Loads gives name old new told → Tells (output (load_text told) (is_loaded told)) held held' result → LineWrites gives number (printing old held) (printing new held') line result
-reload_told gives number old new line held held' name told (Ok good) asks is loads tells =
-    (load_text told, inr (inr (inr (record { asks = asks; name = name; is = is; told = told; loads = loads; text = refl; answered = tells.0 }))), tells.1)
-reload_told gives number old new line held held' name told (Err fault) asks is loads tells = subst IsScriptFault (sym tells) tt
+pub reload_printed : {A T : Type 0} (gives : Giving T) (number : ℕ) (old new : Lent A T) (line : List ℕ) (held held' : Option (List ℕ)) (name : List ℕ) (answer : Result (Unit {0}) LoadFault) (result : Result Bool ToolFault)
+    → is_skipped line ≡ false → line_in line ≡ Some (Reload name) → Loads gives name old new answer → Prints (output (load_text answer) (is_loaded answer)) held held' result → LineWrites gives number (printing old held) (printing new held') line result
+reload_printed gives number old new line held held' name answer (Ok good) asks is loads answers =
+    (load_text answer, inr (inr (inr (record { asks = asks; name = name; is = is; result = answer; loads = loads; text = refl; answered = answers.0 }))), answers.1)
+reload_printed gives number old new line held held' name answer (Err fault) asks is loads answers = subst IsScriptFault (sym answers) tt
 
 -- a line is answered after earlier lines
 pub line_answered : {A T : Type 0} (gives : Giving T) (number : ℕ) (old new : Lent A T) (p q : Progress A) (line : List ℕ) (good : Bool) (held held' : Option (List ℕ)) → line ≡ p.line.items → LineWrites gives number (printing old held) (printing new held') line (Ok good)
     → q.is_good ≡ (p.is_good && good) → q.line ≡ p.line → number ≡ p.lines + 1 → q.lines ≡ number → Answers gives (underway p (printing old held)) (underway q (printing new held')) (Ok tt)
 line_answered {A = A} gives number old new p q line good held held' is writes both same next counts first whole out before counted =
     let P : List ℕ → Type 0 = λ l. LinePrints gives number old new l (output writes.0 good) in
-    let behind : number ≡ length whole + 1 = next ∙ ap (λ n. n + 1) counted in
+    let rest : number ≡ length whole + 1 = next ∙ ap (λ n. n + 1) counted in
     let N : ℕ → Type 0 = λ n. LinePrints gives n old new p.line.items (output writes.0 good) in
     record {
       printed = writes.0;
       wrote = writes.2;
-      prints = (old, output out p.is_good, output writes.0 good, before, subst N behind (subst P is writes.1), refl, both);
+      prints = (old, output out p.is_good, output writes.0 good, before, subst N rest (subst P is writes.1), refl, both);
       line = same;
-      counted = counts ∙ behind;
+      counted = counts ∙ rest;
     }
 
 -- ---- bytes
@@ -73,18 +73,18 @@ cut_line text lines last cut = record {
   is_line = refl;
 }
 
--- a byte is appended to the part of a line that was read
+-- a byte is appended to the read part of a line
 pub byte_taken : {A T : Type 0} (gives : Giving T) (lent : Lent A T) (p q : Progress A) (b : ℕ) (held : Option (List ℕ)) → b ≢ 10 → q.line.items ≡ p.line.items ++ b ∷ [] → q.is_good ≡ p.is_good → q.lines ≡ p.lines
     → GoesOn gives (underway p (printing lent held)) (underway q (printing lent held)) (b ∷ []) (Ok tt)
-byte_taken {A = A} {T = T} gives lent p q b held other line good counts before stands =
-    let Q : List ℕ → Type 0 = λ l. IsCut (before.read ++ b ∷ []) stands.whole l in
-    let R : Bool → Type 0 = λ g. Print gives before.first lent stands.whole (output before.printed g) in
-    let S : List ℕ → Type 0 = λ o. Stands gives (past before.first (before.read ++ b ∷ []) o) (underway q (printing lent held)) in
-    let taken : Stands gives (past before.first (before.read ++ b ∷ []) before.printed) (underway q (printing lent held)) = record {
-      whole = stands.whole;
-      cut = subst Q (sym line) (cut_byte before.read stands.whole p.line.items b other stands.cut);
-      counted = counts ∙ stands.counted;
-      prints = subst R (sym good) stands.prints;
+byte_taken {A = A} {T = T} gives lent p q b held other line good counts before has_run =
+    let Q : List ℕ → Type 0 = λ l. IsCut (before.read ++ b ∷ []) has_run.whole l in
+    let R : Bool → Type 0 = λ g. Print gives before.first lent has_run.whole (output before.printed g) in
+    let S : List ℕ → Type 0 = λ o. HasRun gives (past before.first (before.read ++ b ∷ []) o) (underway q (printing lent held)) in
+    let taken : HasRun gives (past before.first (before.read ++ b ∷ []) before.printed) (underway q (printing lent held)) = record {
+      whole = has_run.whole;
+      cut = subst Q (sym line) (cut_byte before.read has_run.whole p.line.items b other has_run.cut);
+      counted = counts ∙ has_run.counted;
+      prints = subst R (sym good) has_run.prints;
     } in
     ([], appends_none held, subst S (sym (append-nil before.printed)) taken)
 
@@ -94,17 +94,17 @@ add_one n = omega arith
 -- a line ends
 pub line_ended : {A T : Type 0} (gives : Giving T) (old new : Lent A T) (p mid q : Progress A) (b : ℕ) (held held' : Option (List ℕ)) → b ≡ 10 → Answers gives (underway p (printing old held)) (underway mid (printing new held')) (Ok tt) → q.line.items ≡ [] → q.is_good ≡ mid.is_good → q.lines ≡ mid.lines
     → GoesOn gives (underway p (printing old held)) (underway q (printing new held')) (b ∷ []) (Ok tt)
-line_ended {A = A} {T = T} gives old new p mid q b held held' newline answers line good counts before stands =
-    let a : Answered gives (past before.first stands.whole before.printed) (underway p (printing old held)) (underway mid (printing new held')) = answers before.first stands.whole before.printed stands.prints stands.counted in
-    let N : ℕ → Type 0 = λ n. IsCut (before.read ++ n ∷ []) (p.line.items ∷ stands.whole) q.line.items in
-    let Q : List ℕ → Type 0 = λ l. IsCut (before.read ++ 10 ∷ []) (p.line.items ∷ stands.whole) l in
-    let R : Bool → Type 0 = λ g. Print gives before.first new (p.line.items ∷ stands.whole) (output (before.printed ++ a.printed) g) in (
+line_ended {A = A} {T = T} gives old new p mid q b held held' newline answers line good counts before has_run =
+    let a : Answered gives (past before.first has_run.whole before.printed) (underway p (printing old held)) (underway mid (printing new held')) = answers before.first has_run.whole before.printed has_run.prints has_run.counted in
+    let N : ℕ → Type 0 = λ n. IsCut (before.read ++ n ∷ []) (p.line.items ∷ has_run.whole) q.line.items in
+    let Q : List ℕ → Type 0 = λ l. IsCut (before.read ++ 10 ∷ []) (p.line.items ∷ has_run.whole) l in
+    let R : Bool → Type 0 = λ g. Print gives before.first new (p.line.items ∷ has_run.whole) (output (before.printed ++ a.printed) g) in (
       a.printed,
       a.wrote,
       record {
-        whole = p.line.items ∷ stands.whole;
-        cut = subst N (sym newline) (subst Q (sym line) (cut_line before.read stands.whole p.line.items stands.cut));
-        counted = counts ∙ a.counted ∙ add_one (length stands.whole);
+        whole = p.line.items ∷ has_run.whole;
+        cut = subst N (sym newline) (subst Q (sym line) (cut_line before.read has_run.whole p.line.items has_run.cut));
+        counted = counts ∙ a.counted ∙ add_one (length has_run.whole);
         prints = subst R (sym good) a.prints;
       },
     )
@@ -112,19 +112,19 @@ line_ended {A = A} {T = T} gives old new p mid q b held held' newline answers li
 -- ---- pieces
 
 pub goes_nowhere : {A T : Type 0} (gives : Giving T) (lent : Lent A T) (p : Progress A) (held : Option (List ℕ)) → GoesOn gives (underway p (printing lent held)) (underway p (printing lent held)) [] (Ok tt)
-goes_nowhere gives lent p held before stands =
-    let S : List ℕ → Type 0 = λ t. Stands gives (past before.first t (before.printed ++ [])) (underway p (printing lent held)) in
-    let O : List ℕ → Type 0 = λ o. Stands gives (past before.first before.read o) (underway p (printing lent held)) in
-    ([], appends_none held, subst S (sym (append-nil before.read)) (subst O (sym (append-nil before.printed)) stands))
+goes_nowhere gives lent p held before has_run =
+    let S : List ℕ → Type 0 = λ t. HasRun gives (past before.first t (before.printed ++ [])) (underway p (printing lent held)) in
+    let O : List ℕ → Type 0 = λ o. HasRun gives (past before.first before.read o) (underway p (printing lent held)) in
+    ([], appends_none held, subst S (sym (append-nil before.read)) (subst O (sym (append-nil before.printed)) has_run))
 
-pub goes_further : {A T : Type 0} (gives : Giving T) (x y z : Lent A T) (a b c : Progress A) (front more : List ℕ) (held held' held'' : Option (List ℕ)) → GoesOn gives (underway a (printing x held)) (underway b (printing y held')) front (Ok tt) → GoesOn gives (underway b (printing y held')) (underway c (printing z held'')) more (Ok tt)
-    → GoesOn gives (underway a (printing x held)) (underway c (printing z held'')) (front ++ more) (Ok tt)
-goes_further gives x y z a b c front more held held' held'' one two before stands =
-    let p = one before stands in
-    let q = two (past before.first (before.read ++ front) (before.printed ++ p.0)) p.2 in
-    let S : List ℕ → Type 0 = λ t. Stands gives (past before.first t ((before.printed ++ p.0) ++ q.0)) (underway c (printing z held'')) in
-    let O : List ℕ → Type 0 = λ o. Stands gives (past before.first (before.read ++ (front ++ more)) o) (underway c (printing z held'')) in
-    (p.0 ++ q.0, appends_trans held held' held'' p.0 q.0 p.1 q.1, subst O (append_assoc before.printed p.0 q.0) (subst S (append_assoc before.read front more) q.2))
+pub goes_further : {A T : Type 0} (gives : Giving T) (x y z : Lent A T) (a b c : Progress A) (prefix more : List ℕ) (held held' held'' : Option (List ℕ)) → GoesOn gives (underway a (printing x held)) (underway b (printing y held')) prefix (Ok tt) → GoesOn gives (underway b (printing y held')) (underway c (printing z held'')) more (Ok tt)
+    → GoesOn gives (underway a (printing x held)) (underway c (printing z held'')) (prefix ++ more) (Ok tt)
+goes_further gives x y z a b c prefix more held held' held'' one two before has_run =
+    let p = one before has_run in
+    let q = two (past before.first (before.read ++ prefix) (before.printed ++ p.0)) p.2 in
+    let S : List ℕ → Type 0 = λ t. HasRun gives (past before.first t ((before.printed ++ p.0) ++ q.0)) (underway c (printing z held'')) in
+    let O : List ℕ → Type 0 = λ o. HasRun gives (past before.first (before.read ++ (prefix ++ more)) o) (underway c (printing z held'')) in
+    (p.0 ++ q.0, appends_trans held held' held'' p.0 q.0 p.1 q.1, subst O (append_assoc before.printed p.0 q.0) (subst S (append_assoc before.read prefix more) q.2))
 
 -- ---- the trail
 
@@ -155,7 +155,7 @@ bytes_more pieces piece =
     concat-append pieces (piece ∷ []) ∙ ap (λ (bs : List ℕ). concat pieces ++ bs) one
 
 module _ {count : ℕ} {left left' : Option (List ℕ)} (r : Reads count left left') where
-  -- one piece more
+  -- one more piece
   abbrev pub reads_more : (piece : List ℕ) (left'' : Option (List ℕ)) (most : ℕ) → count + 1 ≤ most → IsPiece piece → Consumes left' left'' piece → Reads most left left''
   reads_more piece left'' most few is more = record {
     pieces = r.pieces ++ piece ∷ [];
@@ -164,7 +164,7 @@ module _ {count : ℕ} {left left' : Option (List ℕ)} (r : Reads count left le
     read = subst (λ (bs : List ℕ). Consumes left left'' bs) (sym (bytes_more r.pieces piece)) (consumes_trans left left' left'' (concat r.pieces) piece r.read more);
   }
 
-  -- nothing more
+  -- no more pieces
   abbrev pub reads_end : (left'' : Option (List ℕ)) (most : ℕ) → count ≤ most → Consumes left' left'' [] → Reads most left left''
   reads_end left'' most few nothing = record {
     pieces = r.pieces;
@@ -177,12 +177,12 @@ module _ {count : ℕ} {left left' : Option (List ℕ)} (r : Reads count left le
   pub reads_kept : (left'' : Option (List ℕ)) (most : ℕ) → count ≤ most → Keeps left' left'' → Reads most left left''
   reads_kept left'' most few keeps = record { pieces = r.pieces; are = r.are; few = omega (arith, r.few, few); read = consumes_kept left left' left'' (concat r.pieces) r.read keeps }
 
--- the part of a script that this many reads read
+-- the part of a script that `count` reads have read
 pub record Running {A T : Type 0} (gives : Giving T) (old new : Lent A T) (p : Progress A) (count : ℕ) (left left' held held' : Option (List ℕ)) : Type 0 where
   pub reads : Reads count left left'
   pub out : List ℕ
   pub wrote : Appends held held' out
-  pub stands : Stands gives (past old (concat reads.pieces) out) (underway p (printing new held'))
+  pub has_run : HasRun gives (past old (concat reads.pieces) out) (underway p (printing new held'))
 
 pub runs_none : {A T : Type 0} (gives : Giving T) (lent : Lent A T) (p : Progress A) (left held : Option (List ℕ)) → IsFresh p → Running gives lent lent p 0 left left held held
 runs_none gives lent p left held begins =
@@ -192,25 +192,25 @@ runs_none gives lent p left held begins =
       reads = record { pieces = []; are = All-nil IsPiece; few = omega arith; read = consumes_none left };
       out = [];
       wrote = appends_none held;
-      stands = record { whole = []; cut = subst Q (sym begins.0) (record { parts = refl; are_lines = tt; is_line = refl }); prints = subst R (sym begins.2) (refl, refl, refl); counted = begins.1 };
+      has_run = record { whole = []; cut = subst Q (sym begins.0) (record { parts = refl; are_lines = tt; is_line = refl }); prints = subst R (sym begins.2) (refl, refl, refl); counted = begins.1 };
     }
 
 pub runs_further : {A T : Type 0} (gives : Giving T) (x y z : Lent A T) (p q : Progress A) (count : ℕ) (piece : List ℕ) (left left' left'' held held' held'' : Option (List ℕ)) → Running gives x y p count left left' held held'
     → IsPiece piece → Consumes left' left'' piece → GoesOn gives (underway p (printing y held')) (underway q (printing z held'')) piece (Ok tt) → Running gives x z q (count + 1) left left'' held held''
 runs_further gives x y z p q count piece left left' left'' held held' held'' r is more goes =
-    let g = goes (past x (concat r.reads.pieces) r.out) r.stands in
-    let S : List ℕ → Type 0 = λ t. Stands gives (past x t (r.out ++ g.0)) (underway q (printing z held'')) in
+    let g = goes (past x (concat r.reads.pieces) r.out) r.has_run in
+    let S : List ℕ → Type 0 = λ t. HasRun gives (past x t (r.out ++ g.0)) (underway q (printing z held'')) in
     record {
       reads = reads_more r.reads piece left'' (count + 1) (omega arith) is more;
       out = r.out ++ g.0;
       wrote = appends_trans held held' held'' r.out g.0 r.wrote g.1;
-      stands = subst S (sym (bytes_more r.reads.pieces piece)) g.2;
+      has_run = subst S (sym (bytes_more r.reads.pieces piece)) g.2;
     }
 
 pub script_ended : {A T : Type 0} (gives : Giving T) (x y z : Lent A T) (p : Progress A) (count n : ℕ) (buf : List ℕ) (left left' left'' held held' held'' : Option (List ℕ)) (result : Result Bool ToolFault)
     → Running gives x y p count left left' held held' → count < 1000000 → n ≡ 0 → Consumes left' left'' (take n buf) → IsAtEnd left'' → Finishes gives (underway p (printing y held')) (printing z held'') result → ScriptGives gives (unread left (printing x held)) (unread left'' (printing z held'')) result
 script_ended {A = A} {T = T} gives x y z p count n buf left left' left'' held held' held'' (Ok good) r below none more ends finishes =
-    let f : Finished gives (past x (concat r.reads.pieces) r.out) (underway p (printing y held')) (printing z held'') good = finishes (past x (concat r.reads.pieces) r.out) r.stands in
+    let f : Finished gives (past x (concat r.reads.pieces) r.out) (underway p (printing y held')) (printing z held'') good = finishes (past x (concat r.reads.pieces) r.out) r.has_run in
     let C : ℕ → Type 0 = λ m. Consumes left' left'' (take m buf) in
     let W : List ℕ → Type 0 = λ o. Appends held held'' o in
     record {

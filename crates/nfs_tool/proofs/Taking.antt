@@ -1,4 +1,4 @@
--- The record that is taken of what is pending on a connection.
+-- The record that is taken from the pending bytes of a connection.
 use Rattle.std.proofs.Common.{◌≡◌, inl, inr, ℕ, ◌+◌, ◌-◌, ◌≤◌, List, [], ◌∷◌, ◌++◌, length, drop, min, Option, Some, None, Result, Ok, Err, refl, sym, ap, ◌∙◌, subst, arith}
 use Rattle.std.specs.Prelude.{MatchOption}
 use Rattle.std.proofs.lemmas.List.{length-append}
@@ -11,9 +11,9 @@ use Rattle.nfs_hub.specs.Machine.{Take}
 use Rattle.nfs_hub.specs.declared.fault.HubFault.{HubFault}
 use Rattle.nfs_hub.specs.declared.fault.HubFault.TheVariants.{NoSuch}
 use Rattle.nfs_hub.specs.declared.hub.Hub.{Hub}
-use Rattle.nfs_tool.specs.LocalStreams.{LeadsOn, TakesRecord}
+use Rattle.nfs_tool.specs.LocalStreams.{ExtendsHistory, TakesRecord}
 
--- what was read, and what is left
+-- the bytes that were read, and the rest
 parts : {X : Type 0} (bytes : X → List ℕ) (pending left : List ℕ) (result : Result X ToolFault) → RecordGives bytes (Some pending) (Some left) result → (read : List ℕ) × (pending ≡ read ++ left)
 parts bytes pending left (Ok x) (read, is, reads) = (read, reads.read)
 parts bytes pending left (Err f) (read, reads, is) = (read, reads.read)
@@ -24,30 +24,30 @@ within bytes pending left result gives =
     let long = ap length p.1 ∙ length-append p.0 left in
     omega (arith, long)
 
-drop_front : (front rest : List ℕ) → drop (length front) (front ++ rest) ≡ rest
-drop_front [] rest = refl
-drop_front (b ∷ front) rest = drop_front front rest
+drop_prefix : (prefix rest : List ℕ) → drop (length prefix) (prefix ++ rest) ≡ rest
+drop_prefix [] rest = refl
+drop_prefix (b ∷ prefix) rest = drop_prefix prefix rest
 
-behind : {X : Type 0} (bytes : X → List ℕ) (pending left : List ℕ) (result : Result X ToolFault) → RecordGives bytes (Some pending) (Some left) result → drop (length pending - length left) pending ≡ left
-behind bytes pending left result gives =
+taken_after : {X : Type 0} (bytes : X → List ℕ) (pending left : List ℕ) (result : Result X ToolFault) → RecordGives bytes (Some pending) (Some left) result → drop (length pending - length left) pending ≡ left
+taken_after bytes pending left result gives =
     let p = parts bytes pending left result gives in
     let long = ap length p.1 ∙ length-append p.0 left in
     let n : length pending - length left ≡ length p.0 = omega (arith, long) in
-    ap (λ k. drop k pending) n ∙ ap (drop (length p.0)) p.1 ∙ drop_front p.0 left
+    ap (λ k. drop k pending) n ∙ ap (drop (length p.0)) p.1 ∙ drop_prefix p.0 left
 
 as_bytes : {X : Type 0} (bytes : X → List ℕ) (left left' : Option (List ℕ)) (result : Result X ToolFault) → RecordGives bytes left left' result → RecordGives itself left left' (as_read bytes result)
 as_bytes bytes left left' (Ok x) gives = gives
 as_bytes bytes left left' (Err f) gives = gives
 
--- the bytes that are dropped of these, which are pending
-dropped : {A : Type 0} (conn most : ℕ) (told : Result ℕ HubFault) (old new : Hub A) (pending : List ℕ) → pending_at old conn ≡ Some pending → ConsumeGives conn most told old new
-    → (n : ℕ) × (told ≡ Ok n) × (n ≡ min most (length pending)) × (pending_at new conn ≡ Some (drop n pending)) × (broken_at new conn ≡ broken_at old conn) × (new.service ≡ old.service)
-dropped conn most told old new pending is gives =
-    subst (λ (o : Option (List ℕ)). MatchOption o ((told ≡ Err NoSuch) × IsUnchanged old new) (λ p. (n : ℕ) × (told ≡ Ok n) × (n ≡ min most (length p)) × (pending_at new conn ≡ Some (drop n p)) × (broken_at new conn ≡ broken_at old conn) × (new.service ≡ old.service))) is gives
+-- the bytes that are dropped from the pending ones
+dropped : {A : Type 0} (conn most : ℕ) (answer : Result ℕ HubFault) (old new : Hub A) (pending : List ℕ) → pending_at old conn ≡ Some pending → ConsumeGives conn most answer old new
+    → (n : ℕ) × (answer ≡ Ok n) × (n ≡ min most (length pending)) × (pending_at new conn ≡ Some (drop n pending)) × (broken_at new conn ≡ broken_at old conn) × (new.service ≡ old.service)
+dropped conn most answer old new pending is gives =
+    subst (λ (o : Option (List ℕ)). MatchOption o ((answer ≡ Err NoSuch) × IsUnchanged old new) (λ p. (n : ℕ) × (answer ≡ Ok n) × (n ≡ min most (length p)) × (pending_at new conn ≡ Some (drop n p)) × (broken_at new conn ≡ broken_at old conn) × (new.service ≡ old.service))) is gives
 
 pub takes : {A X : Type 0} (conn : ℕ) (old new : Hub A) (pending left : List ℕ) (bytes : X → List ℕ) (result : Result X ToolFault) (n : ℕ) → pending_at old conn ≡ Some pending → RecordGives bytes (Some pending) (Some left) result
-    → ConsumeGives conn (length pending - length left) (Ok n) old new → LeadsOn (Take conn n) old new → TakesRecord conn old (as_read bytes result) new
-takes conn old new pending left bytes result n is gives drops leads =
+    → ConsumeGives conn (length pending - length left) (Ok n) old new → ExtendsHistory (Take conn n) old new → TakesRecord conn old (as_read bytes result) new
+takes conn old new pending left bytes result n is gives drops history =
     let d = dropped conn (length pending - length left) (Ok n) old new pending is drops in
     let m : n ≡ d.0 = value (Ok n) n d.0 refl d.1 in
     let short = within bytes pending left result gives in
@@ -60,13 +60,13 @@ takes conn old new pending left bytes result n is gives drops leads =
         read = as_bytes bytes (Some pending) (Some left) result gives;
         count = n;
         counted = omega (arith, count, short);
-        leads = leads;
-        stays = d.3 ∙ ap (λ k. Some (drop k pending)) (sym m ∙ count) ∙ ap Some (behind bytes pending left result gives);
+        extends = history;
+        stays = d.3 ∙ ap (λ k. Some (drop k pending)) (sym m ∙ count) ∙ ap Some (taken_after bytes pending left result gives);
       },
     )
   where
-    value : (told : Result ℕ HubFault) (a b : ℕ) → told ≡ Ok a → told ≡ Ok b → a ≡ b
-    value told a b p q = cc
+    value : (answer : Result ℕ HubFault) (a b : ℕ) → answer ≡ Ok a → answer ≡ Ok b → a ≡ b
+    value answer a b p q = cc
 
     all : (a b : ℕ) → min (a - b) a ≡ a - b
     all a b = omega arith
@@ -75,5 +75,5 @@ takes conn old new pending left bytes result n is gives drops leads =
 pub never : {A : Type 0} (conn most : ℕ) (fault : HubFault) (old new : Hub A) (pending : List ℕ) → pending_at old conn ≡ Some pending → ConsumeGives conn most (Err fault) old new → ⊥
 never conn most fault old new pending is gives = let d = dropped conn most (Err fault) old new pending is gives in no (Err fault) d.0 refl d.1
   where
-    no : (told : Result ℕ HubFault) (n : ℕ) → told ≡ Err fault → told ≡ Ok n → ⊥
-    no told n p q = cc
+    no : (answer : Result ℕ HubFault) (n : ℕ) → answer ≡ Err fault → answer ≡ Ok n → ⊥
+    no answer n p q = cc

@@ -1,11 +1,11 @@
--- A connection of a hub as the transport of a client: a call is one piece of the connection, and the
--- record after it is taken of the replies that are pending then.
+-- A connection of a hub as the transport of a client. A call is one piece of the connection. The record after it is
+-- taken from the replies that are pending then.
 use Rattle.std.specs.Prelude.{◌≡◌, ◌≢◌, ◌↔◌, ◌⊎◌, ℕ, ◌+◌, true, false, List, ◌∷◌, length, Option, Some, None}
 use Rattle.std.specs.Prelude.{IsNone, IsErrOf, is_err, option_map, Result, Ok, Err}
 use Rattle.nfs_types.specs.declared.moment.Moment.{Moment}
 use Rattle.nfs_hub.specs.Answer.{Served}
 use Rattle.nfs_hub.specs.Machine.{Event, Piece, Take}
-use Rattle.nfs_hub.specs.Hub.{LeadsTo, Goes, BreaksSo, broken_at, pending_at}
+use Rattle.nfs_hub.specs.Hub.{IsHistoryOf, Goes, BreaksInPiece, broken_at, pending_at}
 use Rattle.nfs_hub.specs.declared.hub.Hub.{Hub}
 use Rattle.nfs_hub.specs.declared.fault.HubFault.{HubFault}
 use Rattle.nfs_hub.specs.declared.fault.HubFault.TheVariants.{TooMany, NoSuch, Broken, Exhausted}
@@ -26,41 +26,40 @@ pub record IsMomentOf {A : Type 0} (l : Local A) (moment : Moment) : Type 0 wher
   pub seconds : moment.seconds ≡ l.seconds
   pub whole : moment.nanoseconds ≡ 0
 
--- these events lead on from the hub before to the hub after
-pub record LeadsOn {A : Type 0} (event : Event) (old new : Hub A) : Type 0 where
+-- this event changes the hub, and extends each history that leads to it
+pub record ExtendsHistory {A : Type 0} (event : Event) (old new : Hub A) : Type 0 where
   pub goes : Goes event old new
-  pub leads : (first : Served) (events : List Event) → LeadsTo first events old → LeadsTo first (event ∷ events) new
+  pub extends : (first : Served) (events : List Event) → IsHistoryOf first events old → IsHistoryOf first (event ∷ events) new
 
--- A piece comes to the connection at the stream's moment, and the hub answers this.
-pub record Fed {A : Type 0} (l : Local A) (old : Hub A) (piece : List ℕ) (told : Result (Unit {0}) HubFault)
+-- A piece arrives at the connection at the stream's moment, and the hub answers this.
+pub record Fed {A : Type 0} (l : Local A) (old : Hub A) (piece : List ℕ) (answer : Result (Unit {0}) HubFault)
     (new : Hub A) : Type 0 where
   pub moment : Moment
   pub is_moment : IsMomentOf l moment
-  pub leads : LeadsOn (Piece l.conn piece moment) old new
-  pub no_such : IsErrOf told NoSuch ↔ IsNone (broken_at old l.conn)
-  pub broken : broken_at new l.conn ≡ option_map (λ was. is_err told) (broken_at old l.conn)
-  pub stays : broken_at old l.conn ≡ Some true → told ≡ Err Broken
-  pub breaks : told ≡ Err Broken → broken_at old l.conn ≡ Some false → BreaksSo l.conn piece moment old new
-  pub faults : (told ≢ Err TooMany) × (told ≢ Err Exhausted)
+  pub extends : ExtendsHistory (Piece l.conn piece moment) old new
+  pub no_such : IsErrOf answer NoSuch ↔ IsNone (broken_at old l.conn)
+  pub broken : broken_at new l.conn ≡ option_map (λ was. is_err answer) (broken_at old l.conn)
+  pub stays : broken_at old l.conn ≡ Some true → answer ≡ Err Broken
+  pub breaks : answer ≡ Err Broken → broken_at old l.conn ≡ Some false → BreaksInPiece l.conn piece moment old new
+  pub faults : (answer ≢ Err TooMany) × (answer ≢ Err Exhausted)
 
--- The first of the pending bytes are taken: a record, or bytes that are none.
+-- The first of the pending bytes are taken: a record, or bytes that are no record.
 pub record TakesOf {A : Type 0} (conn : ℕ) (pending : List ℕ) (old : Hub A) (result : Result (List ℕ) ToolFault)
     (new : Hub A) : Type 0 where
   pub left : List ℕ
   pub read : RecordGives itself (Some pending) (Some left) result
   pub count : ℕ
   pub counted : count + length left ≡ length pending
-  pub leads : LeadsOn (Take conn count) old new
+  pub extends : ExtendsHistory (Take conn count) old new
   pub stays : pending_at new conn ≡ Some left
 
--- the first record of what is pending on the connection is taken, if the connection is open
+-- the first pending record of the connection is taken, if the connection is open
 abbrev pub TakesRecord : {A : Type 0} → ℕ → Hub A → Result (List ℕ) ToolFault → Hub A → Type 0
 TakesRecord conn old result new =
     ((pending_at old conn ≡ None) × (result ≡ Err Read) × (new ≡ old))
     ⊎ ((pending : List ℕ) × (pending_at old conn ≡ Some pending) × TakesOf conn pending old result new)
 
--- The call is refused as a piece; or it comes as one piece, and the first record that is pending
--- then is taken.
+-- The call is refused as a piece; or it arrives as one piece, and the first record that is pending then is taken.
 abbrev pub LocalTalks : {A : Type 0} → Local A → List ℕ → Result (List ℕ) ToolFault → Local A → Type 0
 LocalTalks {A} old call result new =
     IsSameStream old new

@@ -6,7 +6,7 @@ use Rattle.nfs_hub.specs.Machine.{Reload}
 use Rattle.nfs_hub.specs.Hub.{ReloadGives}
 use Rattle.nfs_hub.specs.declared.hub.Hub.{Hub}
 use Rattle.nfs_hub.specs.declared.fault.Unloaded.{Unloaded}
-use Rattle.nfs_tool.specs.LocalStreams.{LeadsOn}
+use Rattle.nfs_tool.specs.LocalStreams.{ExtendsHistory}
 use Rattle.nfs_tool.specs.declared.reloading.LoadFault.{LoadFault}
 use Rattle.nfs_tool.specs.declared.reloading.LoadFault.TheVariants.{NoText, NoBook, Exhausted}
 
@@ -14,7 +14,7 @@ use Rattle.nfs_tool.specs.declared.reloading.LoadFault.TheVariants.{NoText, NoBo
 abbrev pub Giving : Type 0 → Type 1
 Giving T = T → List ℕ → Option (List ℕ) → T → Type 0
 
--- the hub and the texts by their names that a script is lent
+-- the hub and the texts by their names that a script borrows
 pub record Lent (A T : Type 0) : Type 0 where
   pub hub : Hub A
   pub texts : T
@@ -31,18 +31,18 @@ BookGives gives name old new (Err (NoBook fault)) =
 BookGives gives name old new (Err Exhausted) = ⊥
 
 -- a hub loads a book, with this result
-pub record Comes {A : Type 0} (book : Content) (told : Result Content Unloaded) (old new : Hub A) : Type 0 where
-  pub leads : LeadsOn (Reload book) old new
-  pub gives : ReloadGives book told old new
+pub record BookLoads {A : Type 0} (book : Content) (answer : Result Content Unloaded) (old new : Hub A) : Type 0 where
+  pub extends : ExtendsHistory (Reload book) old new
+  pub gives : ReloadGives book answer old new
 
--- The hub takes the book, or has no epoch for it; where there is no book, the hub stays.
+-- The hub takes the book, or has no epoch for it. If there is no book, the hub is unchanged.
 abbrev pub Loads : {A T : Type 0} → Giving T → List ℕ → Lent A T → Lent A T → Result (Unit {0}) LoadFault → Type 0
 Loads gives name old new (Ok done) =
     (book : Content) × (earlier : Content) × BookGives gives name old.texts new.texts (Ok book)
-    × Comes book (Ok earlier) old.hub new.hub
+    × BookLoads book (Ok earlier) old.hub new.hub
 Loads gives name old new (Err NoText) = BookGives gives name old.texts new.texts (Err NoText) × (new.hub ≡ old.hub)
 Loads gives name old new (Err (NoBook fault)) =
     BookGives gives name old.texts new.texts (Err (NoBook fault)) × (new.hub ≡ old.hub)
 Loads gives name old new (Err Exhausted) =
     (book : Content) × (unloaded : Unloaded) × BookGives gives name old.texts new.texts (Ok book)
-    × Comes book (Err unloaded) old.hub new.hub
+    × BookLoads book (Err unloaded) old.hub new.hub

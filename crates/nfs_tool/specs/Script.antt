@@ -18,12 +18,12 @@ use Rattle.nfs_client.specs.AnswerTexts.{answer_text, ok_line}
 use Rattle.nfs_client.specs.FaultTexts.{fault_text}
 use Rattle.nfs_tool.specs.Reloading.{Giving, Lent, Loads}
 use Rattle.nfs_client.specs.Running.{Runs}
-use Rattle.nfs_tool.specs.ScriptLines.{Said, Run, Reload, is_skipped, line_in}
+use Rattle.nfs_tool.specs.ScriptLines.{Order, Run, Reload, is_skipped, line_in}
 use Rattle.nfs_client.specs.Sessions.{ClientOwner, Begins, EndGives}
 use Rattle.nfs_client.specs.Talking.{Talking}
 use Rattle.nfs_client.specs.Words.{CommandLine}
 use Rattle.nfs_client.specs.declared.client.Client.{Client}
-use Rattle.nfs_tool.specs.LocalStreams.{LeadsOn, LocalTalks}
+use Rattle.nfs_tool.specs.LocalStreams.{ExtendsHistory, LocalTalks}
 use Rattle.nfs_tool.specs.declared.local.Local.{Local}
 use Rattle.nfs_tool.specs.declared.reloading.LoadFault.{LoadFault}
 use Rattle.nfs_tool.specs.declared.reloading.LoadFault.TheVariants.{NoText, NoBook, Exhausted}
@@ -41,11 +41,11 @@ owner = codes "nfsc"
 -- A client that begins with a session runs a command, and ends its session; or no session begins.
 abbrev pub RunsOver : {S A : Type 0} → Talking S → CommandLine → ClientOwner → Client S A → Client S A
     → Result (Answer A) ToolFault → Type 0
-RunsOver {S} {A} talks command start old new told =
-    ((fault : ToolFault) × Begins talks start old new (Err fault) × (told ≡ Err fault))
+RunsOver {S} {A} talks command start old new outcome =
+    ((fault : ToolFault) × Begins talks start old new (Err fault) × (outcome ≡ Err fault))
     ⊎ ((begun : Client S A) × (ran : Client S A) × (ended : Result (Unit {0}) ToolFault)
     × Begins talks start old begun (Ok tt)
-    × Runs talks command begun ran told
+    × Runs talks command begun ran outcome
     × EndGives talks ran new ended)
 
 -- a client whose connection isn't opened can't write to it
@@ -56,48 +56,48 @@ unconnected hub_fault.Exhausted = Write
 unconnected hub_fault.NoSuch = Write
 unconnected hub_fault.Broken = Write
 
--- A new client of this user and group, whose calls come to this connection of the hub at the moment
--- of as many whole seconds.
-pub record IsCaller {A : Type 0} (conn number : ℕ) (said : Said) (hub : Hub A) (client : Client (Local A) A)
+-- A new client of this user and group. Its calls arrive at this connection of the hub, at the moment of `number`
+-- whole seconds.
+pub record IsCaller {A : Type 0} (conn number : ℕ) (order : Order) (hub : Hub A) (client : Client (Local A) A)
     : Type 0 where
-  pub user : client.uid ≡ said.uid
-  pub group : client.gid ≡ said.gid
+  pub user : client.uid ≡ order.uid
+  pub group : client.gid ≡ order.gid
   pub usable : client.usable ≡ true
   pub over : client.stream.hub.now ≡ hub
   pub on : client.stream.conn ≡ conn
   pub seconds : client.stream.seconds ≡ pos number
 
--- Over a connection that is open the client of a line has its session and runs the line's command.
--- Its exchanges lead from the hub before to the hub after. No two lines have one verifier.
-pub record Visits {A : Type 0} (conn number : ℕ) (said : Said) (old new : Hub A) (told : Result (Answer A) ToolFault)
+-- Over an open connection the client of a line has its session and runs the line's command. Its exchanges change the
+-- hub from the old one to the new one. No two lines have the same verifier.
+pub record Visits {A : Type 0} (conn number : ℕ) (order : Order) (old new : Hub A) (outcome : Result (Answer A) ToolFault)
     : Type 0 where
   pub first : Client (Local A) A
   pub last : Client (Local A) A
-  pub caller : IsCaller conn number said old first
-  pub runs : RunsOver LocalTalks said.command (record { id = owner; verifier = to_be_bytes w64 number }) first last told
+  pub caller : IsCaller conn number order old first
+  pub runs : RunsOver LocalTalks order.command (record { id = owner; verifier = to_be_bytes w64 number }) first last outcome
   pub after : last.stream.hub.now ≡ new
 
 -- A connection is opened, a client runs a command over it, and it is closed.
-pub record Connects {A : Type 0} (number : ℕ) (said : Said) (old new : Hub A) (told : Result (Answer A) ToolFault)
+pub record Connects {A : Type 0} (number : ℕ) (order : Order) (old new : Hub A) (outcome : Result (Answer A) ToolFault)
     : Type 0 where
   pub conn : ℕ
   pub opened : Hub A
-  pub opens : LeadsOn Connect old opened
+  pub opens : ExtendsHistory Connect old opened
   pub is_open : ConnectGives (Ok conn) old opened
   pub last : Hub A
-  pub visits : Visits conn number said opened last told
-  pub closes : LeadsOn (Close conn) last new
+  pub visits : Visits conn number order opened last outcome
+  pub closes : ExtendsHistory (Close conn) last new
 
 -- the hub refuses a connection
-pub record IsKeptOut {A : Type 0} (old new : Hub A) (told : Result (Answer A) ToolFault) : Type 0 where
+pub record IsKeptOut {A : Type 0} (old new : Hub A) (outcome : Result (Answer A) ToolFault) : Type 0 where
   pub why : HubFault
-  pub tries : LeadsOn Connect old new
+  pub tries : ExtendsHistory Connect old new
   pub refused : ConnectGives (Err why) old new
-  pub answer : told ≡ Err (unconnected why)
+  pub answer : outcome ≡ Err (unconnected why)
 
 -- the effect on the hub of the command in the line of this number, and its answer
-abbrev pub RunGives : {A : Type 0} → ℕ → Said → Hub A → Hub A → Result (Answer A) ToolFault → Type 0
-RunGives number said old new told = IsKeptOut old new told ⊎ Connects number said old new told
+abbrev pub RunGives : {A : Type 0} → ℕ → Order → Hub A → Hub A → Result (Answer A) ToolFault → Type 0
+RunGives number order old new outcome = IsKeptOut old new outcome ⊎ Connects number order old new outcome
 
 -- ---- the text that is printed
 
@@ -109,9 +109,9 @@ abbrev pub fault_line : ToolFault → List ℕ
 fault_line fault = fault_text fault ++ 10 ∷ []
 
 -- the text of an answer, or of a fault
-abbrev pub told_text : {A : Type 0} → Result (Answer A) ToolFault → List ℕ
-told_text (Ok answer) = answer_text answer
-told_text (Err fault) = fault_line fault
+abbrev pub answer_or_fault_text : {A : Type 0} → Result (Answer A) ToolFault → List ℕ
+answer_or_fault_text (Ok answer) = answer_text answer
+answer_or_fault_text (Err fault) = fault_line fault
 
 -- the answer isn't `failed`
 abbrev pub is_answered : {A : Type 0} → Result (Answer A) ToolFault → Bool
@@ -134,7 +134,7 @@ book_number book_fault.Member = 6
 abbrev pub book_text : BookFault → List ℕ
 book_text fault = codes "book " ++ decimal (book_number fault)
 
--- the text for loading another book; a hub without an epoch for the book is printed as a hub without a connection left
+-- the text for loading another book; without an epoch left it is the text for a hub without a connection left
 abbrev pub load_text : Result (Unit {0}) LoadFault → List ℕ
 load_text (Ok done) = ok_line
 load_text (Err NoText) = bad_line
@@ -155,27 +155,27 @@ pub record Output : Type 0 where
 abbrev pub output : List ℕ → Bool → Output
 output text good = record { text = text; good = good }
 
--- the command of the line of this number runs over the hub, and its answer is printed; the texts stay
+-- the command of the line of this number runs over the hub, and its answer is printed; the texts are unchanged
 pub record Asked {A T : Type 0} (number : ℕ) (old new : Lent A T) (line : List ℕ) (out : Output) : Type 0 where
   pub asks : is_skipped line ≡ false
-  pub said : Said
-  pub is : line_in line ≡ Some (Run said)
-  pub told : Result (Answer A) ToolFault
-  pub runs : RunGives number said old.hub new.hub told
-  pub text : out.text ≡ told_text told
-  pub answered : out.good ≡ is_answered told
+  pub order : Order
+  pub is : line_in line ≡ Some (Run order)
+  pub result : Result (Answer A) ToolFault
+  pub runs : RunGives number order old.hub new.hub result
+  pub text : out.text ≡ answer_or_fault_text result
+  pub answered : out.good ≡ is_answered result
   pub stays : new.texts ≡ old.texts
 
--- another book is loaded, or isn't, and that is printed
+-- another book is loaded, or isn't, and the outcome is printed
 pub record Reloaded {A T : Type 0} (gives : Giving T) (old new : Lent A T) (line : List ℕ)
     (out : Output) : Type 0 where
   pub asks : is_skipped line ≡ false
   pub name : List ℕ
   pub is : line_in line ≡ Some (Reload name)
-  pub told : Result (Unit {0}) LoadFault
-  pub loads : Loads gives name old new told
-  pub text : out.text ≡ load_text told
-  pub answered : out.good ≡ is_loaded told
+  pub result : Result (Unit {0}) LoadFault
+  pub loads : Loads gives name old new result
+  pub text : out.text ≡ load_text result
+  pub answered : out.good ≡ is_loaded result
 
 -- The effect and the output of the line of this number. A skipped line prints no text.
 abbrev pub LinePrints : {A T : Type 0} → Giving T → ℕ → Lent A T → Lent A T → List ℕ → Output → Type 0
@@ -208,7 +208,7 @@ abbrev pub AreLines : List (List ℕ) → Type 0
 AreLines [] = Unit {0}
 AreLines (line ∷ before) = (list_all is_within line ≡ true) × AreLines before
 
--- a text is these lines, with a newline after each, and the last line without a newline
+-- a text is these lines, with a newline after each, and then the last line without a newline
 pub record IsCut (text : List ℕ) (lines : List (List ℕ)) (last : List ℕ) : Type 0 where
   pub parts : text ≡ joined lines ++ last
   pub are_lines : AreLines lines
@@ -216,7 +216,7 @@ pub record IsCut (text : List ℕ) (lines : List (List ℕ)) (last : List ℕ) :
 
 -- ---- the trail
 
--- the total of the trail, and the lines that are kept
+-- a kept line of the trail, as printed
 abbrev pub trail_line : Line → List ℕ
 trail_line l = line_text l ++ 10 ∷ []
 
@@ -228,14 +228,14 @@ IsTrailOf hub text = (s : State) → IsHub hub s → text ≡ trail_text s.serve
 
 -- ---- a script
 
--- a script fails where its reader or its writer fails, or for want of memory
+-- a script fails if its reader, its writer or an allocation fails
 abbrev pub IsScriptFault : ToolFault → Type 0
 IsScriptFault Read = Unit {0}
 IsScriptFault Write = Unit {0}
 IsScriptFault Memory = Unit {0}
 IsScriptFault fault = ⊥
 
--- the hub and the texts that a script is lent, with what its writer holds
+-- the hub and the texts that a script borrows, with the bytes of its writer
 pub record Printing (A T : Type 0) : Type 0 where
   pub lent : Lent A T
   pub held : Option (List ℕ)
@@ -251,7 +251,7 @@ pub record Underway (A T : Type 0) : Type 0 where
 abbrev pub underway : {A T : Type 0} → Progress A → Printing A T → Underway A T
 underway progress printing = record { progress = progress; printing = printing }
 
--- the same, with what is left of the script for its reader
+-- the same, with the rest of the script for its reader
 pub record Unread (A T : Type 0) : Type 0 where
   pub left : Option (List ℕ)
   pub printing : Printing A T
@@ -259,8 +259,7 @@ pub record Unread (A T : Type 0) : Type 0 where
 abbrev pub unread : {A T : Type 0} → Option (List ℕ) → Printing A T → Unread A T
 unread left printing = record { left = left; printing = printing }
 
--- a script up to now: the hub and the texts as it found them, what was read of it (a text, or lines),
--- and what was printed
+-- the past of a script: the hub and the texts at its start, what was read (a text, or lines), and what was printed
 pub record Past (A T X : Type 0) : Type 0 where
   pub first : Lent A T
   pub read : X
@@ -269,8 +268,8 @@ pub record Past (A T X : Type 0) : Type 0 where
 abbrev pub past : {A T X : Type 0} → Lent A T → X → List ℕ → Past A T X
 past first read printed = record { first = first; read = read; printed = printed }
 
--- the state of a script after the text that it read
-pub record Stands {A T : Type 0} (gives : Giving T) (before : Past A T (List ℕ)) (here : Underway A T) : Type 0 where
+-- the state of a script after the text that it has read
+pub record HasRun {A T : Type 0} (gives : Giving T) (before : Past A T (List ℕ)) (here : Underway A T) : Type 0 where
   pub whole : List (List ℕ)
   pub cut : IsCut before.read whole here.progress.line.items
   pub counted : here.progress.lines ≡ length whole
@@ -289,10 +288,10 @@ Puts text held held' (Err fault) = fault ≡ Write
 abbrev pub WritesLine : {X : Type 0} → List ℕ → Option (List ℕ) → Option (List ℕ) → Result X ToolFault → Type 0
 WritesLine text held held' result = Puts (text ++ 10 ∷ []) held held' result
 
--- an output is printed, and whether it is good is answered; or the writer fails
-abbrev pub Tells : Output → Option (List ℕ) → Option (List ℕ) → Result Bool ToolFault → Type 0
-Tells out held held' (Ok told) = (told ≡ out.good) × Appends held held' out.text
-Tells out held held' (Err fault) = fault ≡ Write
+-- an output is printed, and whether it is good is returned; or the writer fails
+abbrev pub Prints : Output → Option (List ℕ) → Option (List ℕ) → Result Bool ToolFault → Type 0
+Prints out held held' (Ok outcome) = (outcome ≡ out.good) × Appends held held' out.text
+Prints out held held' (Err fault) = fault ≡ Write
 
 -- the text of the line of this number is written
 abbrev pub LineWrites : {A T : Type 0} → Giving T → ℕ → Printing A T → Printing A T → List ℕ → Result Bool ToolFault
@@ -302,7 +301,7 @@ LineWrites gives number old new line (Ok good) =
     × Appends old.held new.held printed
 LineWrites gives number old new line (Err fault) = IsScriptFault fault
 
--- the line that was read so far is answered after these lines, and stays
+-- the read part of a line is answered after these lines, and stays
 pub record Answered {A T : Type 0} (gives : Giving T) (before : Past A T (List (List ℕ)))
     (old new : Underway A T) : Type 0 where
   pub printed : List ℕ
@@ -319,13 +318,13 @@ Answers {A = A} {T = T} gives old new (Ok done) =
     → Answered gives (past first whole out) old new
 Answers gives old new (Err fault) = IsScriptFault fault
 
--- the script goes on after this piece, and the text printed for it is written
+-- the script has read this piece too, and the text printed for it is written
 abbrev pub GoesOn : {A T : Type 0} → Giving T → Underway A T → Underway A T → List ℕ → Result (Unit {0}) ToolFault
     → Type 0
 GoesOn {A = A} {T = T} gives old new piece (Ok done) =
-    (before : Past A T (List ℕ)) → Stands gives before old
+    (before : Past A T (List ℕ)) → HasRun gives before old
     → (printed : List ℕ) × Appends old.printing.held new.printing.held printed
-    × Stands gives (past before.first (before.read ++ piece) (before.printed ++ printed)) new
+    × HasRun gives (past before.first (before.read ++ piece) (before.printed ++ printed)) new
 GoesOn gives old new piece (Err fault) = IsScriptFault fault
 
 -- the trail of a hub is written
@@ -333,7 +332,7 @@ abbrev pub WritesTrail : {A X : Type 0} → Hub A → Option (List ℕ) → Opti
 WritesTrail hub held held' (Ok x) = (text : List ℕ) × IsTrailOf hub text × Appends held held' text
 WritesTrail hub held held' (Err fault) = fault ≡ Write
 
--- the last line is answered, and after it comes the trail of the hub in its state then
+-- the last line is answered, and then the trail of the hub is written
 pub record Finished {A T : Type 0} (gives : Giving T) (before : Past A T (List ℕ)) (old : Underway A T)
     (new : Printing A T) (good : Bool) : Type 0 where
   pub whole : List (List ℕ)
@@ -347,22 +346,22 @@ pub record Finished {A T : Type 0} (gives : Giving T) (before : Past A T (List �
 
 abbrev pub Finishes : {A T : Type 0} → Giving T → Underway A T → Printing A T → Result Bool ToolFault → Type 0
 Finishes {A = A} {T = T} gives old new (Ok good) =
-    (before : Past A T (List ℕ)) → Stands gives before old → Finished gives before old new good
+    (before : Past A T (List ℕ)) → HasRun gives before old → Finished gives before old new good
 Finishes gives old new (Err fault) = IsScriptFault fault
 
 -- the most reads of a script
 abbrev pub MOST_READS : ℕ
 MOST_READS = 1000000
 
--- what was read: at most this many pieces, each of at least a byte and at most 4,096
+-- the bytes that were read: at most `most` pieces, each of at least one byte and at most 4,096
 pub record Reads (most : ℕ) (left left' : Option (List ℕ)) : Type 0 where
   pub pieces : List (List ℕ)
   pub are : All IsPiece pieces
   pub few : length pieces ≤ most
   pub read : Consumes left left' (concat pieces)
 
--- All of the reader was read, and each of its lines was answered; after them comes the trail of the
--- hub in its state then. The read that finds the end is one of the most reads.
+-- The reader was read to its end, and each line was answered; then the trail of the hub was written. The read that
+-- finds the end is one of the most reads.
 pub record Ended {A T : Type 0} (gives : Giving T) (old new : Unread A T) (good : Bool) : Type 0 where
   pub reads : Reads (MOST_READS - 1) old.left new.left
   pub at_end : IsAtEnd new.left

@@ -9,7 +9,7 @@ mod scripting;
 
 pub use local::Local;
 pub use nfs_client::{
-    Answer, Client, Command, EntryText, FaultText, ListPart, Listed, Path, ToolFault, Transport,
+    AclPart, Answer, Client, Command, EntryText, FaultText, Listed, Path, ToolFault, Transport,
     an_entry_as_text_is_read, mode_text, read_mode,
 };
 pub use reloading::Texts;

@@ -6,8 +6,8 @@ use nfs_hub::{ConnId, Hub, HubFault};
 use nfs_types::Moment;
 use std::alloc::{Allocator, Global};
 
-/// A connection of a hub, which is lent. A call comes to the connection as one piece. The record
-/// after it is taken from the replies that are pending on it then.
+/// A connection of a borrowed hub. A call arrives at the connection as one piece. The record after it is taken from
+/// the replies that are pending on it then.
 #[derive(Drop)]
 pub struct Local<'h, A: Allocator + Copy = Global> {
     pub(crate) hub: &'h mut Hub<A>,
@@ -23,8 +23,8 @@ impl<'h, A: Allocator + Copy> Local<'h, A> {
     ghost use Rattle.nfs_hub.specs.Hub.{pending_at};
     ghost use Rattle.nfs_tool.specs.LocalStreams.{IsMomentOf, IsSameStream, Fed, TakesRecord};
 
-    /// A transport over the connection of this number; each of its pieces comes this many whole
-    /// seconds after the epoch.
+    /// A transport over the connection of this number. Each of its pieces arrives at `seconds` seconds after the
+    /// epoch.
     pub fn new(hub: &'h mut Hub<A>, conn: ConnId, seconds: i64) -> Self
         ensures same_hub { result.hub.ghost_name ≡ hub.entry.ghost_name }
         ensures hub { result.hub.now ≡ hub.old }
@@ -52,7 +52,7 @@ impl<'h, A: Allocator + Copy> Local<'h, A> {
         self.hub.feed(self.conn, bytes, moment)
     }
 
-    /// Takes the first record of the pending bytes. `Read`: they are no whole record.
+    /// Takes the first record of the pending bytes. `Read`: they are no complete record.
     fn take_record<B: Allocator>(&mut self, alloc: B) -> Result<Vec<u8, B>, ToolFault>
         ensures same { IsSameStream self.old self.new }
         ensures takes { TakesRecord self.old.conn self.old.hub.now (as_read (λ v. v.items) result) self.new.hub.now }
@@ -61,10 +61,10 @@ impl<'h, A: Allocator + Copy> Local<'h, A> {
             return Err(ToolFault::Read);
         };
         let mut left = pending;
-        let told = read_record(alloc, &mut left);
+        let answer = read_record(alloc, &mut left);
         let taken = pending.len() - left.len();
         match self.hub.consume(self.conn, taken) {
-            Ok(_) => told,
+            Ok(_) => answer,
             Err(_) => Err(ToolFault::Read),
         }
     }

@@ -1,4 +1,4 @@
-//! Loading another book of names behind a hub.
+//! Loading another book of names into a hub.
 ghost use Rattle.std.specs.Prelude.{◌≡◌};
 ghost use Rattle.nfs_tool.specs.Reloading.{BookGives, Loads, lent};
 
@@ -6,7 +6,7 @@ use nfs_hub::Hub;
 use std::alloc::{Allocator, Global};
 use who_book::{Book, BookFault};
 
-/// Texts by their names, as those of files.
+/// Texts by their names, for example of files.
 pub trait Texts {
     ghost use Rattle.std.specs.Prelude.{ℕ, List, Option, option_map, string_bytes};
 
@@ -18,7 +18,7 @@ pub trait Texts {
         ensures { text_gives self.old name.now (option_map string_bytes result) self.new };
 }
 
-/// The faults of loading another book.
+/// Why another book isn't loaded.
 #[derive(Clone, Copy, Debug)]
 pub(crate) enum LoadFault {
     /// The name has no text.

@@ -2,9 +2,9 @@
 ghost use Rattle.std.specs.Prelude.{◌≡◌, map, option_map, IfOk};
 ghost use Rattle.std.specs.List.{list_all};
 ghost use Rattle.std.specs.Str.{is_utf8};
-ghost use Rattle.nfs_tool.specs.ScriptLines.{number_in, is_space, is_comment, is_skipped, words_in, said_in, text_in};
+ghost use Rattle.nfs_tool.specs.ScriptLines.{number_in, is_space, is_comment, is_skipped, words_in, order_in, text_in};
 ghost use Rattle.nfs_tool.specs.ScriptLines.{reload_in, wish_in};
-ghost use Rattle.nfs_tool.specs.ScriptViews.{said_line, wish_line};
+ghost use Rattle.nfs_tool.specs.ScriptViews.{order_line, wish_line};
 
 use nfs_client::Command;
 use std::alloc::{AllocError, Allocator};
@@ -15,23 +15,23 @@ const RELOAD: &[u8] = b"reload";
 
 /// A command and its caller.
 #[derive(Clone, Copy, Debug)]
-pub(crate) struct Said<'a> {
+pub(crate) struct Order<'a> {
     pub(crate) uid: u32,
     pub(crate) gid: u32,
     pub(crate) command: Command<'a>,
 }
 
-/// The wish of a line of a script.
+/// The request of a line of a script.
 #[derive(Clone, Copy, Debug)]
 pub(crate) enum Wish<'a> {
     /// `as UID GID COMMAND ..`: a command is run.
-    Run(Said<'a>),
+    Run(Order<'a>),
     /// `reload FILE`: the text of this name becomes the book.
     Reload(&'a str),
 }
 
-/// The number of decimal digits; there may be zeros in front. `None`: a byte is no digit, or the
-/// number has more than 32 bits.
+/// The number of decimal digits; leading zeros are allowed. `None`: a byte is no digit, or the number has more than
+/// 32 bits.
 fn number_in(word: &[u8]) -> Option<u32>
     ensures { result ≡ number_in word.now }
 {
@@ -61,7 +61,7 @@ fn is_blank(line: &[u8]) -> bool
     line.iter().all(|byte| *byte == b' ')
 }
 
-/// Whether a line has no wish: it has nothing but spaces, or begins with `#`.
+/// Whether a line has no request: it has nothing but spaces, or begins with `#`.
 pub(crate) fn is_skipped(line: &[u8]) -> bool
     ensures { result ≡ is_skipped line.now }
 {
@@ -104,10 +104,10 @@ fn reload_in<'a>(words: &'a [&'a [u8]]) -> Option<&'a str>
     text_in(name)
 }
 
-impl<'a> Said<'a> {
+impl<'a> Order<'a> {
     /// The command of words: `as`, a uid and a gid in decimal digits, and a command with its number of words.
     pub(crate) fn read(words: &'a [&'a [u8]]) -> Option<Self>
-        ensures { option_map said_line result ≡ said_in (map (λ w. w.now) words.entry.now) }
+        ensures { option_map order_line result ≡ order_in (map (λ w. w.now) words.entry.now) }
     {
         let [word, uid, gid, rest @ ..] = words else {
             return None;
@@ -118,17 +118,17 @@ impl<'a> Said<'a> {
         let uid = number_in(uid)?;
         let gid = number_in(gid)?;
         let command = Command::read(rest)?;
-        Some(Said { uid, gid, command })
+        Some(Order { uid, gid, command })
     }
 }
 
 impl<'a> Wish<'a> {
-    /// The wish of words, if they have one.
+    /// The request of words, if they have one.
     pub(crate) fn read(words: &'a [&'a [u8]]) -> Option<Self>
         ensures { option_map wish_line result ≡ wish_in (map (λ w. w.now) words.entry.now) }
     {
-        match Said::read(words) {
-            Some(said) => Some(Wish::Run(said)),
+        match Order::read(words) {
+            Some(order) => Some(Wish::Run(order)),
             None => reload_in(words).map(Wish::Reload),
         }
     }

@@ -6,16 +6,17 @@ ghost use Rattle.nfs_client.specs.WordViews.{command_line};
 ghost use Rattle.nfs_tool.specs.Reloading.{lent};
 ghost use Rattle.nfs_tool.specs.Script.{RunsOver, Visits, RunGives, owner, unconnected, is_refusal, is_answered};
 ghost use Rattle.nfs_tool.specs.Script.{is_loaded};
-ghost use Rattle.nfs_tool.specs.Script.{fault_line, bad_line, book_number, book_text, told_text, load_text};
+ghost use Rattle.nfs_tool.specs.Script.{fault_line, bad_line, book_number, book_text, answer_or_fault_text, load_text};
 ghost use Rattle.nfs_tool.specs.Script.{trail_line, Puts};
-ghost use Rattle.nfs_tool.specs.Script.{WritesLine, Tells, LineWrites, IsFresh, Answers, GoesOn, WritesTrail, Finishes};
+ghost use Rattle.nfs_tool.specs.Script.{WritesLine, Prints, LineWrites, IsFresh, Answers, GoesOn, WritesTrail};
+ghost use Rattle.nfs_tool.specs.Script.{Finishes};
 ghost use Rattle.nfs_tool.specs.Script.{ScriptGives, output, printing, underway, unread};
 ghost use Rattle.nfs_tool.specs.ScriptLines.{is_skipped, words_in, line_in};
-ghost use Rattle.nfs_tool.specs.ScriptViews.{said_line, wish_line};
+ghost use Rattle.nfs_tool.specs.ScriptViews.{order_line, wish_line};
 
 use crate::local::Local;
 use crate::reloading::{LoadFault, Texts, load};
-use crate::script_line::{Said, Wish, is_skipped, is_text, words_in};
+use crate::script_line::{Order, Wish, is_skipped, is_text, words_in};
 use access_guard::{Guard, write_line};
 use itoa::Buffer;
 use nfs_client::{Answer, Client, Command, ToolFault, Transport, write_out};
@@ -27,7 +28,7 @@ use who_book::BookFault;
 /// The most bytes of one read.
 const PIECE: usize = 4096;
 
-/// The owner of each client of a script. They run one after the other, so they need no owner each.
+/// The owner of each client of a script. The clients run one after the other, so they can share it.
 const OWNER: &[u8] = b"nfsc";
 
 /// The most reads of a script.
@@ -36,11 +37,11 @@ const MOST_READS: u32 = 1_000_000;
 /// The part of a script that was read, and how it was answered.
 #[derive(Drop)]
 struct Progress<A: Allocator> {
-    /// The bytes of the line that isn't whole yet.
+    /// The bytes of the incomplete line.
     line: Vec<u8, A>,
-    /// The number of lines that were whole.
+    /// The number of complete lines.
     lines: u32,
-    /// Whether each line with a wish got it, or was refused by the server.
+    /// Whether each line's request was done, or was refused by the server.
     is_good: bool,
 }
 
@@ -56,8 +57,8 @@ fn unconnected(fault: HubFault) -> ToolFault
     }
 }
 
-/// Runs a command by a session of the client's own. The session is ended after the command, also
-/// where the command was refused.
+/// Runs a command by a session of the client's own. The session is ended after the command, also if the command was
+/// refused.
 fn run_over<S: Transport, A: Allocator + Copy>(
     client: &mut Client<S, A>,
     command: Command<'_>,
@@ -71,48 +72,48 @@ fn run_over<S: Transport, A: Allocator + Copy>(
         Ok(()) => {}
         Err(fault) => return Err(fault),
     }
-    let told = client.answer(command);
+    let outcome = client.answer(command);
     let _ = client.end();
-    told
+    outcome
 }
 
-/// Runs the command of the line of this number over a connection, at the moment of that many
-/// seconds. No two lines have one verifier.
+/// Runs the command of the line of this number over a connection. The moment is as many seconds as the number. No two
+/// lines have the same verifier.
 fn visit<A: Allocator + Copy>(
     alloc: A,
     hub: &mut Hub<A>,
     conn: ConnId,
-    said: Said<'_>,
+    order: Order<'_>,
     number: u32,
 ) -> Result<Answer<A>, ToolFault>
-    ensures { Visits conn number (said_line said.entry) hub.old hub.new result }
+    ensures { Visits conn number (order_line order.entry) hub.old hub.new result }
 {
     let local = Local::new(hub, conn, i64::from(number));
-    let mut client = Client::resume(alloc, local, said.uid, said.gid, 0, [0; 16], 0);
+    let mut client = Client::resume(alloc, local, order.uid, order.gid, 0, [0; 16], 0);
     let verifier = u64::from(number).to_be_bytes();
-    let told = run_over(&mut client, said.command, verifier);
+    let outcome = run_over(&mut client, order.command, verifier);
     let Local { hub, .. } = client.into_stream();
-    // No effect at run time. The proof reads what the client left of the hub from this use.
+    // No effect at run time. From this use the proof reads the hub's state after the client.
     let _ = &*hub;
-    told
+    outcome
 }
 
 /// Runs the command of the line of this number over a connection of its own.
 fn run<A: Allocator + Copy>(
     alloc: A,
     hub: &mut Hub<A>,
-    said: Said<'_>,
+    order: Order<'_>,
     number: u32,
 ) -> Result<Answer<A>, ToolFault>
-    ensures { RunGives number (said_line said.entry) hub.old hub.new result }
+    ensures { RunGives number (order_line order.entry) hub.old hub.new result }
 {
     let conn = match hub.connect() {
         Ok(conn) => conn,
         Err(fault) => return Err(unconnected(fault)),
     };
-    let told = visit(alloc, hub, conn, said, number);
+    let outcome = visit(alloc, hub, conn, order, number);
     let _ = hub.close(conn);
-    told
+    outcome
 }
 
 /// Writes a text and a newline.
@@ -125,9 +126,9 @@ fn put_line<W: Write>(text: &[u8], writer: &mut W) -> Result<(), ToolFault>
     }
 }
 
-/// Writes the text of a fault as a line. Whether the fault is a refusal by the server.
-fn tell_fault<W: Write>(fault: ToolFault, writer: &mut W) -> Result<bool, ToolFault>
-    ensures { Tells (output (fault_line fault) (is_refusal fault)) (W.contents writer.old)
+/// Writes the text of a fault as a line. Returns whether the fault is a refusal by the server.
+fn print_fault<W: Write>(fault: ToolFault, writer: &mut W) -> Result<bool, ToolFault>
+    ensures { Prints (output (fault_line fault) (is_refusal fault)) (W.contents writer.old)
         (W.contents writer.new) result }
 {
     match put_line(fault.text().as_bytes(), writer) {
@@ -136,26 +137,26 @@ fn tell_fault<W: Write>(fault: ToolFault, writer: &mut W) -> Result<bool, ToolFa
     }
 }
 
-/// Writes the answer to a line. Whether the answer isn't `failed`.
-fn tell<A: Allocator, W: Write>(
-    told: Result<Answer<A>, ToolFault>,
+/// Writes the answer to a line. Returns whether the answer isn't `failed`.
+fn print_answer<A: Allocator, W: Write>(
+    outcome: Result<Answer<A>, ToolFault>,
     writer: &mut W,
 ) -> Result<bool, ToolFault>
-    ensures { Tells (output (told_text told) (is_answered told)) (W.contents writer.old)
+    ensures { Prints (output (answer_or_fault_text outcome) (is_answered outcome)) (W.contents writer.old)
         (W.contents writer.new) result }
 {
-    match told {
+    match outcome {
         Ok(answer) => match write_out(writer, answer.as_bytes()) {
             Ok(()) => Ok(true),
             Err(fault) => Err(fault),
         },
-        Err(fault) => tell_fault(fault, writer),
+        Err(fault) => print_fault(fault, writer),
     }
 }
 
-/// Writes that a line has no wish, or names a book without a text.
-fn tell_bad_line<W: Write>(writer: &mut W) -> Result<bool, ToolFault>
-    ensures { Tells (output bad_line false) (W.contents writer.old) (W.contents writer.new) result }
+/// Writes `bad line`, for a line without a request or with a book without a text.
+fn print_bad_line<W: Write>(writer: &mut W) -> Result<bool, ToolFault>
+    ensures { Prints (output bad_line false) (W.contents writer.old) (W.contents writer.new) result }
 {
     match put_line(b"bad line", writer) {
         Ok(()) => Ok(false),
@@ -188,8 +189,8 @@ fn put_book<W: Write>(fault: BookFault, writer: &mut W) -> Result<(), ToolFault>
 }
 
 /// Writes that a text is no book.
-fn tell_book<W: Write>(fault: BookFault, writer: &mut W) -> Result<bool, ToolFault>
-    ensures { Tells (output (book_text fault ++ 10 ∷ []) false) (W.contents writer.old) (W.contents writer.new) result }
+fn print_book<W: Write>(fault: BookFault, writer: &mut W) -> Result<bool, ToolFault>
+    ensures { Prints (output (book_text fault ++ 10 ∷ []) false) (W.contents writer.old) (W.contents writer.new) result }
 {
     match put_book(fault, writer) {
         Ok(()) => Ok(false),
@@ -198,8 +199,8 @@ fn tell_book<W: Write>(fault: BookFault, writer: &mut W) -> Result<bool, ToolFau
 }
 
 /// Writes that another book is loaded.
-fn tell_loaded<W: Write>(writer: &mut W) -> Result<bool, ToolFault>
-    ensures { Tells (output (load_text (Ok tt)) true) (W.contents writer.old) (W.contents writer.new) result }
+fn print_loaded<W: Write>(writer: &mut W) -> Result<bool, ToolFault>
+    ensures { Prints (output (load_text (Ok tt)) true) (W.contents writer.old) (W.contents writer.new) result }
 {
     match put_line(b"ok", writer) {
         Ok(()) => Ok(true),
@@ -207,19 +208,19 @@ fn tell_loaded<W: Write>(writer: &mut W) -> Result<bool, ToolFault>
     }
 }
 
-/// Writes the outcome of loading another book. Whether it is loaded.
-fn tell_load<W: Write>(told: Result<(), LoadFault>, writer: &mut W) -> Result<bool, ToolFault>
-    ensures { Tells (output (load_text told) (is_loaded told)) (W.contents writer.old) (W.contents writer.new) result }
+/// Writes the outcome of loading another book. Returns whether it is loaded.
+fn print_load<W: Write>(outcome: Result<(), LoadFault>, writer: &mut W) -> Result<bool, ToolFault>
+    ensures { Prints (output (load_text outcome) (is_loaded outcome)) (W.contents writer.old) (W.contents writer.new) result }
 {
-    match told {
-        Ok(()) => tell_loaded(writer),
-        Err(LoadFault::NoText) => tell_bad_line(writer),
-        Err(LoadFault::NoBook(fault)) => tell_book(fault, writer),
-        Err(LoadFault::Exhausted) => tell_fault(unconnected(HubFault::Exhausted), writer),
+    match outcome {
+        Ok(()) => print_loaded(writer),
+        Err(LoadFault::NoText) => print_bad_line(writer),
+        Err(LoadFault::NoBook(fault)) => print_book(fault, writer),
+        Err(LoadFault::Exhausted) => print_fault(unconnected(HubFault::Exhausted), writer),
     }
 }
 
-/// The wish of a line with these words.
+/// The request of a line with these words.
 fn wished<'a>(line: &[u8], words: &'a [&'a [u8]]) -> Option<Wish<'a>>
     requires { map (λ w. w.now) words.now ≡ words_in line.now }
     ensures { option_map wish_line result ≡ line_in line.now }
@@ -231,8 +232,8 @@ fn wished<'a>(line: &[u8], words: &'a [&'a [u8]]) -> Option<Wish<'a>>
     }
 }
 
-/// Answers the line of this number, which isn't skipped. Whether the answer is neither `bad line`
-/// nor `failed` nor `book`.
+/// Answers the line of this number, which isn't skipped. Returns whether the answer is neither `bad line` nor
+/// `failed` nor `book`.
 fn answer_words<A: Allocator + Copy, T: Texts, W: Write>(
     alloc: A,
     global: Global,
@@ -248,13 +249,13 @@ fn answer_words<A: Allocator + Copy, T: Texts, W: Write>(
 {
     let words = words_in(alloc, line)?;
     match wished(line, &words) {
-        Some(Wish::Run(said)) => tell(run(alloc, hub, said, number), writer),
-        Some(Wish::Reload(name)) => tell_load(load(global, hub, texts, name), writer),
-        None => tell_bad_line(writer),
+        Some(Wish::Run(order)) => print_answer(run(alloc, hub, order, number), writer),
+        Some(Wish::Reload(name)) => print_load(load(global, hub, texts, name), writer),
+        None => print_bad_line(writer),
     }
 }
 
-/// Answers the line of this number. Whether the answer is neither `bad line` nor `failed` nor `book`.
+/// Answers the line of this number. Returns whether the answer is neither `bad line` nor `failed` nor `book`.
 fn answer_line<A: Allocator + Copy, T: Texts, W: Write>(
     alloc: A,
     global: Global,
@@ -291,8 +292,7 @@ impl<A: Allocator + Copy> Progress<A> {
         }
     }
 
-    /// Answers the part of a line that was read, as a line. `Read`: there are more lines than
-    /// 1,000,000 reads give.
+    /// Answers the read part of a line, as a line. `Read`: there are more lines than 1,000,000 reads give.
     fn answer<T: Texts, W: Write>(
         &mut self,
         alloc: A,
@@ -345,7 +345,7 @@ impl<A: Allocator + Copy> Progress<A> {
         }
     }
 
-    /// Goes through a piece of the script, and answers each line that ends in it.
+    /// Takes a piece of the script, and answers each line that ends in it.
     fn take<T: Texts, W: Write>(
         &mut self,
         alloc: A,
@@ -369,8 +369,8 @@ impl<A: Allocator + Copy> Progress<A> {
     }
 }
 
-/// Writes how many lines the trail had.
-fn tell_total<W: Write>(total: u64, writer: &mut W) -> Result<(), ToolFault>
+/// Writes the total of the trail's lines.
+fn print_total<W: Write>(total: u64, writer: &mut W) -> Result<(), ToolFault>
     ensures { WritesLine (codes "trail " ++ decimal total) (W.contents writer.old) (W.contents writer.new) result }
 {
     match write_out(writer, b"trail ") {
@@ -379,8 +379,8 @@ fn tell_total<W: Write>(total: u64, writer: &mut W) -> Result<(), ToolFault>
     }
 }
 
-/// Writes the lines of the trail that are kept.
-fn tell_lines<A: Allocator + Copy, W: Write>(
+/// Writes the kept lines of the trail.
+fn print_lines<A: Allocator + Copy, W: Write>(
     guard: &Guard<A>,
     writer: &mut W,
 ) -> Result<(), ToolFault>
@@ -395,13 +395,13 @@ fn tell_lines<A: Allocator + Copy, W: Write>(
     Ok(())
 }
 
-/// Writes how many lines the trail had, and those that are kept.
-fn tell_trail<A: Allocator + Copy, W: Write>(hub: &Hub<A>, writer: &mut W) -> Result<(), ToolFault>
+/// Writes the total of the trail's lines, and the kept ones.
+fn print_trail<A: Allocator + Copy, W: Write>(hub: &Hub<A>, writer: &mut W) -> Result<(), ToolFault>
     ensures { WritesTrail hub.now (W.contents writer.old) (W.contents writer.new) result }
 {
     let guard = hub.server().guard();
-    match tell_total(guard.total(), writer) {
-        Ok(()) => tell_lines(guard, writer),
+    match print_total(guard.total(), writer) {
+        Ok(()) => print_lines(guard, writer),
         Err(fault) => Err(fault),
     }
 }
@@ -423,26 +423,24 @@ fn finish<A: Allocator + Copy, T: Texts, W: Write>(
         Ok(()) => {}
         Err(fault) => return Err(fault),
     }
-    match tell_trail(hub, writer) {
+    match print_trail(hub, writer) {
         Ok(()) => Ok(progress.is_good),
         Err(fault) => Err(fault),
     }
 }
 
-/// Runs a script: lines `as UID GID COMMAND ..` and `reload FILE`, with spaces between their words.
-/// A line of nothing but spaces, or one that begins with `#`, is skipped. A line `as` runs its
-/// command over a connection of the hub, with a client and a session of its own. It runs at the
-/// moment of as many seconds as its number among all lines, which begins with 1. Its answer is
-/// written: the text of the command, `refused OP STATUS`, or `failed N` for any other fault. A line
-/// `reload` reads the text of its name as a book, which becomes the hub's (`Hub::reload`). Its
-/// answer is `ok`, or `book N` where the text is no book, by the number of its fault. It is
-/// `failed 5` where no epoch of a book is left. `bad line` is written where a line isn't UTF-8 or
-/// is neither, and where the name has no text. At the end come `trail TOTAL` and the lines of the
-/// trail that are kept.
+/// Runs a script: lines `as UID GID COMMAND ..` and `reload FILE`, with spaces between their words. A line of nothing
+/// but spaces, or one that begins with `#`, is skipped. A line `as` runs its command over a connection of the hub,
+/// with a client and a session of its own. It runs at the moment of as many seconds as its number among all lines,
+/// counted from 1. Its answer is written: the text of the command, `refused OP STATUS`, or `failed N` for any other
+/// fault. A line `reload` reads the text of its name as a book, which becomes the hub's (`Hub::reload`). Its answer
+/// is `ok`, or `book N` if the text is no book, by the number of its fault. It is `failed 5` if no epoch of a book is
+/// left. `bad line` is written if a line isn't UTF-8 or is neither, and if the name has no text. At the end come
+/// `trail TOTAL` and the kept lines of the trail.
 ///
-/// True: no line was answered `bad line`, `failed` or `book`. `Read`: the reader failed, or did not
-/// end within 1,000,000 reads. `Write`: the writer failed, or took no bytes. `Memory`: a line has
-/// none. A book takes its memory of `global`.
+/// True: no line was answered `bad line`, `failed` or `book`. `Read`: the reader failed, or did not end within
+/// 1,000,000 reads. `Write`: the writer failed, or took no bytes. `Memory`: the allocation of a line failed. A book
+/// allocates its memory from `global`.
 pub fn script<A: Allocator + Copy, T: Texts, R: Read, W: Write>(
     alloc: A,
     global: Global,

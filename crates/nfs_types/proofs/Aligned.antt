@@ -1,4 +1,4 @@
--- A spelling is a multiple of four bytes long (RFC 4506, section 3).
+-- The length of an encoding is a multiple of four bytes (RFC 4506, section 3).
 use Rattle.std.proofs.Common.{◌≡◌, ℕ, ◌%◌, List, [], ◌∷◌, ◌++◌, length, replicate, Some, None, refl, ap, ◌∙◌, inl, inr, arith}
 use Rattle.std.specs.Int.{w32, to_be_bytes}
 use Rattle.std.specs.List.{flat_map}

@@ -9,7 +9,7 @@ use Rattle.nfs_types.specs.Common.{cleared, without}
 use Rattle.nfs_types.proofs.Numbers.{trimmed_at}
 use Rattle.nfs_types.proofs.Shared.{trimmed_same}
 
--- words that are equal place by place, but for zeros at the end
+-- words that are equal place by place, apart from zeros at the end
 abbrev Same : List ℕ → List ℕ → Type 0
 Same vs ws = (i : ℕ) → get_or vs i 0 ≡ get_or ws i 0
 
@@ -17,7 +17,7 @@ Same vs ws = (i : ℕ) → get_or vs i 0 ≡ get_or ws i 0
 word_without : List ℕ → ℕ → ℕ
 word_without ws n = bit_and (get_or ws (n / 32) 0) (bit_not w32 (2 ^ (n % 32)))
 
--- a number past the words isn't there
+-- the words don't have a number past them
 past_words : (ws : List ℕ) (n : ℕ) → length ws ≤ n / 32 → cleared ws n ≡ ws
 past_words ws n le = set_past ws (n / 32) _ le
 

@@ -3,7 +3,7 @@ pub mod Trim
 pub mod Refusing
 pub mod Shared
 pub mod Cleared
-pub mod Showing
+pub mod ClientWritten
 pub mod Tables
 pub mod Within
 pub mod Words

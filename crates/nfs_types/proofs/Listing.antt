@@ -56,7 +56,7 @@ pub mapped : {X Y : Type 0} (f : X → Y) (bytes_of : Y → List ℕ) (xs : List
 mapped f bytes_of [] = refl
 mapped f bytes_of (x ∷ xs) = ap (λ (b : List ℕ). bytes_of (f x) ++ b) (mapped f bytes_of xs)
 
--- a list, as its entries are written
+-- an access control list (ACL), as its access control entries (ACEs) are written
 pub list_bytes : (book : Content) (entries : List Entry) → spelling acl (map (ace_of book) entries) ≡ to_be_bytes w32 (length entries) ++ flat_map (entry_bytes book) entries
 list_bytes book entries =
     let count : length (map (ace_of book) entries) ≡ length entries = simp length-map in
@@ -80,7 +80,7 @@ pub one_unwritten : {X E : Type 0} (bytes_of : X → List ℕ) (P : X → Type 0
 one_unwritten bytes_of P old now after cut begin xs i start x d r lt at from h put err bytes room =
     cut_back bytes_of P old now after cut begin xs (drop i xs) (drop (i + 1) xs) x r start from (next_of xs i x d lt at) h put err bytes room
 
--- a list that is sent, as its entries are written
+-- an ACL that is sent, as its ACEs are written
 pub sent_bytes : {X : Type 0} (f : X → Value ace) (xs : List X) → spelling acl (map f xs) ≡ to_be_bytes w32 (length xs) ++ flat_map (λ x. spelling ace (f x)) xs
 sent_bytes f xs =
     let count : length (map f xs) ≡ length xs = simp length-map in
@@ -90,9 +90,9 @@ pub all_mapped : {X : Type 0} (f : X → Value ace) (xs : List X) → AllByRecur
 all_mapped f [] h = tt
 all_mapped f (x ∷ xs) h = (h.0, all_mapped f xs h.1)
 
--- ---- the entries of a part
+-- ---- the ACEs of a part
 
--- the bytes of an entry: nothing where it doesn't pass the test
+-- the bytes of an ACE: nothing if it doesn't pass the test
 abbrev pub bytes_if : (Entry → Bool) → Content → Entry → List ℕ
 bytes_if test book e = cond (test e) (entry_bytes book e) []
 
@@ -105,7 +105,7 @@ passing test book (e ∷ entries) = go (test e) (passing test book entries)
     go true more = ap (λ (b : List ℕ). entry_bytes book e ++ b) more
     go false more = more
 
--- a part of a list, as its entries are written
+-- a part of an ACL, as its ACEs are written
 pub part_bytes : (test : Entry → Bool) (book : Content) (entries : List Entry) → spelling acl41 (0, map (ace_of book) (filter test entries))
     ≡ (to_be_bytes w32 0 ++ to_be_bytes w32 (count_by test entries)) ++ flat_map (bytes_if test book) entries
 part_bytes test book entries =

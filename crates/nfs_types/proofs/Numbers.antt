@@ -7,22 +7,22 @@ use Rattle.std.proofs.lemmas.List.{get_or_past, get_or-set_same, get_or-set_othe
 use Rattle.std.proofs.lemmas.Nat.Bits.{bit_at_or, bit_at-lt, bit_at-zero, bit_at-pow_same, bit_at-pow_other, shr_and_one}
 use Rattle.std.proofs.Math.Nat.{mod-eq_of_lt, mod-lt}
 use Rattle.std.proofs.Math.Pow.{pow-lt}
-use Rattle.nfs_types.specs.Forms.{trimmed, front_word}
+use Rattle.nfs_types.specs.Forms.{trimmed, cons_trimmed}
 use Rattle.nfs_types.specs.Sets.{has_number}
 
-front_at : (w : ℕ) (ws : List ℕ) (i : ℕ) → get_or (front_word w ws) i 0 ≡ get_or (w ∷ ws) i 0
-front_at w [] i = one (cases_eq w 0) i
+cons_trimmed_at : (w : ℕ) (ws : List ℕ) (i : ℕ) → get_or (cons_trimmed w ws) i 0 ≡ get_or (w ∷ ws) i 0
+cons_trimmed_at w [] i = one (cases_eq w 0) i
   where
-    one : (w ≡ 0) ⊎ (w ≢ 0) → (i : ℕ) → get_or (front_word w []) i 0 ≡ get_or (w ∷ []) i 0
+    one : (w ≡ 0) ⊎ (w ≢ 0) → (i : ℕ) → get_or (cons_trimmed w []) i 0 ≡ get_or (w ∷ []) i 0
     one (inl is) zero = rw is refl
     one (inl is) (suc i) = rw is refl
     one (inr isnt) i = rw (ne_eqb w 0 isnt) refl
-front_at w (v ∷ ws) i = refl
+cons_trimmed_at w (v ∷ ws) i = refl
 
 pub trimmed_at : (ws : List ℕ) (i : ℕ) → get_or (trimmed ws) i 0 ≡ get_or ws i 0
 trimmed_at [] i = refl
-trimmed_at (w ∷ ws) zero = front_at w (trimmed ws) zero
-trimmed_at (w ∷ ws) (suc i) = front_at w (trimmed ws) (suc i) ∙ trimmed_at ws i
+trimmed_at (w ∷ ws) zero = cons_trimmed_at w (trimmed ws) zero
+trimmed_at (w ∷ ws) (suc i) = cons_trimmed_at w (trimmed ws) (suc i) ∙ trimmed_at ws i
 
 pub by_word : (ws : List ℕ) (n : ℕ) → has_number (trimmed ws) n ≡ nat_eq (bit_at (get_or ws (n / 32) 0) (n % 32)) 1
 unfolding has_number

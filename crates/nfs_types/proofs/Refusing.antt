@@ -1,4 +1,4 @@
--- The refusal of a list.
+-- The refusal of an access control list (ACL).
 use Rattle.std.proofs.Common.{◌≡◌, Bool, true, false, cond, List, [], ◌∷◌, Option, Some, None, Result, Err, refl}
 use Rattle.std.specs.Prelude.{slice_get, ◌||◌, nat_lt, is_none, is_some, ◌==◌, not, length}
 use Rattle.std.specs.List.{filter_map, cons_option, list_all}
@@ -24,7 +24,7 @@ chain false true c others h e = absurd cc
 chain false false true others h e = absurd cc
 chain false false false others h e = h e
 
--- no fault of an entry is that there is no memory
+-- no fault of an access control entry (ACE) is out of memory
 none_is_memory : (raws : List Raw) → slice_get (filter_map fault_of raws) 0 ≡ Some faults.Memory → ⊥
 none_is_memory [] e = absurd cc
 none_is_memory (r ∷ raws) e =
@@ -37,7 +37,7 @@ first false raws e = none_is_memory raws e
 pub not_memory : (raws : List Raw) → first_fault raws ≡ Some faults.Memory → ⊥
 not_memory raws e = first (nat_lt 59 (length raws)) raws e
 
--- a fault that is answered is the first, or there is no memory for a list without a fault
+-- a fault that is returned is the first, or the allocation of an ACL without a fault fails
 answers : (found : Option AdmitFault) (list : List Entry) (e : AdmitFault) → (found ≡ Some faults.Memory → ⊥)
     → ((f : AdmitFault) → found ≡ Some f → e ≡ f) → (found ≡ None → e ≡ faults.Memory)
     → Answers {X = Option (List Entry)} (λ l. l) is_some (unless found list) (Err (attrs_fault e))
@@ -51,10 +51,10 @@ answers (Some faults.Memory) list e never refused taken = absurd (never refl)
 err_inj : (d f : AdmitFault) {X : Type 0} → (let a : Result X AdmitFault = Err d in a) ≡ Err f → d ≡ f
 err_inj d f e = cc
 
-pub list_refused : (raws : List Raw) (list : List Entry) (e : AdmitFault)
+pub acl_refused : (raws : List Raw) (list : List Entry) (e : AdmitFault)
     → ((f : AdmitFault) → first_fault raws ≡ Some f → (let r : Result (List Entry) AdmitFault = Err e in r) ≡ Err f) → (first_fault raws ≡ None → e ≡ faults.Memory)
     → Answers {X = Option (List Entry)} (λ l. l) is_some (unless (first_fault raws) list) (Err (attrs_fault e))
-list_refused raws list e refused taken = answers (first_fault raws) list e (not_memory raws) (λ f is. err_inj e f (refused f is)) taken
+acl_refused raws list e refused taken = answers (first_fault raws) list e (not_memory raws) (λ f is. err_inj e f (refused f is)) taken
 
 -- ---- the refusal of a part
 

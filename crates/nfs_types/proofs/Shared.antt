@@ -12,7 +12,7 @@ no_words : (ws : List ℕ) → ((i : ℕ) → get_or ws i 0 ≡ 0) → trimmed w
 no_words [] h = refl
 no_words (w ∷ ws) h = rw (no_words ws (λ i. h (suc i)), h 0) refl
 
--- words that are equal place by place are equal but for the zeros at the end
+-- words that are equal place by place are equal apart from the zeros at the end
 pub trimmed_same : (vs ws : List ℕ) → ((i : ℕ) → get_or vs i 0 ≡ get_or ws i 0) → trimmed vs ≡ trimmed ws
 trimmed_same [] ws h = sym (no_words ws (λ i. sym (h i)))
 trimmed_same (v ∷ vs) [] h = no_words (v ∷ vs) h
@@ -30,7 +30,7 @@ common_at (v ∷ vs) [] i = sym (no_bits_either (get_or (v ∷ vs) i 0))
 common_at (v ∷ vs) (w ∷ ws) zero = refl
 common_at (v ∷ vs) (w ∷ ws) (suc i) = common_at vs ws i
 
--- The words below the index are shared, the others are as they were.
+-- The words below the index are shared, and the others are unchanged.
 pub record Sharing (vs ws : List ℕ) (index : ℕ) (words : List ℕ) : Type 0 where
   pub whole : length words ≡ 8
   pub shared : (i : ℕ) → i < index → get_or words i 0 ≡ bit_and (get_or vs i 0) (get_or ws i 0)

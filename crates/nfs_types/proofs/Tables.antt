@@ -36,7 +36,7 @@ below p m n h lt = one (cases_Bool (p n))
         let fails : list_all p (range_with_len 0 m) ≡ false = list_all_at p (range_with_len 0 m) n 0 (omega (arith, lt, length-range_with_len 0 m)) (ap p at ∙ isnt) in
         absurd (cc)
 
--- no attribute of the list has a number that is above them all
+-- no attribute of the list has a number that is above all of theirs
 none : (pick : Attribute → Bool) (list : List Attribute) (n : ℕ) → list_all (λ a. nat_lt (number_of a) 96) list ≡ true → 96 ≤ n → list_any (λ a. pick a && nat_eq (number_of a) n) list ≡ false
 none pick [] n h le = refl
 none pick (a ∷ list) n h le =

@@ -2,19 +2,19 @@
 use Rattle.std.proofs.Common.{◌≡◌, ◌≢◌, ℕ, ◌+◌, ◌-◌, ◌<◌, ◌≤◌, List, [], ◌∷◌, ◌++◌, length, take, get_or, refl, sym, ap, ◌∙◌, arith}
 use Rattle.std.proofs.lemmas.Bool.{ne_eqb}
 use Rattle.std.proofs.lemmas.List.{take_more}
-use Rattle.nfs_types.specs.Forms.{trimmed, front_word}
+use Rattle.nfs_types.specs.Forms.{trimmed, cons_trimmed}
 
 trimmed_zero : (ws : List ℕ) → trimmed (ws ++ 0 ∷ []) ≡ trimmed ws
 trimmed_zero [] = refl
-trimmed_zero (w ∷ ws) = ap (front_word w) (trimmed_zero ws)
+trimmed_zero (w ∷ ws) = ap (cons_trimmed w) (trimmed_zero ws)
 
-front_some : (w : ℕ) (ws : List ℕ) (v : ℕ) → front_word w (ws ++ v ∷ []) ≡ w ∷ (ws ++ v ∷ [])
-front_some w [] v = refl
-front_some w (u ∷ ws) v = refl
+cons_trimmed_some : (w : ℕ) (ws : List ℕ) (v : ℕ) → cons_trimmed w (ws ++ v ∷ []) ≡ w ∷ (ws ++ v ∷ [])
+cons_trimmed_some w [] v = refl
+cons_trimmed_some w (u ∷ ws) v = refl
 
 trimmed_some : (ws : List ℕ) (v : ℕ) → v ≢ 0 → trimmed (ws ++ v ∷ []) ≡ ws ++ v ∷ []
 trimmed_some [] v ne = rw (ne_eqb v 0 ne) refl
-trimmed_some (w ∷ ws) v ne = ap (front_word w) (trimmed_some ws v ne) ∙ front_some w ws v
+trimmed_some (w ∷ ws) v ne = ap (cons_trimmed w) (trimmed_some ws v ne) ∙ cons_trimmed_some w ws v
 
 one_back : (ws : List ℕ) (n : ℕ) → 0 < n → n ≤ length ws → take n ws ≡ take (n - 1) ws ++ get_or ws (n - 1) 0 ∷ []
 one_back ws n some le =

@@ -1,4 +1,4 @@
--- The words of a bitmap: filled one after the other, cut, and written.
+-- The words of a bitmap: filled one after the other, trimmed, and written.
 use Rattle.std.proofs.Common.{◌≡◌, ◌≢◌, ◌⊎◌, inl, inr, Some, ℕ, zero, suc, ◌+◌, ◌-◌, ◌<◌, ◌≤◌, true, false, List, [], ◌∷◌, ◌++◌, length, take, drop, get_or, set, replicate, Result, Ok, Err, is_err, refl, sym, ap, ◌∙◌, arith, drop-cons}
 use Rattle.std.specs.Prelude.{OnOk}
 use Rattle.std.specs.List.{flat_map}
@@ -8,52 +8,52 @@ use Rattle.xdr_wire.specs.Xdr.{uint, HasSpelling, spelling}
 use Rattle.xdr_wire.specs.Wire.{in_normal_form}
 use Rattle.xdr_wire.specs.Reading.{Read, read_at, items_at}
 use Rattle.xdr_wire.specs.Buffer.{Buffer, Appends, Puts}
-use Rattle.xdr_wire.proofs.Items.{with_front, goes_on, is_done}
+use Rattle.xdr_wire.proofs.Items.{with_prefix, goes_on, is_done}
 use Rattle.xdr_wire.proofs.Going.{Going, step, cut_back}
-use Rattle.nfs_types.specs.Forms.{trimmed, front_word}
+use Rattle.nfs_types.specs.Forms.{trimmed, cons_trimmed}
 
 -- zero words at the end don't count
 pub trimmed_zeros : (ws : List ℕ) (n : ℕ) → trimmed (ws ++ replicate n 0) ≡ trimmed ws
 trimmed_zeros [] zero = refl
-trimmed_zeros [] (suc n) = ap (front_word 0) (trimmed_zeros [] n)
-trimmed_zeros (w ∷ ws) n = ap (front_word w) (trimmed_zeros ws n)
+trimmed_zeros [] (suc n) = ap (cons_trimmed 0) (trimmed_zeros [] n)
+trimmed_zeros (w ∷ ws) n = ap (cons_trimmed w) (trimmed_zeros ws n)
 
-front_again : (w : ℕ) (ws : List ℕ) → trimmed ws ≡ ws → trimmed (front_word w ws) ≡ front_word w ws
-front_again w [] e = one (cases_eq w 0)
+cons_trimmed_again : (w : ℕ) (ws : List ℕ) → trimmed ws ≡ ws → trimmed (cons_trimmed w ws) ≡ cons_trimmed w ws
+cons_trimmed_again w [] e = one (cases_eq w 0)
   where
-    one : (w ≡ 0) ⊎ (w ≢ 0) → trimmed (front_word w []) ≡ front_word w []
+    one : (w ≡ 0) ⊎ (w ≢ 0) → trimmed (cons_trimmed w []) ≡ cons_trimmed w []
     one (inl is) = rw is refl
     one (inr isnt) = rw (ne_eqb w 0 isnt) (rw (ne_eqb w 0 isnt) refl)
-front_again w (v ∷ ws) e = ap (front_word w) e
+cons_trimmed_again w (v ∷ ws) e = ap (cons_trimmed w) e
 
 pub trimmed_again : (ws : List ℕ) → trimmed (trimmed ws) ≡ trimmed ws
 trimmed_again [] = refl
-trimmed_again (w ∷ ws) = front_again w (trimmed ws) (trimmed_again ws)
+trimmed_again (w ∷ ws) = cons_trimmed_again w (trimmed ws) (trimmed_again ws)
 
-front_length : (w : ℕ) (ws : List ℕ) → length (front_word w ws) ≤ suc (length ws)
-front_length w [] = one (cases_eq w 0)
+cons_trimmed_length : (w : ℕ) (ws : List ℕ) → length (cons_trimmed w ws) ≤ suc (length ws)
+cons_trimmed_length w [] = one (cases_eq w 0)
   where
-    one : (w ≡ 0) ⊎ (w ≢ 0) → length (front_word w []) ≤ 1
+    one : (w ≡ 0) ⊎ (w ≢ 0) → length (cons_trimmed w []) ≤ 1
     one (inl is) = rw is (omega arith)
     one (inr isnt) = rw (ne_eqb w 0 isnt) (omega arith)
-front_length w (v ∷ ws) = omega arith
+cons_trimmed_length w (v ∷ ws) = omega arith
 
 pub trimmed_length : (ws : List ℕ) → length (trimmed ws) ≤ length ws
 trimmed_length [] = omega arith
-trimmed_length (w ∷ ws) = let head = front_length w (trimmed ws) in let tail = trimmed_length ws in omega (arith, head, tail)
+trimmed_length (w ∷ ws) = let head = cons_trimmed_length w (trimmed ws) in let tail = trimmed_length ws in omega (arith, head, tail)
 
 -- Some of the words of an array of eight are read, and the others are zero.
 pub record Filling (total : Read (List ℕ)) (count i : ℕ) (words bytes : List ℕ) : Type 0 where
   pub whole : length words ≡ 8
   pub zeros : drop i words ≡ replicate (8 - i) 0
-  pub joined : with_front (take i words) (items_at (read_at uint) (count - i) bytes) ≡ total
+  pub joined : with_prefix (take i words) (items_at (read_at uint) (count - i) bytes) ≡ total
 
 pub begun : (total : Read (List ℕ)) (count : ℕ) (bytes : List ℕ) → items_at (read_at uint) count bytes ≡ total → Filling total count 0 (replicate 8 0) bytes
 begun total count bytes e = record { whole = refl; zeros = refl; joined = rw minus (nothing (items_at (read_at uint) count bytes) ∙ e) } where
   minus : count - 0 ≡ count
   minus = omega arith
 
-  nothing : (r : Read (List ℕ)) → with_front [] r ≡ r
+  nothing : (r : Read (List ℕ)) → with_prefix [] r ≡ r
   nothing (Ok x) = refl
   nothing (Err f) = refl
 
@@ -69,7 +69,7 @@ filled total count i words bytes word after lt le e h =
     record {
       whole = length-set words i word ∙ h.whole;
       zeros = drop-set-lt (i + 1) words i word (omega arith) ∙ last_zeros i words (omega (arith, lt, le)) h.zeros;
-      joined = ap (λ (front : List ℕ). with_front front (items_at (read_at uint) (count - (i + 1)) after)) (take_more_set words i word inside)
+      joined = ap (λ (prefix : List ℕ). with_prefix prefix (items_at (read_at uint) (count - (i + 1)) after)) (take_more_set words i word inside)
           ∙ goes_on (read_at uint) (take i words) count i bytes word after total lt e h.joined;
     }
 

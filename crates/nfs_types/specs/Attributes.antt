@@ -1,5 +1,5 @@
--- The attributes: their numbers, who can read and set them, and the type and value of each by the facts of an object
--- (RFC 8881, sections 5.6 to 5.8 and 6.2; RFC 5662).
+-- The attributes (RFC 8881, sections 5.6 to 5.8 and 6.2; RFC 5662): their numbers, the permissions to read and set
+-- them, and the type and value of each.
 use Rattle.std.specs.Prelude.{ℕ, Bool, true, false, not, ◌==◌, ◌||◌, List, [], ◌∷◌, filter, map}
 use Rattle.std.specs.List.{list_all, range_with_len}
 use Rattle.xdr_wire.specs.Xdr.{Xdr, Value, uint, hyper, boolean, opaque, fields, array}
@@ -11,7 +11,7 @@ use Rattle.acl_list.specs.declared.mask.TheConstants.{READ_ATTRIBUTES, READ_ACL,
 use Rattle.acl_shape.specs.Parts.{part_of}
 use Rattle.acl_shape.specs.declared.part.Part.TheVariants as parts
 use Rattle.who_book.specs.Content.{Content}
-use Rattle.who_book.specs.Spelling.{principal_text, who_text}
+use Rattle.who_book.specs.Spelling.{principal_text, ace_principal_text}
 use Rattle.who_book.specs.declared.kind.NameKind.TheVariants as name
 use Rattle.nfs_types.specs.Forms.{bitmap, handle, time}
 use Rattle.nfs_types.specs.Handles.{object_handle}
@@ -46,12 +46,12 @@ ace = fields (uint ∷ uint ∷ uint ∷ text ∷ [])
 abbrev pub acl : Xdr
 acl = array 0xffff_ffff ace
 
--- nfsacl41: the flags of the ACL, and its entries
+-- nfsacl41: the flags of the access control list (ACL), and its access control entries (ACEs)
 abbrev pub acl41 : Xdr
 acl41 = fields (uint ∷ acl ∷ [])
 
--- An attribute's number, and the bits that a caller must be granted to read it and to set it. Where the first is 0
--- everyone can read it, and where the second is 0 it can't be set.
+-- An attribute's number, and the permissions that a caller must be granted to read it and to set it. If the first is 0,
+-- everyone can read it. If the second is 0, it can't be set.
 pub record Row : Type 0 where
   pub number : ℕ
   pub read_by : ℕ
@@ -66,7 +66,7 @@ read_by_all number = read_by 0 number
 abbrev pub set_by : ℕ → Row → Row
 set_by bit r = record r { set_by = bit }
 
--- the rows; to set a size takes APPEND_DATA too where the file grows
+-- the rows; setting a size needs APPEND_DATA too if the file grows
 abbrev pub row : Attribute → Row
 row SupportedAttrs = read_by_all 0
 row ObjectType = read_by_all 1
@@ -111,7 +111,7 @@ all =
     ∷ Mode ∷ NumLinks ∷ Owner ∷ OwnerGroup ∷ TimeMetadata ∷ TimeModify ∷ MountedOnFileId ∷ Dacl ∷ Sacl
     ∷ SuppattrExclcreat ∷ []
 
--- the numbers of the attributes that are read, and of those that are set, by this bit
+-- the numbers of the attributes that this permission lets a caller read, and of those that it lets a caller set
 abbrev pub numbers_read_by : ℕ → List ℕ
 numbers_read_by bit = map number_of (filter (λ a. (row a).read_by == bit) all)
 
@@ -138,7 +138,7 @@ is_within set other = list_all (stays_within set other) numbers
 
 -- ---- the values
 
--- the facts of an object that its attributes are made of; error is the reason that rdattr_error gives
+-- the facts about an object that its attributes are made of; `error` is the value of rdattr_error
 pub record Facts : Type 0 where
   pub kind : Kind
   pub number : ℕ
@@ -159,9 +159,9 @@ type_number kind.File = 1
 type_number kind.Directory = 2
 type_number kind.Link = 5
 
--- an entry as it is sent
+-- an ACE as it is sent
 abbrev pub ace_of : Content → Entry → Value ace
-ace_of book e = (kind_number e.kind, (e.flags, (e.mask, who_text book e.who)))
+ace_of book e = (kind_number e.kind, (e.flags, (e.mask, ace_principal_text book e.who)))
 
 -- a value, and its type
 pub record Typed : Type 0 where

@@ -1,4 +1,4 @@
--- The facts of an object, as they are lent.
+-- The facts about an object, with borrowed parts by value.
 use Rattle.nfs_types.specs.Attributes.{Facts}
 use Rattle.nfs_types.specs.declared.attribute.ObjectFacts.{ObjectFacts}
 

@@ -23,13 +23,13 @@ abbrev pub attributes : Xdr
 attributes = fields (bitmap ∷ opaque 0xffff_ffff ∷ [])
 
 -- the words of a bitmap without the zero words at its end, which mean nothing
-abbrev pub front_word : ℕ → List ℕ → List ℕ
-front_word w [] = if w == 0 then [] else w ∷ []
-front_word w (v ∷ ws) = w ∷ v ∷ ws
+abbrev pub cons_trimmed : ℕ → List ℕ → List ℕ
+cons_trimmed w [] = if w == 0 then [] else w ∷ []
+cons_trimmed w (v ∷ ws) = w ∷ v ∷ ws
 
 abbrev pub trimmed : List ℕ → List ℕ
 trimmed [] = []
-trimmed (w ∷ ws) = front_word w (trimmed ws)
+trimmed (w ∷ ws) = cons_trimmed w (trimmed ws)
 
 -- attributes with a bitmap of words
 abbrev pub trimmed_set : Value attributes → Value attributes

@@ -1,4 +1,4 @@
--- The attributes that GETATTR and READDIR return of an object (RFC 8881, sections 5.6 to 5.8, 6.2, 18.7 and 18.23).
+-- The attributes that GETATTR and READDIR return for an object (RFC 8881, sections 5.6 to 5.8, 6.2, 18.7 and 18.23).
 use Rattle.std.specs.Prelude.{ℕ, if◌then◌else◌, List, []}
 use Rattle.std.specs.List.{flat_map}
 use Rattle.xdr_wire.specs.Xdr.{spelling}

@@ -17,6 +17,6 @@ pub mod Writing
 pub mod Given
 pub mod Seen
 pub mod SeenViews
-pub mod ShownViews
+pub mod ClientViews
 pub mod Sendable
 pub mod Rising

@@ -6,7 +6,7 @@ use Rattle.std.specs.Str.{is_utf8}
 use Rattle.nfs_types.specs.declared.status.Status.{Status}
 use Rattle.nfs_types.specs.declared.status.Status.TheVariants.{Inval, NameTooLong, BadChar, BadName}
 
--- the most bytes of a name (the attribute maxname)
+-- the largest number of bytes of a name (the attribute maxname)
 abbrev pub MAX_NAME : ℕ
 MAX_NAME = 255
 
@@ -21,7 +21,7 @@ is_dots (a ∷ []) = a == 46
 is_dots (a ∷ b ∷ []) = (a == 46) && (b == 46)
 is_dots (a ∷ b ∷ c ∷ bytes) = false
 
--- the first thing that is wrong with a name, if anything
+-- the first fault of a name, if it has one
 abbrev pub name_fault : List ℕ → Option Status
 name_fault name =
     if length name == 0 then Some Inval

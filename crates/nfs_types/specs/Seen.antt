@@ -1,4 +1,4 @@
--- Attributes as a client sees them: those that it requests, and those that it sets.
+-- Attributes as a client reads them: those that it requests, and those that it sets.
 use Rattle.std.specs.Prelude.{ℕ, ◌+◌, not, if◌then◌else◌, List, [], ◌∷◌, Option, Some, None, is_some, Result, Ok, Err}
 use Rattle.std.specs.List.{flat_map}
 use Rattle.xdr_wire.specs.Xdr.{Xdr, Value, uint, hyper, spelling}
@@ -13,7 +13,7 @@ use Rattle.nfs_types.specs.declared.attribute.Attribute.{Attribute}
 use Rattle.nfs_types.specs.declared.attribute.Attribute.TheVariants.{ObjectType, Size, RdattrError, Acl, Mode, Owner}
 use Rattle.nfs_types.specs.declared.attribute.Attribute.TheVariants.{OwnerGroup, Dacl, Sacl}
 
--- the values, each if it is there
+-- the values; None if an attribute isn't there
 pub record Seen : Type 0 where
   pub kind : Option ℕ
   pub size : Option ℕ
@@ -57,13 +57,13 @@ seen_at set bytes =
       i.1,
     )
 
--- nothing stands after the values
+-- no bytes follow the values
 abbrev pub ended : Read Seen → Result Seen XdrFault
 ended (Ok (seen, [])) = Ok seen
 ended (Ok (seen, b ∷ bytes)) = Err TooLong
 ended (Err fault) = Err fault
 
--- the values that the bytes spell, all of the bytes; a client knows no other attribute
+-- the values that the bytes encode, all of the bytes; a client knows no other attribute
 abbrev pub seen_of : List ℕ → List ℕ → Result Seen XdrFault
 seen_of set bytes = if not (is_within set seen_words) then Err BadChoice else ended (seen_at set bytes)
 
@@ -73,33 +73,33 @@ seen_of set bytes = if not (is_within set seen_words) then Err BadChoice else en
 abbrev pub seen_all : List Attribute
 seen_all = ObjectType ∷ Size ∷ RdattrError ∷ Acl ∷ Mode ∷ Owner ∷ OwnerGroup ∷ Dacl ∷ Sacl ∷ []
 
-abbrev pub shown : (t : Xdr) → Option (Value t) → List ℕ
-shown t None = []
-shown t (Some v) = spelling t v
+abbrev pub optional_spelling : (t : Xdr) → Option (Value t) → List ℕ
+optional_spelling t None = []
+optional_spelling t (Some v) = spelling t v
 
 -- the bytes of an attribute, if it is there
-abbrev pub shown_part : Seen → Attribute → List ℕ
-shown_part s ObjectType = shown uint s.kind
-shown_part s Size = shown hyper s.size
-shown_part s RdattrError = shown uint s.error
-shown_part s Acl = shown acl s.entries
-shown_part s Mode = shown uint s.mode
-shown_part s Owner = shown text s.owner
-shown_part s OwnerGroup = shown text s.group
-shown_part s Dacl = shown acl41 s.dacl
-shown_part s Sacl = shown acl41 s.sacl
-shown_part s _ = []
+abbrev pub client_part : Seen → Attribute → List ℕ
+client_part s ObjectType = optional_spelling uint s.kind
+client_part s Size = optional_spelling hyper s.size
+client_part s RdattrError = optional_spelling uint s.error
+client_part s Acl = optional_spelling acl s.entries
+client_part s Mode = optional_spelling uint s.mode
+client_part s Owner = optional_spelling text s.owner
+client_part s OwnerGroup = optional_spelling text s.group
+client_part s Dacl = optional_spelling acl41 s.dacl
+client_part s Sacl = optional_spelling acl41 s.sacl
+client_part s _ = []
 
 -- the values, one after the other
-unfoldable pub shown_values : Seen → List ℕ
-shown_values s = flat_map (shown_part s) seen_all
+unfoldable pub client_values : Seen → List ℕ
+client_values s = flat_map (client_part s) seen_all
 
 abbrev pub bit_if : {X : Type 0} → Option X → ℕ → ℕ
 bit_if value bit = if is_some value then bit else 0
 
 -- the set of the attributes that are there
-abbrev pub shown_set : Seen → List ℕ
-shown_set s =
+abbrev pub client_set : Seen → List ℕ
+client_set s =
     trimmed ((bit_if s.kind 0x2 + bit_if s.size 0x10 + bit_if s.error 0x800 + bit_if s.entries 0x1000)
     ∷ (bit_if s.mode 0x2 + bit_if s.owner 0x10 + bit_if s.group 0x20 + bit_if s.dacl 0x400_0000
     + bit_if s.sacl 0x800_0000) ∷ [])

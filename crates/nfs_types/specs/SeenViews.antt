@@ -1,4 +1,4 @@
--- The values that a client sees.
+-- The values that a client reads.
 use Rattle.std.specs.Prelude.{None, option_map}
 use Rattle.xdr_wire.specs.Wire.{array_values}
 use Rattle.nfs_types.specs.Attributes as attributes

@@ -12,7 +12,7 @@ use Rattle.acl_shape.specs.declared.request.Raw.{Raw}
 use Rattle.acl_shape.specs.declared.request.AdmitFault.{AdmitFault}
 use Rattle.acl_shape.specs.declared.request.AdmitFault.TheVariants as faults
 use Rattle.who_book.specs.Content.{Content}
-use Rattle.who_book.specs.Spelling.{principal_in, who_in}
+use Rattle.who_book.specs.Spelling.{principal_in, ace_principal_in}
 use Rattle.who_book.specs.declared.kind.NameKind.{NameKind}
 use Rattle.who_book.specs.declared.kind.NameKind.TheVariants as kinds
 use Rattle.nfs_types.specs.Sets.{has_number}
@@ -20,7 +20,7 @@ use Rattle.nfs_types.specs.Attributes.{text, ace, acl, acl41, supported_words, s
 use Rattle.nfs_types.specs.declared.status.Status.{Status}
 use Rattle.nfs_types.specs.declared.status.Status.TheVariants as status
 
--- the value of an attribute that is among those sent, or nothing
+-- the value of an attribute if it is among those sent, else nothing
 abbrev pub chosen_at : Bool → (t : Xdr) → List ℕ → Read (Option (Value t))
 chosen_at true t bytes = read_at t bytes >>= λ x. Ok (Some x.0, x.1)
 chosen_at false t bytes = Ok (None, bytes)
@@ -48,15 +48,15 @@ sent_at set bytes =
     chosen_at (has_number set 59) acl41 f.1 >>= λ g.
     Ok (record { size = a.0; entries = b.0; mode = c.0; owner = d.0; group = e.0; dacl = f.0; sacl = g.0 }, g.1)
 
--- the values that the bytes spell, all of the bytes
+-- the values that the bytes encode, all of the bytes
 abbrev pub whole : Read Sent → Option Sent
 whole (Ok (sent, [])) = Some sent
 whole (Ok (sent, b ∷ bytes)) = None
 whole (Err fault) = None
 
--- an entry, its who looked up
+-- an access control entry (ACE), with its principal looked up
 abbrev pub raw_of : Content → Value ace → Raw
-raw_of book e = record { kind = e.0; flags = e.1.0; mask = e.1.1.0; who = who_in e.1.0 book e.1.1.1 }
+raw_of book e = record { kind = e.0; flags = e.1.0; mask = e.1.1.0; who = ace_principal_in e.1.0 book e.1.1.1 }
 
 -- the values that an operation sets
 pub record Wanted : Type 0 where
@@ -77,16 +77,16 @@ abbrev pub made : Option ℕ → Option (List Entry) → Option ℕ → Option �
 made size list mode owner group dacl sacl =
     record { size = size; list = list; mode = mode; owner = owner; group = group; dacl = dacl; sacl = sacl }
 
--- whether a list is set, or a part of one
-abbrev pub has_list : Wanted → Bool
-has_list wanted = is_some wanted.list || is_some wanted.dacl || is_some wanted.sacl
+-- whether an access control list (ACL) is set, or a part of one
+abbrev pub has_acl : Wanted → Bool
+has_acl wanted = is_some wanted.list || is_some wanted.dacl || is_some wanted.sacl
 
 infixl 10 ◌>>◌
 abbrev pub ◌>>◌ : {A B : Type 0} → Result A Status → (A → Result B Status) → Result B Status
 (Ok x) >> f = f x
 (Err status) >> f = Err status
 
--- the status of a list that is refused
+-- the status for an ACL that is refused
 abbrev pub status_of : AdmitFault → Status
 status_of faults.NoSpc = status.NoSpc
 status_of faults.AttrNotSupp = status.AttrNotSupp
@@ -99,9 +99,9 @@ abbrev pub unless : Option AdmitFault → List Entry → Result (Option (List En
 unless None list = Ok (Some list)
 unless (Some fault) list = Err (status_of fault)
 
-abbrev pub taken_list : Content → Kind → Option (List (Value ace)) → Result (Option (List Entry)) Status
-taken_list book kind None = Ok None
-taken_list book kind (Some entries) =
+abbrev pub taken_acl : Content → Kind → Option (List (Value ace)) → Result (Option (List Entry)) Status
+taken_acl book kind None = Ok None
+taken_acl book kind (Some entries) =
     unless (first_fault (map (raw_of book) entries)) (admitted kind (map (raw_of book) entries))
 
 -- 4095 is 07777 in octal
@@ -117,7 +117,7 @@ abbrev pub taken_name : Content → NameKind → Option (List ℕ) → Result (O
 taken_name book kind None = Ok None
 taken_name book kind (Some name) = known (principal_in kind book name)
 
--- the values after the list: the mode, the owner and the group
+-- the values after the ACL: the mode, the owner and the group
 abbrev pub Plain : Type 0
 Plain = Option ℕ × (Option ℕ × Option ℕ)
 
@@ -135,8 +135,8 @@ taken_plain book mode owner group =
     taken_mode mode >> λ m. taken_name book kinds.User owner >> λ o. taken_name book kinds.Group group
     >> λ g. Ok (m, (o, g))
 
--- A part of a list. There is no automatic inheritance, so no flag of the ACL is known (section
--- 6.4.3.2). After the flags comes the fault of its entries.
+-- A part of an ACL. There is no automatic inheritance; no flag of the ACL is therefore known (section 6.4.3.2). The
+-- flags are checked before the ACEs.
 abbrev pub taken_part : Part → Content → Kind → Option (Value acl41) → Result (Option (List Entry)) Status
 taken_part part book kind None = Ok None
 taken_part part book kind (Some sent) =
@@ -153,12 +153,12 @@ taken_parts book kind dacl sacl =
 -- all values, or the first fault, by rising number
 abbrev pub taken_each : Content → Kind → Sent → Result Wanted Status
 taken_each book kind sent =
-    taken_list book kind sent.entries >> λ list.
+    taken_acl book kind sent.entries >> λ list.
     taken_plain book sent.mode sent.owner sent.group >> λ plain.
     taken_parts book kind sent.dacl sent.sacl >> λ parts.
     Ok (made sent.size list (mode_of plain) (owner_of plain) (group_of plain) parts.0 parts.1)
 
--- whether a list is set, and beside it a part of a list
+-- whether both an ACL and a part of one are set
 abbrev pub is_set_twice : Sent → Bool
 is_set_twice sent = is_some sent.entries && (is_some sent.dacl || is_some sent.sacl)
 
@@ -169,9 +169,9 @@ abbrev pub spelled : Content → Kind → Option Sent → Result Wanted Status
 spelled book kind None = Err status.BadXdr
 spelled book kind (Some sent) = taken book kind sent
 
--- The values that sent attributes set on an object of this kind, or the first fault over the whole
--- set. In order the faults are: an attribute that isn't supported; one that can't be set; bytes
--- that aren't exactly the values; a list beside a part of one; then a value.
+-- The values that sent attributes set on an object of this type, or the first fault over the whole set. The faults come
+-- in this order. An attribute isn't supported; one can't be set; the bytes aren't exactly the values; an ACL is beside
+-- a part of one; a value has a fault.
 abbrev pub wanted_of : Content → Kind → List ℕ → List ℕ → Result Wanted Status
 wanted_of book kind set bytes =
     if not (is_within set supported_words) then Err status.AttrNotSupp

@@ -79,12 +79,12 @@ all_statuses =
     SequencePos ∷ ReqTooBig ∷ RepTooBig ∷ RepTooBigToCache ∷ TooManyOps ∷ OpNotInSession ∷
     ClientIdBusy ∷ SeqFalseRetry ∷ BadHighSlot ∷ NotOnlyOp ∷ WrongType ∷ []
 
--- the first of these that has this number
+-- the first of these statuses that has this number
 abbrev pub of_that_number : List Status → ℕ → Option Status
 of_that_number [] n = None
 of_that_number (s ∷ others) n = if n == number_of s then Some s else of_that_number others n
 
--- the status of a number, if this server has one
+-- the status with this number, if this server has one
 unfoldable pub status_at : ℕ → Option Status
 status_at n = of_that_number all_statuses n
 

@@ -1,4 +1,4 @@
--- The value of each type, as it is spelled.
+-- The value of each type, as it is encoded.
 use Rattle.xdr_wire.specs.Xdr.{Value}
 use Rattle.nfs_types.specs.Forms.{handle, stateid, bitmap, attributes, trimmed}
 use Rattle.nfs_types.specs.Handles.{object_handle}

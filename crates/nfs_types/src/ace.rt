@@ -1,8 +1,8 @@
-//! An entry of a list, `nfsace4` (RFC 8881, section 6.2.1).
+//! An access control entry (ACE), `nfsace4` (RFC 8881, section 6.2.1).
 use std::alloc::Allocator;
 use xdr_wire::{Full, Opaque, Reader, Spell, Wire, Writer, XdrFault};
 
-/// An entry of a list as it is sent, `nfsace4` (RFC 8881, section 6.2.1): any numbers, and the who as text.
+/// An ACE as it is sent, `nfsace4` (RFC 8881, section 6.2.1): any numbers, and the who as text.
 #[derive(Clone, Copy, Debug)]
 pub struct Ace<'a> {
     /// The type, `acetype4`.
@@ -11,7 +11,7 @@ pub struct Ace<'a> {
     pub flags: u32,
     /// The mask, `acemask4`.
     pub mask: u32,
-    /// The who, as text. It has no bound but the record's.
+    /// The who, as text. Only the record bounds it.
     pub who: Opaque<'a, 0xffff_ffff>,
 }
 

@@ -1,4 +1,4 @@
-//! The lists that are returned of an object: acl, dacl and sacl (RFC 8881, section 6.2).
+//! The access control lists (ACLs) that are returned for an object: acl, dacl and sacl (RFC 8881, section 6.2).
 ghost use Rattle.std.specs.Prelude.{◌≤◌, [], if◌then◌else◌, length, map, OnOk};
 ghost use Rattle.xdr_wire.specs.Buffer.{Puts};
 ghost use Rattle.xdr_wire.specs.Xdr.{spelling};
@@ -13,12 +13,12 @@ use std::alloc::Allocator;
 use who_book::Book;
 use xdr_wire::{Full, Opaque, Spell, Writer};
 
-/// Writes an entry of a list.
+/// Writes an access control entry (ACE).
 fn write_entry<A: Allocator>(book: &Book, entry: &Entry, writer: &mut Writer<A>) -> Result<(), Full>
     ensures puts { Puts writer.old writer.new (spelling ace (ace_of book.now entry.now)) result }
     ensures short { OnOk result (length (spelling ace (ace_of book.now entry.now)) ≤ 212) }
 {
-    let who = book.spell_who(entry.who);
+    let who = book.spell_ace_principal(entry.who);
     Ace {
         kind: entry.kind.number(),
         flags: entry.flags,
@@ -30,7 +30,7 @@ fn write_entry<A: Allocator>(book: &Book, entry: &Entry, writer: &mut Writer<A>)
     .write(writer)
 }
 
-/// Writes a list: its count, and entry by entry.
+/// Writes an ACL: the number of its ACEs, and each ACE.
 #[tactic(auto, unfolding(crate::specs::Writing::IsWritten))]
 pub(crate) fn write_list<A: Allocator>(
     book: &Book,
@@ -51,7 +51,7 @@ pub(crate) fn write_list<A: Allocator>(
     Ok(())
 }
 
-/// Writes an entry of a list if it is of the part.
+/// Writes an ACE if it is of the part.
 fn write_entry_of<A: Allocator>(
     book: &Book,
     entry: &Entry,
@@ -70,7 +70,7 @@ fn write_entry_of<A: Allocator>(
     }
 }
 
-/// Writes a part of a list: no flags, how many entries it has, and these in their order.
+/// Writes a part of an ACL: flags of 0, the number of its ACEs, and each ACE in order.
 #[tactic(auto, unfolding(crate::specs::Writing::IsWritten))]
 pub(crate) fn write_part_of_list<A: Allocator>(
     book: &Book,

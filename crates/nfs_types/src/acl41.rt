@@ -1,14 +1,14 @@
-//! A list with its flags, `nfsacl41` (RFC 8881, section 6.4.3.2).
+//! An access control list (ACL) with its flags, `nfsacl41` (RFC 8881, section 6.4.3.2).
 use std::alloc::Allocator;
 use xdr_wire::{Full, Reader, Spell, Wire, Writer, XdrFault};
 
-/// A part of a list as it is sent, `nfsacl41` (RFC 8881, section 6.4.3.2): its entries after the
-/// flags of the ACL. The entries are read as [`xdr_wire::Array`], and written as [`crate::Aces`].
+/// A part of an ACL as it is sent, `nfsacl41` (RFC 8881, section 6.4.3.2): the flags of the ACL, and then the access
+/// control entries (ACEs). The ACEs are read as [`xdr_wire::Array`], and written as [`crate::Aces`].
 #[derive(Clone, Copy, Debug, Drop)]
 pub struct Acl41<E> {
     /// The flags of the ACL, `aclflag4`.
     pub flags: u32,
-    /// The entries, `nfsace4<>`.
+    /// The ACEs, `nfsace4<>`.
     pub entries: E,
 }
 

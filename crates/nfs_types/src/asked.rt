@@ -1,4 +1,4 @@
-//! The entries of a list or of a part of a list, as they are sent.
+//! The access control entries (ACEs) of an access control list (ACL), or of a part of one, as they are sent.
 ghost use Rattle.std.specs.Prelude.{◌≡◌, ◌<◌, ◌≤◌, length, map, take, None, IfSome};
 ghost use Rattle.xdr_wire.specs.Wire.{array_values};
 ghost use Rattle.nfs_types.specs.AceView.{ace_value};
@@ -10,7 +10,7 @@ use acl_shape::{MAX_KEPT, Raw};
 use who_book::Book;
 use xdr_wire::Array;
 
-/// Entries with their whos looked up, no more than may be set.
+/// ACEs with their principals looked up, at most as many as may be set.
 #[derive(Clone, Copy)]
 pub(crate) struct Asked {
     raws: [Raw; MAX_KEPT],
@@ -19,7 +19,7 @@ pub(crate) struct Asked {
     ghost few: { count ≤ 59 },
 }
 
-/// An entry that was sent, its who looked up.
+/// An ACE that was sent, with its principal looked up.
 fn raw_of(book: &Book, ace: &Ace<'_>) -> Raw
     ensures { result ≡ specs.raw_of book.now (ace_value ace.now) }
 {
@@ -31,7 +31,7 @@ fn raw_of(book: &Book, ace: &Ace<'_>) -> Raw
     }
 }
 
-/// Puts the entries in, of which there are few enough, and counts them.
+/// Puts the ACEs into `raws`, which has enough places, and returns their number.
 fn fill<'a>(book: &Book, entries: Array<'a, Ace<'a>, 0xffff_ffff>, raws: &mut [Raw]) -> usize
     requires { length (array_values ace None entries.count entries.bytes.now) ≤ length raws.old }
     ensures count { result ≤ length raws.new }
@@ -48,7 +48,8 @@ fn fill<'a>(book: &Book, entries: Array<'a, Ace<'a>, 0xffff_ffff>, raws: &mut [R
 }
 
 impl Asked {
-    /// The entries that were sent, looked up. `None`: there are more than may be set, and none is looked at.
+    /// The ACEs that were sent, with their principals looked up. `None`: there are more than may be set, and none is
+    /// examined.
     pub fn of<'a>(book: &Book, entries: Array<'a, Ace<'a>, 0xffff_ffff>) -> Option<Self>
         ensures some { IfSome result (λ asked. take asked.count asked.raws ≡
             map (specs.raw_of book.now) (array_values ace None entries.entry.count entries.entry.bytes.now)) }
@@ -68,7 +69,7 @@ impl Asked {
         Some(Asked { raws, count })
     }
 
-    /// The entries.
+    /// The ACEs.
     pub fn as_slice(&self) -> &[Raw]
         ensures { result.now ≡ take self.now.count self.now.raws }
     {

@@ -1,4 +1,4 @@
-//! The attributes: their numbers and sets, and how the value of each is written (RFC 8881, section 5).
+//! The attributes: their numbers, their sets, and how the value of each is written (RFC 8881, section 5).
 ghost use Rattle.std.specs.Prelude.{◌≡◌, ◌≤◌, length};
 ghost use Rattle.xdr_wire.specs.Xdr.{spelling};
 ghost use Rattle.who_book.specs.Spelling.{principal_text};
@@ -25,43 +25,43 @@ pub enum Attribute {
     ObjectType = 1,
     /// fh_expire_type: filehandles are persistent.
     FhExpireType = 2,
-    /// change: a number that each change makes larger.
+    /// change: a number that each change of the object increases.
     Change = 3,
-    /// size: how many bytes a file or a link text has.
+    /// size: the number of bytes of a file or a link text.
     Size = 4,
     /// link_support: files can have many names.
     LinkSupport = 5,
-    /// symlink_support: there are symbolic links.
+    /// symlink_support: the server has symbolic links.
     SymlinkSupport = 6,
     /// named_attr: no object has named attributes.
     NamedAttr = 7,
     /// fsid: there is one file system.
     Fsid = 8,
-    /// unique_handles: two filehandles are two objects.
+    /// unique_handles: two filehandles mean two objects.
     UniqueHandles = 9,
     /// lease_time: in seconds.
     LeaseTime = 10,
-    /// rdattr_error: why READDIR left an entry's attributes out.
+    /// rdattr_error: why READDIR left out attributes of an entry.
     RdattrError = 11,
-    /// acl: the list.
+    /// acl: the access control list (ACL).
     Acl = 12,
-    /// aclsupport: the types of entries that are supported.
+    /// aclsupport: the types of access control entries (ACEs) that are supported.
     AclSupport = 13,
     /// filehandle: the object's own.
     FileHandle = 19,
     /// fileid: the object's number.
     FileId = 20,
-    /// maxfilesize: the most bytes of a file.
+    /// maxfilesize: the largest number of bytes of a file.
     MaxFileSize = 27,
-    /// maxname: the most bytes of a name.
+    /// maxname: the largest number of bytes of a name.
     MaxName = 29,
-    /// maxread: the most bytes that a READ gives.
+    /// maxread: the largest number of bytes that a READ returns.
     MaxRead = 30,
-    /// maxwrite: the most bytes that a WRITE is advised to send.
+    /// maxwrite: the largest number of bytes that a WRITE is advised to send.
     MaxWrite = 31,
     /// mode: the lowest twelve bits of a Unix mode.
     Mode = 33,
-    /// numlinks: how many names the object has.
+    /// numlinks: the number of names of the object.
     NumLinks = 35,
     /// owner: the owner's name.
     Owner = 36,
@@ -71,11 +71,11 @@ pub enum Attribute {
     TimeMetadata = 52,
     /// time_modify: the time of the last change of the content.
     TimeModify = 53,
-    /// mounted_on_fileid: the object's number, as there is one file system.
+    /// mounted_on_fileid: the object's number, since there is only one file system.
     MountedOnFileId = 55,
-    /// dacl: the part of the list that allows and denies.
+    /// dacl: the part of the ACL that allows and denies.
     Dacl = 58,
-    /// sacl: the part of the list that watches.
+    /// sacl: the part of the ACL that watches.
     Sacl = 59,
     /// suppattr_exclcreat: the attributes that an exclusive create sets: none.
     SuppattrExclcreat = 75,
@@ -121,7 +121,7 @@ pub(crate) const SUPPORTED: [u32; 8] = [0xe818_3fff, 0x0cb0_003a, 0x0000_0800, 0
 /// The words of the set of the attributes that can be set.
 pub(crate) const SETTABLE: [u32; 8] = [0x0000_1010, 0x0c00_0032, 0, 0, 0, 0, 0, 0];
 
-/// The numbers of the attributes that are read by READ_ATTRIBUTES (RFC 8881, section 6.2.1.3.1).
+/// The numbers of the attributes that READ_ATTRIBUTES lets a caller read (RFC 8881, section 6.2.1.3.1).
 pub const READ_BY_ATTRIBUTES: [u32; 8] = [
     Attribute::Change as u32,
     Attribute::Size as u32,
@@ -133,14 +133,14 @@ pub const READ_BY_ATTRIBUTES: [u32; 8] = [
     Attribute::TimeModify as u32,
 ];
 
-/// The numbers of the attributes that are read by READ_ACL.
+/// The numbers of the attributes that READ_ACL lets a caller read.
 pub const READ_BY_ACL: [u32; 3] = [
     Attribute::Acl as u32,
     Attribute::Dacl as u32,
     Attribute::Sacl as u32,
 ];
 
-/// The numbers of the attributes that are set by WRITE_ACL.
+/// The numbers of the attributes that WRITE_ACL lets a caller set.
 pub const SET_BY_ACL: [u32; 4] = [
     Attribute::Acl as u32,
     Attribute::Mode as u32,
@@ -148,7 +148,7 @@ pub const SET_BY_ACL: [u32; 4] = [
     Attribute::Sacl as u32,
 ];
 
-/// The numbers of the attributes that are set by WRITE_OWNER.
+/// The numbers of the attributes that WRITE_OWNER lets a caller set.
 pub const SET_BY_OWNER: [u32; 2] = [Attribute::Owner as u32, Attribute::OwnerGroup as u32];
 
 impl Attribute {
@@ -162,24 +162,24 @@ impl Attribute {
     }
 }
 
-/// The facts of an object that GETATTR and READDIR return, lent.
+/// The facts about an object that GETATTR and READDIR return, borrowed.
 #[derive(Clone, Copy, Debug)]
 pub struct ObjectFacts<'a> {
     /// The type of the object.
     pub kind: Kind,
-    /// The number of the object, of which its filehandle and its file ids are made.
+    /// The number of the object, which its filehandle and its file IDs contain.
     pub number: u64,
-    /// A number that each change of the object makes larger.
+    /// A number that each change of the object increases.
     pub change: u64,
-    /// How many bytes a file or a link text has; 0 of a directory.
+    /// The number of bytes of a file or a link text; 0 for a directory.
     pub size: u64,
     /// Why READDIR returns less than was requested, else `Ok`.
     pub error: Status,
-    /// The list, of at most 64 entries.
+    /// The ACL, of at most 64 ACEs.
     pub entries: &'a [Entry],
-    /// The mode: its high bits, and the mode that the list stands for.
+    /// The mode: its high bits, and the mode that the ACL represents.
     pub mode: u32,
-    /// How many names the object has.
+    /// The number of names of the object.
     pub numlinks: u32,
     /// The number of the owner.
     pub owner: u32,
@@ -203,8 +203,8 @@ fn number_of_type(kind: Kind) -> u32
     }
 }
 
-/// Writes the text of a user or a group. It stands alone: its text takes 200 bytes of the stack, and
-/// no other attribute is to make room for them.
+/// Writes the text of a user or a group. It is a function of its own: the text takes 200 bytes of the stack, which no
+/// other attribute should reserve.
 #[tactic(auto, unfolding(crate::specs::Writing::IsWritten))]
 fn put_principal<A: Allocator>(
     book: &Book,

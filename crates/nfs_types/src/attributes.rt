@@ -4,7 +4,7 @@ use std::alloc::Allocator;
 use xdr_wire::{Full, Opaque, Reader, Spell, Wire, Writer, XdrFault};
 
 /// Attributes as they are sent, `fattr4` (RFC 8881, section 3.3.9): their set, and the bytes of their values in the
-/// order of their numbers. The bytes are lent, and have no bound but the record's.
+/// order of their numbers. The bytes are borrowed, and only the record bounds them.
 #[derive(Clone, Copy, Debug)]
 pub struct Attributes<'a> {
     /// The set of the attributes.

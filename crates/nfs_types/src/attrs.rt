@@ -7,7 +7,7 @@ ghost use Rattle.acl_shape.specs.declared.request.AdmitFault.TheVariants as faul
 ghost use Rattle.xdr_wire.specs.Wire.{array_values};
 ghost use Rattle.nfs_types.specs.Attributes.{ace};
 ghost use Rattle.nfs_types.specs.Sent as specs;
-ghost use Rattle.nfs_types.specs.Sent.{has_list, made, taken, taken_each, taken_list, taken_mode, taken_name};
+ghost use Rattle.nfs_types.specs.Sent.{has_acl, made, taken, taken_each, taken_acl, taken_mode, taken_name};
 ghost use Rattle.nfs_types.specs.Sent.{taken_plain, wanted_of};
 ghost use Rattle.nfs_types.specs.SentFaults.{Answers};
 ghost use Rattle.nfs_types.specs.SentViews.{sent_value};
@@ -27,15 +27,15 @@ use thiserror::Error;
 use who_book::{Book, NameKind};
 use xdr_wire::{Array, Opaque};
 
-/// The most bits of a mode.
+/// The largest mode: all bits that a mode can have.
 const MAX_MODE: u32 = 0o7777;
 
 /// The values that CREATE, OPEN or SETATTR sets (RFC 8881, sections 5.8.2 and 6.2): each attribute that was sent.
 #[derive(Debug, Drop)]
 pub struct Attrs<A: Allocator = Global> {
-    /// 4, size: how many bytes the file is to have.
+    /// 4, size: the new number of bytes of the file.
     pub size: Option<u64>,
-    /// 12, acl: the list as it is set on the kind of object.
+    /// 12, acl: the access control list (ACL) as it is set on this type of object.
     pub list: Option<AclList<A>>,
     /// 33, mode: at most 0o7777.
     pub mode: Option<u32>,
@@ -43,9 +43,9 @@ pub struct Attrs<A: Allocator = Global> {
     pub owner: Option<u32>,
     /// 37, owner_group: the number of the group.
     pub group: Option<u32>,
-    /// 58, dacl: that part of the list, as it is set on the kind of object. None where the list is set.
+    /// 58, dacl: that part of the ACL, as it is set on this type of object. `None` if the ACL is set.
     pub dacl: Option<AclList<A>>,
-    /// 59, sacl: likewise.
+    /// 59, sacl: the same for the other part.
     pub sacl: Option<AclList<A>>,
 }
 
@@ -74,13 +74,13 @@ impl<A: Allocator> Attrs<A> {
     }
 }
 
-/// The fault for which attributes aren't set.
+/// Why attributes aren't set.
 #[derive(Clone, Copy, Debug, PartialEq, Eq, Error)]
 pub enum AttrsFault {
     /// The attributes are refused with this status.
     #[error("the attributes are refused")]
     Refused(Status),
-    /// There is no memory for the list or a part of it.
+    /// The allocation of the ACL, or of a part of it, fails.
     #[error("out of memory")]
     Memory,
 }
@@ -112,7 +112,8 @@ impl From<Status> for AttrsFault {
     }
 }
 
-/// The list that the entries ask for, on an object of this kind. Their number was checked before any was looked at.
+/// The ACL that the access control entries (ACEs) ask for, on an object of this type. Their number was checked before
+/// any was examined.
 fn admit_all<'a, A: Allocator>(
     alloc: A,
     book: &Book,
@@ -137,7 +138,7 @@ fn admit_all<'a, A: Allocator>(
     admit(alloc, asked.as_slice(), kind)
 }
 
-/// The list that was sent, if one was.
+/// The ACL that was sent, if one was.
 fn list_of<'a, A: Allocator>(
     alloc: A,
     book: &Book,
@@ -145,7 +146,7 @@ fn list_of<'a, A: Allocator>(
     entries: Option<Array<'a, Ace<'a>, 0xffff_ffff>>,
 ) -> Result<Option<AclList<A>>, AttrsFault>
     ensures list { Answers (λ list. list) is_some
-        (taken_list book.now kind (option_map (λ a. array_values ace None a.count a.bytes.now) entries.entry)) result }
+        (taken_acl book.now kind (option_map (λ a. array_values ace None a.count a.bytes.now) entries.entry)) result }
     ensures bounded { IfOk result (λ list. IfSome list IsBounded) }
 {
     let Some(entries) = entries else {
@@ -190,7 +191,7 @@ fn number_of(
 /// The mode and the numbers that were sent, in their order.
 type Plain = (Option<u32>, (Option<u32>, Option<u32>));
 
-/// The values that are set by those after the list.
+/// The values that are set by the attributes after the ACL.
 fn plain_of(
     book: &Book,
     mode: Option<u32>,
@@ -206,14 +207,14 @@ fn plain_of(
     Ok((mode, (owner, group)))
 }
 
-/// The values that are set where no part of a list stands beside a list.
+/// The values that are set if a part of an ACL isn't sent beside an ACL.
 fn each_of<'a, A: Allocator + Copy>(
     alloc: A,
     book: &Book,
     kind: Kind,
     sent: Sent<'a>,
 ) -> Result<Attrs<A>, AttrsFault>
-    ensures attrs { Answers (λ new. made new.size new.list new.mode new.owner new.group new.dacl new.sacl) has_list
+    ensures attrs { Answers (λ new. made new.size new.list new.mode new.owner new.group new.dacl new.sacl) has_acl
         (taken_each book.now kind (sent_value sent.entry)) result }
     ensures bounded { IfOk result (λ new. IfSome new.list IsBounded) }
 {
@@ -249,14 +250,14 @@ fn each_of<'a, A: Allocator + Copy>(
     }
 }
 
-/// The values that are set by the bytes.
+/// The values that the bytes set.
 fn attrs_of<'a, A: Allocator + Copy>(
     alloc: A,
     book: &Book,
     kind: Kind,
     sent: Sent<'a>,
 ) -> Result<Attrs<A>, AttrsFault>
-    ensures attrs { Answers (λ new. made new.size new.list new.mode new.owner new.group new.dacl new.sacl) has_list
+    ensures attrs { Answers (λ new. made new.size new.list new.mode new.owner new.group new.dacl new.sacl) has_acl
         (taken book.now kind (sent_value sent.entry)) result }
     ensures bounded { IfOk result (λ new. IfSome new.list IsBounded) }
 {
@@ -266,24 +267,29 @@ fn attrs_of<'a, A: Allocator + Copy>(
     each_of(alloc, book, kind, sent)
 }
 
-/// The values that sent attributes set on an object of this kind, with the list over `alloc`
-/// (RFC 8881, sections 5.8, 5.9 and 6.2). They are any of 4 size, 12 acl, 33 mode, 36 owner, 37
-/// owner_group, 58 dacl and 59 sacl.
+/// The values that sent attributes set on an object of this type, with the ACL over `alloc` (RFC 8881, sections 5.8,
+/// 5.9 and 6.2). They are any of 4 size, 12 acl, 33 mode, 36 owner, 37 owner_group, 58 dacl and 59 sacl.
 ///
-/// They are refused for the first of these over the whole set: an attribute that isn't supported,
-/// `AttrNotSupp`; one that can't be set, `Inval`; bytes that don't spell exactly the values,
-/// `BadXdr`; a list beside a part of one, `Inval`; then by rising number: a list as
-/// [`acl_shape::admit`] refuses it; a mode above 0o7777, `Inval`; an owner or a group that the book
-/// doesn't know, `BadOwner`; of a part of a list flags other than 0, `AttrNotSupp`, and then its
-/// entries as [`acl_shape::admit_part`] refuses them. `Memory` is given only for values that aren't
-/// refused, and only where a list or a part of one was sent. Nothing else takes memory.
+/// They are refused for the first of these faults, over the whole set:
+///
+/// - `AttrNotSupp`: an attribute isn't supported.
+/// - `Inval`: an attribute can't be set.
+/// - `BadXdr`: the bytes aren't exactly the encodings of the values.
+/// - `Inval`: an ACL is sent beside a part of one.
+/// - Then by rising number: an ACL as [`acl_shape::admit`] refuses it.
+/// - `Inval`: a mode above 0o7777.
+/// - `BadOwner`: an owner or a group that the book doesn't know.
+/// - `AttrNotSupp`: a part of an ACL has flags other than 0. Then its ACEs as [`acl_shape::admit_part`] refuses them.
+///
+/// `Memory` is returned only for values that aren't refused, and only if an ACL or a part of one was sent. Nothing else
+/// allocates.
 pub fn read_attrs<A: Allocator + Copy>(
     alloc: A,
     book: &Book,
     kind: Kind,
     sent: &Attributes<'_>,
 ) -> Result<Attrs<A>, AttrsFault>
-    ensures attrs { Answers (λ new. made new.size new.list new.mode new.owner new.group new.dacl new.sacl) has_list
+    ensures attrs { Answers (λ new. made new.size new.list new.mode new.owner new.group new.dacl new.sacl) has_acl
         (wanted_of book.now kind (bitmap_value sent.now.set) sent.now.values.bytes.now) result }
     ensures bounded { IfOk result (λ new. IfSome new.list IsBounded) }
 {

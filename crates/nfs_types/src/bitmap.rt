@@ -6,8 +6,8 @@ use crate::attribute::{SETTABLE, SUPPORTED};
 use std::alloc::Allocator;
 use xdr_wire::{Full, Reader, Spell, Wire, Writer, XdrFault};
 
-/// A set of attribute numbers below 256, `bitmap4` (RFC 8881, section 3.3.7), by words of 32 bits.
-/// Zero words at the end mean nothing: they are read, and not written.
+/// A set of attribute numbers below 256, `bitmap4` (RFC 8881, section 3.3.7), by words of 32 bits. Zero words at the
+/// end mean nothing: they are read, and not written.
 #[derive(Clone, Copy, Debug, PartialEq, Eq)]
 pub struct Bitmap {
     words: [u32; 8],
@@ -33,7 +33,7 @@ impl Bitmap {
     ghost use Rattle.nfs_types.specs.Sets.{has_number};
     ghost use Rattle.nfs_types.specs.Views.{bitmap_value};
 
-    /// The set of no number.
+    /// The empty set.
     pub fn empty() -> Self
         ensures { bitmap_value result ≡ [] }
     {

@@ -11,13 +11,13 @@ use xdr_wire::{Full, Opaque, Reader, Spell, Wire, Writer, XdrFault};
 /// A filehandle, `nfs_fh4` (RFC 8881, section 4): at most 128 bytes.
 #[derive(Clone, Copy, Debug)]
 pub enum Handle<'a> {
-    /// A handle that was sent and isn't checked yet.
+    /// A filehandle that was sent and isn't checked yet.
     Sent(Opaque<'a, 128>),
-    /// This server's own handle of the object of this number: 8 zero bytes and the number.
+    /// This server's own filehandle of the object with this number: 8 zero bytes and the number.
     Object(u64),
 }
 
-/// The handle of the object of this number.
+/// The filehandle of the object with this number.
 fn bytes_of(number: u64) -> [u8; 16]
     ensures { result ≡ object_handle number }
 {
@@ -26,15 +26,15 @@ fn bytes_of(number: u64) -> [u8; 16]
     bytes
 }
 
-/// The number of the object of a handle of these bytes.
+/// The number of the object that a filehandle of these bytes names.
 fn object_in(bytes: &[u8]) -> Result<u64, Status>
     ensures { result ≡ object_of bytes.now }
 {
     if bytes.len() != 16 {
         return Err(Status::BadHandle);
     }
-    let (front, item) = bytes.split_at(8);
-    if is_filled(front, 0) {
+    let (prefix, item) = bytes.split_at(8);
+    if is_filled(prefix, 0) {
         Ok(u64::from_be_bytes([
             item[0], item[1], item[2], item[3], item[4], item[5], item[6], item[7],
         ]))
@@ -43,7 +43,7 @@ fn object_in(bytes: &[u8]) -> Result<u64, Status>
     }
 }
 
-/// The number of the object of this server's own handle.
+/// The number of the object that this server's own filehandle names.
 fn own(number: u64) -> Result<u64, Status>
     ensures { result ≡ object_of (object_handle number) }
 {
@@ -51,8 +51,8 @@ fn own(number: u64) -> Result<u64, Status>
 }
 
 impl<'a> Handle<'a> {
-    /// The number of the object of the handle, be there such an object or not. `BadHandle` at a handle that isn't 16
-    /// bytes long, or doesn't begin with 8 zero bytes.
+    /// The number of the object that the filehandle names, whether or not the object exists. `BadHandle`: the
+    /// filehandle isn't 16 bytes long, or doesn't begin with 8 zero bytes.
     pub fn object(&self) -> Result<u64, Status>
         ensures { result ≡ object_of (handle_value self.now) }
     {

@@ -7,13 +7,13 @@ ghost use Rattle.nfs_types.specs.Attributes.{supported_words};
 ghost use Rattle.nfs_types.specs.declared.attribute.TheConstants as numbers;
 ghost use Rattle.nfs_types.specs.Given.{given_set};
 ghost use Rattle.nfs_types.specs.Rising.{rises};
-ghost use Rattle.nfs_types.specs.Seen.{Seen, seen_of, shown_set, shown_values};
+ghost use Rattle.nfs_types.specs.Seen.{Seen, seen_of, client_set, client_values};
 ghost use Rattle.nfs_types.specs.Sendable.{IsSendable};
 ghost use Rattle.nfs_types.specs.Sets.{has_number};
 
-/// The words of the supported attributes are the numbers of the table. Those of the settable ones
-/// are the numbers of its rows that can be set. The table stands by rising number. The numbers that
-/// a bit lets read or set are those of its rows that name the bit.
+/// The words of the supported attributes are the numbers of the table. Those of the settable ones are the numbers of
+/// its rows that can be set. The table is in the order of rising numbers. The numbers that a permission lets a caller
+/// read or set are those of the rows that name the permission.
 pub fn sets_are_the_table()
     ensures supported { (n : ℕ) → has_number supported_words n ≡ list_any (λ a. number_of a == n) all }
     ensures rising { rises (map number_of all) ≡ true }
@@ -25,13 +25,13 @@ pub fn sets_are_the_table()
     ensures set_by_owner { numbers.SET_BY_OWNER ≡ numbers_set_by mask.WRITE_OWNER }
 {}
 
-/// The attributes returned of an object are those requested and supported.
+/// The attributes that are returned for an object are those requested and supported.
 pub fn given_is_asked_and_supported()
     ensures { (asked : List ℕ) (n : ℕ) → has_number (given_set asked) n ≡ has_number asked n &&
         has_number supported_words n }
 {}
 
-/// The values that a client writes are read as these values.
+/// The values that a client writes are read back as these values.
 pub fn written_is_seen()
-    ensures { (s : Seen) → IsSendable s → seen_of (shown_set s) (shown_values s) ≡ Ok s }
+    ensures { (s : Seen) → IsSendable s → seen_of (client_set s) (client_values s) ≡ Ok s }
 {}

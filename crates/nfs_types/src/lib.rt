@@ -1,4 +1,4 @@
-//! The types of all operations of NFS version 4.1: statuses, filehandles, stateids, attributes, moments, names
+//! The types that all operations of NFS version 4.1 share: statuses, filehandles, stateids, attributes, times and names
 //! (RFC 8881).
 #![tactic(auto)]
 
@@ -11,6 +11,7 @@ mod attribute;
 mod attributes;
 mod attrs;
 mod bitmap;
+mod client_attributes;
 mod filled;
 mod given;
 mod handle;
@@ -20,7 +21,6 @@ mod name;
 mod parts;
 mod seen;
 mod sent;
-mod shown;
 mod stateid;
 mod status;
 
@@ -33,6 +33,7 @@ pub use attribute::{
 pub use attributes::Attributes;
 pub use attrs::{Attrs, AttrsFault, read_attrs};
 pub use bitmap::Bitmap;
+pub use client_attributes::{ClientAttributes, write_given};
 pub use given::GivenAttributes;
 pub use handle::Handle;
 pub use laws::{given_is_asked_and_supported, sets_are_the_table, written_is_seen};
@@ -40,6 +41,5 @@ pub use moment::Moment;
 pub use name::{MAX_NAME, check_name};
 pub use seen::{SeenAttributes, read_given};
 pub use sent::read_chosen;
-pub use shown::{ShownAttributes, write_given};
 pub use stateid::StateId;
 pub use status::Status;

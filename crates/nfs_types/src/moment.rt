@@ -1,15 +1,15 @@
-//! A moment, `nfstime4` (RFC 8881, section 3.3).
+//! A time, `nfstime4` (RFC 8881, section 3.3).
 ghost use Rattle.std.specs.Prelude.{◌≡◌, ◌<◌, ◌+◌, ◌*◌, ◌^◌};
 
 use std::alloc::Allocator;
 use xdr_wire::{Full, Spell, Writer};
 
-/// A moment since the epoch, `nfstime4` (RFC 8881, section 3.3.1).
+/// A time since the epoch, `nfstime4` (RFC 8881, section 3.3.1).
 #[derive(Clone, Copy, Debug, PartialEq, Eq)]
 pub struct Moment {
-    /// Whole seconds, before the epoch below 0.
+    /// Whole seconds; negative before the epoch.
     pub seconds: i64,
-    /// Nanoseconds on top of them, below 1,000,000,000.
+    /// Nanoseconds to be added to the seconds, below 1,000,000,000.
     pub nanoseconds: u32,
     ghost is_fraction: { nanoseconds < 1000000000 },
 }

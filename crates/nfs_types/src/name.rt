@@ -7,7 +7,7 @@ ghost use Rattle.std.specs.Str as text;
 
 use crate::status::Status;
 
-/// The most bytes of a name, the attribute `maxname`.
+/// The largest number of bytes of a name, the attribute `maxname`.
 pub const MAX_NAME: usize = 255;
 
 fn is_utf8(name: &[u8]) -> bool
@@ -16,7 +16,7 @@ fn is_utf8(name: &[u8]) -> bool
     str::from_utf8(name).is_ok()
 }
 
-/// Whether a byte can't stand in a name: `/` and NUL.
+/// Whether a byte can't occur in a name: `/` and NUL.
 fn has_separator(name: &[u8]) -> bool
     ensures { result ≡ list_any separates name.now }
 {
@@ -34,9 +34,9 @@ fn is_dots(name: &[u8]) -> bool
     }
 }
 
-/// The fault of a name of a directory's entry, `component4` (RFC 8881, sections 1.8.1 and 14), or
-/// none. It is the first of these, in this order: empty, `Inval`; over 255 bytes, `NameTooLong`;
-/// not UTF-8, `Inval`; with `/` or NUL in it, `BadChar`; `.` or `..`, `BadName`.
+/// The fault of a name of a directory's entry, `component4` (RFC 8881, sections 1.8.1 and 14). `None`: the name is
+/// valid. The fault is the first of these, in this order: empty, `Inval`; over 255 bytes, `NameTooLong`; not UTF-8,
+/// `Inval`; with `/` or NUL in it, `BadChar`; `.` or `..`, `BadName`.
 pub fn check_name(name: &[u8]) -> Option<Status>
     ensures { result ≡ name_fault name.now }
 {

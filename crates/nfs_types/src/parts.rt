@@ -1,4 +1,4 @@
-//! The parts of a list that CREATE, OPEN and SETATTR set: dacl and sacl.
+//! The parts of an access control list (ACL) that CREATE, OPEN and SETATTR set: dacl and sacl.
 ghost use Rattle.std.specs.Prelude.{◌≡◌, ◌||◌, map, Some, None, Ok, Err, MatchResult, is_some, option_map};
 ghost use Rattle.acl_shape.specs.Admitted.{admitted, part_fault};
 ghost use Rattle.acl_shape.specs.declared.request.AdmitFault.{AdmitFault};
@@ -20,8 +20,8 @@ use std::alloc::Allocator;
 use who_book::Book;
 use xdr_wire::Array;
 
-/// The part of a list that the entries ask for, on an object of this kind. Their number was checked
-/// before any was looked at.
+/// The part of an ACL that the access control entries (ACEs) ask for, on an object of this type. Their number was
+/// checked before any was examined.
 fn admit_part_of<'a, A: Allocator>(
     alloc: A,
     book: &Book,
@@ -46,7 +46,7 @@ fn admit_part_of<'a, A: Allocator>(
     admit_part(alloc, asked.as_slice(), kind, part)
 }
 
-/// The part of a list that was sent, if one was. Its flags stand for automatic inheritance, which isn't supported.
+/// The part of an ACL that was sent, if one was. Its flags are about automatic inheritance, which isn't supported.
 fn part_of<'a, A: Allocator>(
     alloc: A,
     book: &Book,
@@ -68,10 +68,11 @@ fn part_of<'a, A: Allocator>(
     Ok(Some(list))
 }
 
-/// The parts of a list, dacl and sacl.
+/// The parts of an ACL, dacl and sacl.
 type Parts<A> = (Option<AclList<A>>, Option<AclList<A>>);
 
-/// The parts of a list that were sent, in their order. The fault of either comes before there is no memory for one.
+/// The parts of an ACL that were sent, in their order. The fault of either is reported before an allocation for one
+/// fails.
 pub(crate) fn parts_of<'a, A: Allocator + Copy>(
     alloc: A,
     book: &Book,

@@ -26,8 +26,8 @@ pub(crate) struct Sent<'a> {
     pub sacl: Option<Acl41<Array<'a, Ace<'a>, 0xffff_ffff>>>,
 }
 
-/// Reads the value of an attribute at the front, if the attribute is in the set; else it reads
-/// nothing (RFC 8881, section 3.3.9). A fault leaves the reader where the value begins.
+/// Reads the value of an attribute, if the attribute is in the set; else it reads nothing (RFC 8881, section 3.3.9). A
+/// fault leaves the reader at the beginning of the value.
 pub fn read_chosen<'a, T: Wire<'a>>(
     set: &Bitmap,
     number: u32,
@@ -68,14 +68,14 @@ fn values<'a>(set: &Bitmap, reader: &mut Reader<'a>) -> Result<Sent<'a>, XdrFaul
 }
 
 impl<'a> Sent<'a> {
-    /// Whether a list is set, and beside it a part of a list.
+    /// Whether both an access control list and a part of one are set.
     pub fn sets_twice(&self) -> bool
         ensures { result ≡ is_set_twice (sent_value self.now) }
     {
         self.entries.is_some() && (self.dacl.is_some() || self.sacl.is_some())
     }
 
-    /// The values that the bytes spell, all of the bytes; or none.
+    /// The values that the bytes encode, all of the bytes. `None`: the bytes encode no values.
     pub fn read(sent: &Attributes<'a>) -> Option<Sent<'a>>
         ensures { option_map sent_value result ≡ whole (sent_at (bitmap_value sent.now.set) sent.now.values.bytes.now) }
     {

@@ -12,7 +12,7 @@ use xdr_wire::{Full, Reader, Spell, Wire, Writer, XdrFault};
 /// A stateid, `stateid4` (RFC 8881, section 8.2).
 #[derive(Clone, Copy, Debug, PartialEq, Eq)]
 pub struct StateId {
-    /// The seqid: how often the open was changed. A sent 0 means the newest.
+    /// The seqid: the number of changes of the open. 0 in a call means the newest.
     pub seqid: u32,
     /// The other field, which names the open.
     pub other: [u8; 12],
@@ -21,8 +21,8 @@ pub struct StateId {
 fn open_in(other: &[u8; 12]) -> Option<u64>
     ensures { result ≡ open_of (0, other.now) }
 {
-    let (front, item) = other.split_at(4);
-    if is_filled(front, 0) {
+    let (prefix, item) = other.split_at(4);
+    if is_filled(prefix, 0) {
         Some(u64::from_be_bytes([
             item[0], item[1], item[2], item[3], item[4], item[5], item[6], item[7],
         ]))
@@ -52,7 +52,7 @@ impl StateId {
         }
     }
 
-    /// The answer to CLOSE: the invalid stateid, which no operation takes (section 8.2.3).
+    /// The stateid that CLOSE returns: the invalid stateid, which no operation accepts (section 8.2.3).
     pub fn closed() -> Self
         ensures { stateid_value result ≡ specs.closed }
     {
@@ -62,7 +62,7 @@ impl StateId {
         }
     }
 
-    /// The stateid of the open of this number: 4 zero bytes and the number.
+    /// The stateid of the open with this number: 4 zero bytes and the number.
     pub fn of_open(seqid: u32, number: u64) -> Self
         ensures { stateid_value result ≡ open_stateid seqid number }
     {
@@ -71,7 +71,7 @@ impl StateId {
         StateId { seqid, other }
     }
 
-    /// Whether it is the anonymous stateid or the READ bypass stateid, with the seqid.
+    /// Whether it is the anonymous or the READ bypass stateid, including the seqid.
     pub fn is_special(&self) -> bool
         ensures { result ≡ specs.is_special (stateid_value self.now) }
     {
@@ -84,7 +84,7 @@ impl StateId {
         self.seqid == seqid && is_filled(&self.other, byte)
     }
 
-    /// The number of the open that it names, be there such an open or not; none where its first 4 bytes aren't zero.
+    /// The number of the open that it names, whether or not the open exists. `None`: its first 4 bytes aren't zero.
     pub fn open_number(&self) -> Option<u64>
         ensures { result ≡ open_of (stateid_value self.now) }
     {

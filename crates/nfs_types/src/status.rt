@@ -1,36 +1,36 @@
 //! Statuses, `nfsstat4` (RFC 8881, section 15).
 ghost use Rattle.std.specs.Prelude.{◌≡◌};
 
-/// The outcome of an operation, `nfsstat4` (RFC 8881, section 15.1), as far as this server answers it.
+/// The outcome of an operation, `nfsstat4` (RFC 8881, section 15.1), of those that this server returns.
 #[derive(Clone, Copy, Debug, PartialEq, Eq)]
 pub enum Status {
     /// NFS4_OK: the operation was done.
     Ok = 0,
     /// NFS4ERR_PERM: the caller may not give an object away.
     Perm = 1,
-    /// NFS4ERR_NOENT: no such name.
+    /// NFS4ERR_NOENT: the name doesn't exist.
     NoEnt = 2,
-    /// NFS4ERR_ACCESS: an access control list refuses.
+    /// NFS4ERR_ACCESS: an access control list refuses the access.
     Access = 13,
-    /// NFS4ERR_EXIST: the name is taken.
+    /// NFS4ERR_EXIST: the name exists already.
     Exist = 17,
-    /// NFS4ERR_NOTDIR: not a directory.
+    /// NFS4ERR_NOTDIR: the object isn't a directory.
     NotDir = 20,
-    /// NFS4ERR_ISDIR: a directory.
+    /// NFS4ERR_ISDIR: the object is a directory.
     IsDir = 21,
     /// NFS4ERR_INVAL: an argument is invalid.
     Inval = 22,
-    /// NFS4ERR_FBIG: the file would pass its greatest size.
+    /// NFS4ERR_FBIG: the file would exceed its largest size.
     FBig = 27,
     /// NFS4ERR_NOSPC: a table, a list or a counter is full.
     NoSpc = 28,
-    /// NFS4ERR_MLINK: the object has as many names as it may have.
+    /// NFS4ERR_MLINK: the object has the largest number of names.
     MLink = 31,
     /// NFS4ERR_NAMETOOLONG: a name or a link text is too long.
     NameTooLong = 63,
     /// NFS4ERR_NOTEMPTY: a directory isn't empty.
     NotEmpty = 66,
-    /// NFS4ERR_STALE: the filehandle's object is gone.
+    /// NFS4ERR_STALE: the object of the filehandle no longer exists.
     Stale = 70,
     /// NFS4ERR_BADHANDLE: the filehandle is malformed.
     BadHandle = 10001,
@@ -40,71 +40,71 @@ pub enum Status {
     NotSupp = 10004,
     /// NFS4ERR_TOOSMALL: the reply has less room than the first entry, or a size is too small.
     TooSmall = 10005,
-    /// NFS4ERR_SERVERFAULT: a fault of the server. This server never answers it.
+    /// NFS4ERR_SERVERFAULT: a fault of the server. This server never returns it.
     ServerFault = 10006,
-    /// NFS4ERR_BADTYPE: no object of this type can be made.
+    /// NFS4ERR_BADTYPE: no object of this type can be created.
     BadType = 10007,
-    /// NFS4ERR_DELAY: no memory was found; the operation changed nothing, and may be tried again.
+    /// NFS4ERR_DELAY: an allocation failed; the operation changed nothing, and may be retried.
     Delay = 10008,
-    /// NFS4ERR_SAME: the attributes are those that were sent.
+    /// NFS4ERR_SAME: the attributes equal those that were sent.
     Same = 10009,
     /// NFS4ERR_CLID_INUSE: the client owner is in use by another user.
     ClidInUse = 10017,
     /// NFS4ERR_NOFILEHANDLE: there is no current or saved filehandle.
     NoFileHandle = 10020,
-    /// NFS4ERR_MINOR_VERS_MISMATCH: another minor version than 1.
+    /// NFS4ERR_MINOR_VERS_MISMATCH: the minor version isn't 1.
     MinorVersMismatch = 10021,
-    /// NFS4ERR_STALE_CLIENTID: no such client.
+    /// NFS4ERR_STALE_CLIENTID: the client doesn't exist.
     StaleClientId = 10022,
-    /// NFS4ERR_OLD_STATEID: the stateid has been followed by another.
+    /// NFS4ERR_OLD_STATEID: a newer stateid has replaced the stateid.
     OldStateId = 10024,
-    /// NFS4ERR_BAD_STATEID: no such stateid.
+    /// NFS4ERR_BAD_STATEID: the stateid doesn't exist.
     BadStateId = 10025,
-    /// NFS4ERR_NOT_SAME: the attributes aren't those that were sent.
+    /// NFS4ERR_NOT_SAME: the attributes differ from those that were sent.
     NotSame = 10027,
-    /// NFS4ERR_SYMLINK: a symbolic link.
+    /// NFS4ERR_SYMLINK: the object is a symbolic link.
     Symlink = 10029,
-    /// NFS4ERR_ATTRNOTSUPP: an attribute, or a type of entry, isn't supported.
+    /// NFS4ERR_ATTRNOTSUPP: an attribute, or a type of access control entry, isn't supported.
     AttrNotSupp = 10032,
-    /// NFS4ERR_BADXDR: the arguments don't spell what they should.
+    /// NFS4ERR_BADXDR: the bytes aren't an encoding of the arguments.
     BadXdr = 10036,
     /// NFS4ERR_OPENMODE: the file isn't open for this.
     OpenMode = 10038,
     /// NFS4ERR_BADOWNER: nobody has this name.
     BadOwner = 10039,
-    /// NFS4ERR_BADCHAR: a character can't stand in a name.
+    /// NFS4ERR_BADCHAR: a name has a character that isn't allowed.
     BadChar = 10040,
-    /// NFS4ERR_BADNAME: a name that no object can have.
+    /// NFS4ERR_BADNAME: no object can have the name.
     BadName = 10041,
     /// NFS4ERR_OP_ILLEGAL: no operation has this number.
     OpIllegal = 10044,
-    /// NFS4ERR_BADSESSION: no such session.
+    /// NFS4ERR_BADSESSION: the session doesn't exist.
     BadSession = 10052,
-    /// NFS4ERR_BADSLOT: the session has no such slot.
+    /// NFS4ERR_BADSLOT: the session doesn't have the slot.
     BadSlot = 10053,
     /// NFS4ERR_COMPLETE_ALREADY: the client has completed its reclaims already.
     CompleteAlready = 10054,
-    /// NFS4ERR_SEQ_MISORDERED: neither the next sequence ID nor the last.
+    /// NFS4ERR_SEQ_MISORDERED: the sequence ID is neither the next nor the last.
     SeqMisordered = 10063,
-    /// NFS4ERR_SEQUENCE_POS: a SEQUENCE that isn't the first operation.
+    /// NFS4ERR_SEQUENCE_POS: a SEQUENCE isn't the first operation.
     SequencePos = 10064,
-    /// NFS4ERR_REQ_TOO_BIG: the request is larger than the session takes.
+    /// NFS4ERR_REQ_TOO_BIG: the request is larger than the session allows.
     ReqTooBig = 10065,
     /// NFS4ERR_REP_TOO_BIG: the reply has no room for the result.
     RepTooBig = 10066,
     /// NFS4ERR_REP_TOO_BIG_TO_CACHE: the reply has no room for the result, and was to be cached.
     RepTooBigToCache = 10067,
-    /// NFS4ERR_TOO_MANY_OPS: more operations than the session takes.
+    /// NFS4ERR_TOO_MANY_OPS: there are more operations than the session allows.
     TooManyOps = 10070,
     /// NFS4ERR_OP_NOT_IN_SESSION: the operation needs a session.
     OpNotInSession = 10071,
     /// NFS4ERR_CLIENTID_BUSY: the client has sessions or opens.
     ClientIdBusy = 10074,
-    /// NFS4ERR_SEQ_FALSE_RETRY: the sequence ID of the last request, with another request.
+    /// NFS4ERR_SEQ_FALSE_RETRY: another request has the sequence ID of the last one.
     SeqFalseRetry = 10076,
-    /// NFS4ERR_BAD_HIGH_SLOT: the highest slot isn't one of the session.
+    /// NFS4ERR_BAD_HIGH_SLOT: the session doesn't have the highest slot.
     BadHighSlot = 10077,
-    /// NFS4ERR_NOT_ONLY_OP: the operation has to be the only one.
+    /// NFS4ERR_NOT_ONLY_OP: the operation must be the only one.
     NotOnlyOp = 10081,
     /// NFS4ERR_WRONG_TYPE: the object isn't of the type that the operation needs.
     WrongType = 10083,
@@ -113,14 +113,14 @@ pub enum Status {
 impl Status {
     ghost use Rattle.nfs_types.specs.Status.{number_of, status_at, name_of};
 
-    /// The number that stands on the wire.
+    /// The number of the status in XDR.
     pub fn number(self) -> u32
         ensures { result ≡ number_of self }
     {
         self as u32
     }
 
-    /// The status of a number, if this server has one.
+    /// The status with this number. `None`: this server doesn't have it.
     #[tactic(auto, unfolding(crate::specs::Status::status_at))]
     pub fn of_number(number: u32) -> Option<Status>
         ensures { result ≡ status_at number }

@@ -3,19 +3,20 @@ use crate::names::Names;
 use crate::person::member_of;
 use rpc_record::{Caller, MOST_FURTHER};
 
-/// The book of a call, and its caller as the server takes it.
+/// The book of a call, and its caller with the groups that the server uses.
 #[derive(Drop)]
 pub(crate) struct Around {
-    /// The book, or the one without names where none is given.
+    /// The book, or the one without names if none is given.
     pub(crate) names: Names,
     /// A book is given.
     pub(crate) is_named: bool,
     pub(crate) caller: Caller,
-    /// Standard error is a terminal: how far a long command is, is said there.
+    /// Standard error is a terminal: the progress of a long command is reported there.
     pub(crate) is_watched: bool,
 }
 
-/// The caller of this user and these groups, of which the first is its own; of those of the book, where it says them.
+/// The caller of this user and these groups, of which the first is its own; or of the groups in the
+/// book, if it has them.
 fn caller_of(names: &Names, uid: u32, gid: u32, groups: &[u32]) -> Caller {
     let further = groups.get(..MOST_FURTHER.min(groups.len())).unwrap_or(&[]);
     match member_of(&names.book, uid) {
@@ -25,7 +26,7 @@ fn caller_of(names: &Names, uid: u32, gid: u32, groups: &[u32]) -> Caller {
 }
 
 impl Around {
-    /// Of a caller of this user and these groups, of which the book may say others.
+    /// The book and the caller of this user and these groups, which the book may replace.
     pub(crate) fn new(
         names: Names,
         (is_named, is_watched): (bool, bool),

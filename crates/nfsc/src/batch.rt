@@ -1,10 +1,12 @@
 //! `batch`: commands from standard input, in one session.
+use crate::about::About;
 use crate::around::Around;
 use crate::calling::Session;
 use crate::fault::Fault;
 use crate::helping::{Help, Usages};
+use crate::lasting::Stay;
+use crate::printing::{Place, print_answer};
 use crate::quoting::words_in;
-use crate::telling::{Place, tell};
 use crate::wish::Wish;
 use nfs_client::ToolFault;
 use nfsc_options::Options;
@@ -19,14 +21,14 @@ use std::{io, str};
 /// The outcome of a line.
 #[derive(Clone, Copy)]
 enum Fate {
-    /// It was answered, or had nothing to be answered.
+    /// It was answered, or needed no answer.
     Answered,
     Failed,
-    /// It failed, and so would each that comes after it.
+    /// It failed, and every later line would fail too.
     Over,
 }
 
-/// Whether no command of a session goes on after this fault.
+/// Whether no later command of a session can run after this fault.
 fn is_last(fault: Fault) -> bool {
     match fault {
         Fault::Late(_) => true,
@@ -53,54 +55,55 @@ impl<R: Net<Stream = TcpStream> + Clock + RandomSource + Files + Input + Print +
     '_,
     R,
 > {
-    /// Tells a fault of a line that asks nothing of the server.
+    /// Reports a fault of a line that sends nothing to the server.
     fn refuse(&self, place: Place, fault: Fault) -> io::Result<Fate> {
-        tell(self.rt, place, self.options, Err(fault))?;
+        print_answer(self.rt, place, self.options, About::nothing(), Err(fault))?;
         Ok(Fate::Failed)
     }
 
-    /// Does what is wished.
+    /// Runs a command.
     fn act(&mut self, place: Place, wish: Wish<'_>) -> io::Result<Fate> {
         if wish.takes_input() {
             return self.refuse(place, Fault::Input);
         }
-        let told = self
+        let about = About::of(&wish);
+        let outcome = self
             .session
             .run(self.rt, self.alloc, self.around, place, wish);
-        let fate = match &told {
+        let fate = match &outcome {
             Ok(_) => Fate::Answered,
             Err(fault) if is_last(*fault) => Fate::Over,
             Err(_) => Fate::Failed,
         };
-        tell(self.rt, place, self.options, told)?;
+        print_answer(self.rt, place, self.options, about, outcome)?;
         Ok(fate)
     }
 
-    /// Runs the command of words.
+    /// Runs the command of these words.
     fn run(&mut self, place: Place, words: &[String]) -> io::Result<Fate> {
-        let said: Vec<&str> = words.iter().map(|word| word.as_str()).collect(self.alloc)?;
+        let printed: Vec<&str> = words.iter().map(|word| word.as_str()).collect(self.alloc)?;
         let bytes: Vec<&[u8]> = words
             .iter()
             .map(|word| word.as_bytes())
             .collect(self.alloc)?;
-        if let Some(help) = Help::read(said.as_slice()) {
+        if let Some(help) = Help::read(printed.as_slice()) {
             help.print(self.rt)?;
             return Ok(Fate::Answered);
         }
-        if let ["batch"] = said.as_slice() {
+        if let ["batch"] = printed.as_slice() {
             return self.refuse(place, Fault::Nested);
         }
-        match Wish::read(said.as_slice(), bytes.as_slice()) {
+        match Wish::read(printed.as_slice(), bytes.as_slice()) {
             Some(wish) => self.act(place, wish),
             None => {
-                let name = said.first().copied().unwrap_or("");
-                Usages::of(name).say(self.rt, place, name)?;
+                let name = printed.first().copied().unwrap_or("");
+                Usages::of(name).report(self.rt, place, name)?;
                 Ok(Fate::Failed)
             }
         }
     }
 
-    /// Runs a line. One without words, or that begins with `#`, is skipped.
+    /// Runs a line. A line without words, or one that begins with `#`, is skipped.
     fn line(&mut self, place: Place, bytes: &[u8]) -> io::Result<Fate> {
         let Ok(line) = str::from_utf8(bytes) else {
             return self.refuse(place, Fault::Text);
@@ -115,7 +118,7 @@ impl<R: Net<Stream = TcpStream> + Clock + RandomSource + Files + Input + Print +
         }
     }
 
-    /// Runs the lines of standard input, each as it comes. Whether all were answered.
+    /// Runs the lines of standard input, as each is read. Returns whether all were answered.
     fn lines(&mut self) -> io::Result<bool> {
         let mut reader = self.rt.reader();
         let mut is_well = true;
@@ -141,7 +144,8 @@ impl<R: Net<Stream = TcpStream> + Clock + RandomSource + Files + Input + Print +
     }
 }
 
-/// Runs the commands of standard input in one session. Whether all were answered.
+/// Runs the commands of standard input in one session. If the server grants a persistent session,
+/// the batch goes on after a restart of the server. Returns whether all were answered.
 pub(crate) fn run<
     'a,
     R: Net<Stream = TcpStream> + Clock + RandomSource + Files + Input + Print + Eprint,
@@ -153,7 +157,7 @@ pub(crate) fn run<
     around: &'a Around,
 ) -> io::Result<bool> {
     let is_late = Cell::new(false);
-    match Session::open(rt, alloc, options, groups, &is_late) {
+    match Session::open(rt, alloc, options, groups, &is_late, Stay::Asked) {
         Ok(session) => {
             let mut batch = Batch {
                 rt,
@@ -162,10 +166,10 @@ pub(crate) fn run<
                 around,
                 session,
             };
-            let told = batch.lines();
+            let outcome = batch.lines();
             batch.session.end();
-            told
+            outcome
         }
-        Err(fault) => tell(rt, Place::Call, options, Err(fault)),
+        Err(fault) => print_answer(rt, Place::Call, options, About::nothing(), Err(fault)),
     }
 }

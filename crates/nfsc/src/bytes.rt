@@ -11,7 +11,7 @@ const MOST_BYTES: usize = 1_048_576;
 /// The most bytes of one read.
 const PIECE: usize = 4096;
 
-/// All that a reader gives. `TooLarge`: more than a file of the server may have.
+/// All bytes of a reader. `TooLarge`: more than a file of the server may have.
 fn all_of<R: Read>(alloc: Global, reader: &mut R) -> Result<Vec<u8>, Fault> {
     let mut bytes = Vec::new(alloc);
     for _read in 0..u64::MAX {
@@ -30,7 +30,8 @@ fn all_of<R: Read>(alloc: Global, reader: &mut R) -> Result<Vec<u8>, Fault> {
     Err(Fault::TooLarge)
 }
 
-/// The bytes of a file, or of standard input for `-`. They are read whole before anything is asked of the server.
+/// The bytes of a file, or of standard input for `-`. They are read completely before anything is
+/// asked of the server.
 pub(crate) fn read<R: Files + Input>(rt: &R, alloc: Global, file: &str) -> Result<Vec<u8>, Fault> {
     if file == "-" {
         return all_of(alloc, &mut rt.reader());
@@ -41,7 +42,7 @@ pub(crate) fn read<R: Files + Input>(rt: &R, alloc: Global, file: &str) -> Resul
     }
 }
 
-/// Makes bytes those of a file, which is created where there is none.
+/// Makes bytes those of a file, which is created if it doesn't exist.
 pub(crate) fn write<R: Files>(rt: &R, file: &str, bytes: &[u8]) -> Result<(), Fault> {
     match fs::write(rt, file, bytes) {
         Ok(()) => Ok(()),

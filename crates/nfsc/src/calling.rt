@@ -1,42 +1,44 @@
-//! A session of its own with the server, and what is done in it.
+//! A session of its own with the server, and the commands that run in it.
 use crate::around::Around;
 use crate::deep::{Deep, Manner, Voice};
 use crate::facl::Change;
 use crate::fault::Fault;
-use crate::grouped::Grouped;
-use crate::link::Link;
+use crate::lasting::{Lasting, Peer, Stay};
+use crate::names::principal_of;
+use crate::printing::Place;
 use crate::rights::Rights;
 use crate::starting::{owner, verifier};
-use crate::telling::Place;
 use crate::user::Asked;
 use crate::wish::Wish;
 use crate::{bytes, deep, facl, object, why};
-use nfs_client::{Answer, Client, ToolFault};
+use nfs_client::{Answer, Client, ToolFault, Transport};
 use nfs_ops::{OP_CLOSE, OP_SETATTR, OP_WRITE};
 use nfsc_options::Options;
 use std::alloc::Global;
 use std::cell::Cell;
-use std::io::{ErrorKind, Read, Write};
-use std::net::{Ipv4Addr, Net, SocketAddr, SocketAddrV4, TcpStream};
+use std::net::{Net, SocketAddr, TcpStream};
 use std::random::RandomSource;
 use std::rt::{Clock, Files};
 use std::time::Duration;
+use who_book::NameKind;
 
-/// A wish, whose bytes of this system were read.
+/// A command, whose bytes of this system were read before.
 #[derive(Drop)]
 pub(crate) enum Task<'a> {
     Wish(Wish<'a>),
     /// These bytes become those of a file.
     Put(&'a [u8], Vec<u8>),
-    /// A question on the rights of users.
+    /// A question on the permissions of users.
     Question(Question<'a>),
-    /// A change of the list of an object, and whether it is forced.
+    /// A change of an object's access control list (ACL), and whether it is forced.
     Facl(&'a [u8], (Change<'a>, bool), &'a Around),
+    /// Sets the owner or the group of the object of a path.
+    Give(NameKind, Vec<u8>, &'a [u8]),
     /// A command over the object of a path and all below it.
     Deep((Deep<'a>, Manner, &'a [u8]), &'a Around),
 }
 
-/// A question on the rights of a user, or of all users of the book, on the object of a path.
+/// A question on the permissions of a user, or of all users of the book, on the object of a path.
 #[derive(Clone, Copy)]
 pub(crate) struct Question<'a> {
     /// The user, or all users of the book.
@@ -46,7 +48,7 @@ pub(crate) struct Question<'a> {
     around: &'a Around,
 }
 
-/// The rights of a word.
+/// The permissions of a word.
 fn rights_in(alloc: Global, text: &str) -> Result<Rights, Fault> {
     let entry = format!(in alloc; "A::EVERYONE@:{text}")?;
     match Rights::read(text, entry.as_str()) {
@@ -55,8 +57,8 @@ fn rights_in(alloc: Global, text: &str) -> Result<Rights, Fault> {
     }
 }
 
-/// The answer to a question, by the server's lists.
-fn answered<S: Read + Write>(
+/// The answer to a question, by the server's ACLs.
+fn answered<S: Transport>(
     client: &mut Client<S>,
     alloc: Global,
     question: Question<'_>,
@@ -73,15 +75,15 @@ fn answered<S: Read + Write>(
     }
 }
 
-/// Whether a refusal of this operation can have left a part of what was sent in the file.
+/// Whether a refusal of this operation can have left a part of the sent bytes in the file.
 fn may_leave(op: u32) -> bool {
     op == OP_WRITE || op == OP_SETATTR || op == OP_CLOSE
 }
 
-/// Makes bytes those of a file, which keeps its own up to the first WRITE. Where the server refused
-/// some of them, it is said how many the file has. Where no answer came, it is said that they may be
-/// there in part.
-fn send<S: Read + Write, R: Eprint>(
+/// Makes bytes those of a file, which keeps its own up to the first WRITE. If the server refused
+/// some of them, the size of the file is printed. If no reply came, a sentence reports that a part
+/// of them may be in the file.
+fn send<S: Transport, R: Eprint>(
     client: &mut Client<S>,
     voice: Voice<'_, R>,
     path: &[u8],
@@ -90,13 +92,13 @@ fn send<S: Read + Write, R: Eprint>(
     match client.replace(path, bytes) {
         Err(fault @ ToolFault::Refused(op, _)) if may_leave(op) => {
             if let Ok(Some(size)) = object::size(client, path) {
-                voice.say_size(path, size);
+                voice.report_size(path, size);
             }
             Err(Fault::Tool(fault))
         }
         Err(fault) => {
             if is_of_stream(fault) {
-                voice.say_part(path);
+                voice.report_part(path);
             }
             Err(Fault::Tool(fault))
         }
@@ -105,7 +107,7 @@ fn send<S: Read + Write, R: Eprint>(
 }
 
 /// Does a task by a client. The answer is to be printed.
-fn done<S: Read + Write, R: Print + Eprint>(
+fn done<S: Transport, R: Print + Eprint>(
     client: &mut Client<S>,
     voice: Voice<'_, R>,
     alloc: Global,
@@ -132,12 +134,12 @@ fn done<S: Read + Write, R: Print + Eprint>(
             text.push(b'\n')?;
             Ok(Answer::Text(text))
         }
-        Task::Wish(Wish::ChOwn(owner, path)) => {
-            client.chown(owner, path)?;
+        Task::Give(NameKind::User, owner, path) => {
+            client.chown(owner.as_slice(), path)?;
             Ok(Answer::Done)
         }
-        Task::Wish(Wish::ChGrp(group, path)) => {
-            client.chgrp(group, path)?;
+        Task::Give(NameKind::Group, group, path) => {
+            client.chgrp(group.as_slice(), path)?;
             Ok(Answer::Done)
         }
         Task::Wish(Wish::SymLink(text, path)) => {
@@ -159,12 +161,14 @@ fn done<S: Read + Write, R: Print + Eprint>(
             | Wish::Why { .. }
             | Wish::Who { .. }
             | Wish::ChangeFacl { .. }
+            | Wish::ChOwn(_, _)
+            | Wish::ChGrp(_, _)
             | Wish::Deep { .. },
         ) => Err(Fault::Unread),
     }
 }
 
-/// The file of this system that an answer goes to, if it goes to one.
+/// The file of this system that an answer is written to, if any.
 fn file_of<'a>(wish: &Wish<'a>) -> Option<&'a str> {
     match wish {
         Wish::Get { path: _, file } => *file,
@@ -172,7 +176,19 @@ fn file_of<'a>(wish: &Wish<'a>) -> Option<&'a str> {
     }
 }
 
-/// The task of a wish: what is sent is read before anything is asked of the server.
+/// The task that sets the owner or the group of the object of a path to that of a word.
+fn given_to<'a>(
+    alloc: Global,
+    around: &Around,
+    kind: NameKind,
+    word: &[u8],
+    path: &'a [u8],
+) -> Result<Task<'a>, Fault> {
+    let principal = principal_of(alloc, &around.names.book, kind, word)?;
+    Ok(Task::Give(kind, principal, path))
+}
+
+/// The task of a command: the bytes to be sent are read before anything is asked of the server.
 fn task_of<'a, R: Files + Input>(
     rt: &R,
     alloc: Global,
@@ -192,6 +208,8 @@ fn task_of<'a, R: Files + Input>(
             change,
             is_forced,
         } => Ok(Task::Facl(path, (change, is_forced), around)),
+        Wish::ChOwn(owner, path) => given_to(alloc, around, NameKind::User, owner, path),
+        Wish::ChGrp(group, path) => given_to(alloc, around, NameKind::Group, group, path),
         Wish::Deep { deep, manner, path } => Ok(Task::Deep((deep, manner, path), around)),
         Wish::Who { rights, path } => Ok(Task::Question(Question {
             user: None,
@@ -203,7 +221,7 @@ fn task_of<'a, R: Files + Input>(
     }
 }
 
-/// Writes an answer to its file, where it goes to one.
+/// Writes an answer to its file, if it has one.
 fn kept<R: Files>(rt: &R, file: Option<&str>, answer: Answer) -> Result<Answer, Fault> {
     match file {
         Some(file) => {
@@ -214,24 +232,12 @@ fn kept<R: Files>(rt: &R, file: Option<&str>, answer: Answer) -> Result<Answer, 
     }
 }
 
-/// Connects to the server. A call isn't held back to be sent with the next call.
-fn connect<R: Net<Stream = TcpStream>>(
-    rt: &R,
-    port: u16,
-    patience: Duration,
-) -> Result<TcpStream, Fault> {
-    let server = SocketAddr::V4(SocketAddrV4::new(Ipv4Addr::LOCALHOST, port));
-    match TcpStream::connect_timeout(rt, &server, patience) {
-        Ok(stream) => {
-            let _ = stream.set_nodelay(true);
-            Ok(stream)
-        }
-        Err(error) if matches!(error.kind(), ErrorKind::TimedOut) => Err(Fault::LateSocket),
-        Err(_) => Err(Fault::Socket),
-    }
+/// The server of the options.
+pub(crate) fn server_of(options: &Options<'_>) -> SocketAddr {
+    SocketAddr::new(options.host, options.port)
 }
 
-/// The fault of a session on whose stream an answer was late, if one was.
+/// The fault of a session on whose stream a reply was late, if one was.
 fn judged(fault: Fault, is_late: bool) -> Fault {
     match fault {
         Fault::Tool(fault) if is_late && is_of_stream(fault) => Fault::Late(fault),
@@ -247,7 +253,7 @@ fn is_of_stream(fault: ToolFault) -> bool {
 /// A client with a session of its own.
 #[derive(Drop)]
 pub(crate) struct Session<'a, R> {
-    client: Client<Grouped<'a, Link<'a, R>>>,
+    client: Client<Lasting<'a, R>>,
     is_late: &'a Cell<bool>,
 }
 
@@ -255,21 +261,28 @@ impl<
     'a,
     R: Net<Stream = TcpStream> + Clock + RandomSource + Files + Input + Print + Eprint,
 > Session<'a, R> {
-    /// Connects to the server, and opens a session by an owner of its own. The cell is false at first.
+    /// Connects to the server, and opens a session by an owner of its own. The cell is false at
+    /// first.
     pub(crate) fn open(
         rt: &'a R,
         alloc: Global,
         options: &Options<'_>,
         groups: &'a [u32],
         is_late: &'a Cell<bool>,
+        stay: Stay,
     ) -> Result<Self, Fault> {
         let Ok(owner) = owner(rt) else {
             return Err(Fault::Random);
         };
-        let patience = Duration::from_secs(u64::from(options.timeout));
-        let stream = connect(rt, options.port, patience)?;
-        let link = Link::new(rt, stream, patience, is_late);
-        let calls = Grouped::new(alloc, link, groups);
+        let peer = Peer {
+            rt,
+            alloc,
+            server: server_of(options),
+            patience: Duration::from_secs(u64::from(options.timeout)),
+            groups,
+            is_late,
+        };
+        let calls = Lasting::open(peer, stay)?;
         let (uid, gid) = (options.uid, options.gid);
         match Client::open(alloc, calls, uid, gid, &owner, verifier(rt)) {
             Ok(client) => Ok(Session { client, is_late }),
@@ -285,7 +298,7 @@ impl<
         }
     }
 
-    /// Does what is wished.
+    /// Runs a command.
     pub(crate) fn run<'w>(
         &mut self,
         rt: &R,
@@ -308,13 +321,13 @@ impl<
         kept(rt, file, answer)
     }
 
-    /// Ends the session and its client. A refusal or a fault isn't said.
+    /// Ends the session and its client. A refusal or a fault isn't reported.
     pub(crate) fn end(&mut self) {
         let _ = self.client.end();
     }
 }
 
-/// Does what is wished in a session of its own, which is ended also where the wish was refused.
+/// Runs a command in a session of its own, which is ended even if the command was refused.
 pub(crate) fn call<
     'a,
     'w,
@@ -330,13 +343,13 @@ pub(crate) fn call<
     let file = file_of(&wish);
     let task = task_of(rt, alloc, around, wish)?;
     let is_late = Cell::new(false);
-    let mut session = Session::open(rt, alloc, options, groups, &is_late)?;
+    let mut session = Session::open(rt, alloc, options, groups, &is_late, Stay::Never)?;
     let voice = Voice {
         rt,
         place: Place::Call,
         is_watched: around.is_watched,
     };
-    let told = session.act(voice, alloc, task);
+    let outcome = session.act(voice, alloc, task);
     session.end();
-    kept(rt, file, told?)
+    kept(rt, file, outcome?)
 }

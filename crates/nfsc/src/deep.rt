@@ -1,21 +1,22 @@
-//! Commands over an object and all below it, and directories that are made with those above them.
+//! Commands over an object and all below it, and directories that are created with their missing
+//! parents.
 use crate::around::Around;
 use crate::fault::Fault;
 use crate::judged::keeps_rights;
-use crate::shown::Shown;
-use crate::telling::Place;
+use crate::printable::Printable;
+use crate::printing::Place;
 use crate::tree::{Kind, Object, Tree, Unlisted};
 use crate::{facl, object};
-use nfs_client::{Answer, Client, ToolFault, read_mode};
+use nfs_client::{Answer, Client, ToolFault, Transport, read_mode};
 use nfs_types::Status;
 use std::alloc::Global;
 use std::io;
-use std::io::{Read, Write};
+use std::io::Write;
 
 /// A command over an object and all below it.
 #[derive(Clone, Copy)]
 pub(crate) enum Deep<'a> {
-    /// `list -R P`: prints the lines of what is below a directory.
+    /// `list -R P`: prints the lines of everything below a directory.
     List,
     /// `chmod -R OCTAL P`.
     ChMod(&'a [u8]),
@@ -28,71 +29,71 @@ pub(crate) enum Deep<'a> {
 /// How a command over an object and all below it is run.
 #[derive(Clone, Copy)]
 pub(crate) struct Manner {
-    /// It is only said what would be done.
+    /// Only prints what would be done.
     pub(crate) is_dry: bool,
-    /// Lists are set also where their user can't change them back.
+    /// Sets ACLs even if their user can't change them back.
     pub(crate) is_forced: bool,
 }
 
-/// Where a command's faults are said: what prints them, and the line of a batch that they are of.
+/// How a command's faults are reported: what prints them, and the line of a batch that they are of.
 #[derive(Drop)]
 pub(crate) struct Voice<'a, R> {
     pub(crate) rt: &'a R,
     pub(crate) place: Place,
-    /// How far a command is, is said too.
+    /// The progress of a command is reported too.
     pub(crate) is_watched: bool,
 }
 
-/// After how many objects it is said how far a command is.
+/// The number of objects between two progress reports.
 const STRIDE: usize = 100;
 
 impl<R: Eprint> Voice<'_, R> {
-    /// Says what is wrong with one object.
-    fn say(&self, path: &[u8], fault: ToolFault) -> Result<(), Fault> {
+    /// Reports what is wrong with one object.
+    fn report(&self, path: &[u8], fault: ToolFault) -> Result<(), Fault> {
         let (rt, place) = (self.rt, self.place);
         let why = Fault::Tool(fault).sentence();
-        match eprintln!(rt; "nfsc: {place}{}: {why}", Shown(path)) {
+        match eprintln!(rt; "nfsc: {place}{}: {why}", Printable(path)) {
             Ok(()) => Ok(()),
-            Err(_) => Err(Fault::Unsaid),
+            Err(_) => Err(Fault::Missing),
         }
     }
 
-    /// Says which object is the first whose list its user couldn't change back.
-    fn say_locked(&self, path: &[u8]) -> Result<(), Fault> {
+    /// Reports the first object whose access control list (ACL) its user couldn't change back.
+    fn report_locked(&self, path: &[u8]) -> Result<(), Fault> {
         let (rt, place) = (self.rt, self.place);
         match eprintln!(rt;
             "nfsc: {place}{} would be locked; nothing was changed",
-            Shown(path)
+            Printable(path)
         ) {
             Ok(()) => Ok(()),
-            Err(_) => Err(Fault::Unsaid),
+            Err(_) => Err(Fault::Missing),
         }
     }
 
-    /// Says how many bytes a file has now.
-    pub(crate) fn say_size(&self, path: &[u8], size: u64) {
+    /// Reports the size of a file.
+    pub(crate) fn report_size(&self, path: &[u8], size: u64) {
         let (rt, place) = (self.rt, self.place);
-        let _ = eprintln!(rt; "nfsc: {place}{} has {size} bytes now", Shown(path));
+        let _ = eprintln!(rt; "nfsc: {place}{} has {size} bytes now", Printable(path));
     }
 
-    /// Says that a file may have only a part of what was sent.
-    pub(crate) fn say_part(&self, path: &[u8]) {
+    /// Reports that a file may have only a part of the sent bytes.
+    pub(crate) fn report_part(&self, path: &[u8]) {
         let (rt, place) = (self.rt, self.place);
         let _ = eprintln!(rt;
             "nfsc: {place}{} may have only a part of the bytes now",
-            Shown(path)
+            Printable(path)
         );
     }
 
-    /// Says how many objects of all are done, on a line that the next one takes the place of.
-    fn say_done(&self, done: usize, all: usize) {
+    /// Reports how many objects of all are done, on a line that the next report overwrites.
+    fn report_done(&self, done: usize, all: usize) {
         let rt = self.rt;
         if self.is_watched && all > STRIDE && done % STRIDE == 0 {
             let _ = eprint!(rt; "\rnfsc: {done} of {all}");
         }
     }
 
-    /// Takes that line away.
+    /// Clears that line.
     fn clear(&self, all: usize) {
         let rt = self.rt;
         if self.is_watched && all > STRIDE {
@@ -100,10 +101,10 @@ impl<R: Eprint> Voice<'_, R> {
         }
     }
 
-    /// Says which directories can't be listed.
-    fn say_unlisted(&self, unlisted: &[Unlisted]) -> Result<(), Fault> {
+    /// Reports the directories that can't be listed.
+    fn report_unlisted(&self, unlisted: &[Unlisted]) -> Result<(), Fault> {
         for directory in unlisted {
-            self.say(directory.path.as_slice(), directory.fault)?;
+            self.report(directory.path.as_slice(), directory.fault)?;
         }
         Ok(())
     }
@@ -113,13 +114,13 @@ impl<R: Eprint> Voice<'_, R> {
 #[derive(Drop)]
 enum Change<'a> {
     ChMod(&'a [u8]),
-    /// The entries as text, for a directory and for another object.
+    /// The ACL's entries as text, for a directory and for another object.
     SetFacl(Vec<Vec<u8>>, Vec<Vec<u8>>),
     Rm,
 }
 
 impl<'a> Change<'a> {
-    /// The change that is asked for, before anything is asked of the server. `None`: it changes nothing.
+    /// The requested change, before anything is asked of the server. `None`: it changes nothing.
     fn of(alloc: Global, deep: Deep<'a>, path: &[u8]) -> Result<Option<Self>, Fault> {
         match deep {
             Deep::List => Ok(None),
@@ -135,7 +136,7 @@ impl<'a> Change<'a> {
         }
     }
 
-    /// Whether the change is one of this object: a symbolic link has no mode and no list to be set.
+    /// Whether the change applies to this object: a symbolic link has no mode and no ACL to be set.
     fn is_of(&self, object: &Object) -> bool {
         match self {
             Change::Rm => true,
@@ -143,7 +144,7 @@ impl<'a> Change<'a> {
         }
     }
 
-    /// The entries of an object's list by the change, where it is one of lists.
+    /// The entries that the change gives an object, if it is one of ACLs.
     fn entries(&self, object: &Object) -> Option<&[Vec<u8>]> {
         match (self, object.kind) {
             (Change::SetFacl(directory, _), Kind::Directory) => Some(directory.as_slice()),
@@ -153,7 +154,7 @@ impl<'a> Change<'a> {
     }
 
     /// Changes one object.
-    fn act<S: Read + Write>(
+    fn act<S: Transport>(
         &self,
         client: &mut Client<S>,
         alloc: Global,
@@ -170,7 +171,7 @@ impl<'a> Change<'a> {
         }
     }
 
-    /// Puts the line that says what would be done to an object.
+    /// Puts the line that describes the change of an object.
     fn put(&self, alloc: Global, out: &mut Vec<u8>, object: &Object) -> Result<(), Fault> {
         out.extend_from_slice(match self {
             Change::ChMod(_) => b"chmod ",
@@ -187,13 +188,13 @@ impl<'a> Change<'a> {
 
 /// Puts a path as it is printed, and a newline.
 fn put_path(alloc: Global, out: &mut Vec<u8>, path: &[u8]) -> Result<(), Fault> {
-    let text = format!(in alloc; "{}\n", Shown(path))?;
+    let text = format!(in alloc; "{}\n", Printable(path))?;
     out.extend_from_slice(text.as_bytes())?;
     Ok(())
 }
 
-/// The object at a path, and all below it: each directory stands before what is in it.
-fn tree_at<S: Read + Write>(
+/// The object at a path, and all below it: each directory comes before its contents.
+fn tree_at<S: Transport>(
     client: &mut Client<S>,
     alloc: Global,
     path: &[u8],
@@ -222,8 +223,8 @@ fn tree_at<S: Read + Write>(
     Ok(Tree { objects, unlisted })
 }
 
-/// The lines of what is in a directory by its names, or the line of another object by its path.
-pub(crate) fn list_one<S: Read + Write>(
+/// The lines of a directory's contents by their names, or the line of another object by its path.
+pub(crate) fn list_one<S: Transport>(
     client: &mut Client<S>,
     alloc: Global,
     path: &[u8],
@@ -246,8 +247,8 @@ fn name_of(path: &[u8]) -> &[u8] {
     path.rsplit(|byte| *byte == b'/').next().unwrap_or(path)
 }
 
-/// Whether the object of a path has this number. One that the caller can't reach hasn't.
-fn has_number<S: Read + Write>(
+/// Whether the object of a path has this file ID. One that the caller can't reach doesn't.
+fn has_number<S: Transport>(
     client: &mut Client<S>,
     path: &[u8],
     number: u64,
@@ -259,8 +260,8 @@ fn has_number<S: Read + Write>(
     }
 }
 
-/// Prints the paths of the object of a number, by a look at each object below the root.
-pub(crate) fn paths_of<S: Read + Write, R: Print + Eprint>(
+/// Prints the paths of the object with a file ID, by examining each object below the root.
+pub(crate) fn paths_of<S: Transport, R: Print + Eprint>(
     client: &mut Client<S>,
     voice: Voice<'_, R>,
     alloc: Global,
@@ -279,14 +280,15 @@ pub(crate) fn paths_of<S: Read + Write, R: Print + Eprint>(
         }
     }
     if text.is_empty() {
-        voice.say_unlisted(tree.unlisted.as_slice())?;
+        voice.report_unlisted(tree.unlisted.as_slice())?;
         return Err(Fault::NoObject);
     }
     Ok(Answer::Text(text))
 }
 
-/// Prints the lines of what is below a directory, as `list` does with the path in place of the name.
-fn list<S: Read + Write, R: Print + Eprint>(
+/// Prints the lines of everything below a directory, as `list` does with the path in place of the
+/// name.
+fn list<S: Transport, R: Print + Eprint>(
     client: &mut Client<S>,
     voice: Voice<'_, R>,
     alloc: Global,
@@ -302,15 +304,15 @@ fn list<S: Read + Write, R: Print + Eprint>(
         return Ok(Answer::Text(text));
     }
     if io::writer(voice.rt).write_all(text.as_slice()).is_err() {
-        return Err(Fault::Unsaid);
+        return Err(Fault::Missing);
     }
-    voice.say_unlisted(tree.unlisted.as_slice())?;
+    voice.report_unlisted(tree.unlisted.as_slice())?;
     Err(Fault::Partly(tree.unlisted.len()))
 }
 
-/// Changes the objects, the last one first, so that a change of a directory comes after those of what is in it. A
-/// refusal is said, and the others go on.
-fn change_all<S: Read + Write, R: Eprint>(
+/// Changes the objects, the last one first, so that a directory changes after its contents. A
+/// refusal is reported, and the others continue.
+fn change_all<S: Transport, R: Eprint>(
     client: &mut Client<S>,
     voice: Voice<'_, R>,
     alloc: Global,
@@ -319,12 +321,12 @@ fn change_all<S: Read + Write, R: Eprint>(
 ) -> Result<Answer, Fault> {
     let mut refused = 0usize;
     for (done, object) in objects.iter().rev().enumerate() {
-        voice.say_done(done, objects.len());
+        voice.report_done(done, objects.len());
         if wanted.is_of(object) {
             match wanted.act(client, alloc, object) {
                 Ok(()) => {}
                 Err(Fault::Tool(fault @ ToolFault::Refused(_, _))) => {
-                    voice.say(object.path.as_slice(), fault)?;
+                    voice.report(object.path.as_slice(), fault)?;
                     refused = refused.saturating_add(1);
                 }
                 Err(fault) => return Err(fault),
@@ -339,9 +341,9 @@ fn change_all<S: Read + Write, R: Eprint>(
     }
 }
 
-/// `Locked`: by the change the caller could no longer read the list of an object and change it
-/// again. The first of them is said.
-fn keep_rights<S: Read + Write, R: Eprint>(
+/// `Locked`: after the change the caller could no longer read the ACL of an object and change it
+/// again. The first such object is reported.
+fn keep_rights<S: Transport, R: Eprint>(
     client: &mut Client<S>,
     voice: &Voice<'_, R>,
     alloc: Global,
@@ -354,7 +356,7 @@ fn keep_rights<S: Read + Write, R: Eprint>(
             match keeps_rights(client, alloc, around, path, entries) {
                 Ok(()) => {}
                 Err(Fault::Locked) => {
-                    voice.say_locked(path)?;
+                    voice.report_locked(path)?;
                     return Err(Fault::Locked);
                 }
                 Err(fault) => return Err(fault),
@@ -364,7 +366,7 @@ fn keep_rights<S: Read + Write, R: Eprint>(
     Ok(())
 }
 
-/// The lines that say what would be done, in its order.
+/// The lines that describe the changes, in order.
 fn plan(alloc: Global, wanted: &Change<'_>, objects: &[Object]) -> Result<Answer, Fault> {
     let mut text = Vec::new(alloc);
     for object in objects.iter().rev() {
@@ -375,11 +377,11 @@ fn plan(alloc: Global, wanted: &Change<'_>, objects: &[Object]) -> Result<Answer
     Ok(Answer::Text(text))
 }
 
-/// Does something to the object at a path and to all below it, or says what would be done. All of
-/// it is listed before anything is changed. Where a directory can't be listed, nothing is. Nor is
-/// anything where a list would leave the caller without the right to change it again, unless it is
-/// forced.
-pub(crate) fn run<S: Read + Write, R: Print + Eprint>(
+/// Changes the object at a path and all below it, or prints what would be done. Everything is
+/// listed before anything is changed. If a directory can't be listed, nothing is changed. Nor is
+/// anything if an ACL would leave the caller without the permission to change it again, unless the
+/// command is forced.
+pub(crate) fn run<S: Transport, R: Print + Eprint>(
     client: &mut Client<S>,
     voice: Voice<'_, R>,
     alloc: Global,
@@ -391,7 +393,7 @@ pub(crate) fn run<S: Read + Write, R: Print + Eprint>(
     };
     let tree = tree_at(client, alloc, path)?;
     if !tree.unlisted.is_empty() {
-        voice.say_unlisted(tree.unlisted.as_slice())?;
+        voice.report_unlisted(tree.unlisted.as_slice())?;
         return Err(Fault::Unlisted);
     }
     let objects = tree.objects.as_slice();
@@ -405,16 +407,16 @@ pub(crate) fn run<S: Read + Write, R: Print + Eprint>(
     }
 }
 
-/// Makes a directory, or finds that another made it meanwhile.
-fn make<S: Read + Write>(client: &mut Client<S>, path: &[u8]) -> Result<(), Fault> {
+/// Makes a directory, or finds that another client made it meanwhile.
+fn make<S: Transport>(client: &mut Client<S>, path: &[u8]) -> Result<(), Fault> {
     match client.mkdir(path) {
         Ok(()) | Err(ToolFault::Refused(_, Status::Exist)) => Ok(()),
         Err(fault) => Err(Fault::Tool(fault)),
     }
 }
 
-/// Whether there is an object at a path.
-fn is_there<S: Read + Write>(client: &mut Client<S>, path: &[u8]) -> Result<bool, Fault> {
+/// Whether an object exists at a path.
+fn is_there<S: Transport>(client: &mut Client<S>, path: &[u8]) -> Result<bool, Fault> {
     match client.access(path) {
         Ok(_) => Ok(true),
         Err(ToolFault::Refused(_, Status::NoEnt)) => Ok(false),
@@ -422,8 +424,8 @@ fn is_there<S: Read + Write>(client: &mut Client<S>, path: &[u8]) -> Result<bool
     }
 }
 
-/// Makes a directory and those above it that aren't there. A directory that is there stays as it is.
-pub(crate) fn make_all<S: Read + Write>(client: &mut Client<S>, path: &[u8]) -> Result<(), Fault> {
+/// Makes a directory and its missing parents. An existing directory is unchanged.
+pub(crate) fn make_all<S: Transport>(client: &mut Client<S>, path: &[u8]) -> Result<(), Fault> {
     if is_there(client, path)? {
         if facl::is_directory(client, path)? {
             return Ok(());

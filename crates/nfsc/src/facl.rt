@@ -1,18 +1,18 @@
-//! Access control lists in words.
+//! Access control lists (ACLs) in words.
 use crate::around::Around;
 use crate::fault::Fault;
 use crate::judged::keeps_rights;
 use crate::wish::place_in;
 use acl_list::Kind;
 use acl_words::Words;
-use nfs_client::{Client, EntryText, ToolFault};
+use nfs_client::{Client, EntryText, ToolFault, Transport};
 use std::alloc::Global;
-use std::io::{Read, Write};
 
-/// The right LOOKUP of ACCESS, which has a meaning for directories alone (RFC 8881, section 18.1).
+/// The permission LOOKUP of ACCESS, which has a meaning for directories alone (RFC 8881, section
+/// 18.1).
 const LOOKUP: u32 = 2;
 
-/// Entries as the client takes and gives them, each as text.
+/// Access control entries (ACEs) as the client takes and returns them, each as text.
 type Entries = Vec<Vec<u8>>;
 
 /// The lines of a text.
@@ -28,7 +28,7 @@ pub(crate) fn lines_of(alloc: Global, text: &[u8]) -> Result<Entries, Fault> {
     Ok(lines)
 }
 
-/// Puts the words of an entry that is text.
+/// Puts the words of an ACE that is text.
 fn put_words(out: &mut Vec<u8>, text: &[u8]) -> Result<(), Fault> {
     let Some(entry) = EntryText::read(text) else {
         return Err(Fault::Tool(ToolFault::Reply));
@@ -44,7 +44,7 @@ fn put_words(out: &mut Vec<u8>, text: &[u8]) -> Result<(), Fault> {
     Ok(())
 }
 
-/// The text of an entry in words.
+/// The text of an ACE in words.
 fn text_of(alloc: Global, object: Kind, number: usize, words: &[u8]) -> Result<Vec<u8>, Fault> {
     let entry = match Words::read(object, words) {
         Ok(entry) => entry,
@@ -61,7 +61,7 @@ fn text_of(alloc: Global, object: Kind, number: usize, words: &[u8]) -> Result<V
     Ok(text)
 }
 
-/// The texts of entries in words, in their order.
+/// The texts of ACEs in words, in order.
 pub(crate) fn texts_of(alloc: Global, object: Kind, entries: &[&[u8]]) -> Result<Entries, Fault> {
     let mut texts = Vec::new(alloc);
     for (index, words) in entries.iter().enumerate() {
@@ -72,7 +72,7 @@ pub(crate) fn texts_of(alloc: Global, object: Kind, entries: &[&[u8]]) -> Result
 }
 
 /// Whether the object is a directory.
-pub(crate) fn is_directory<S: Read + Write>(
+pub(crate) fn is_directory<S: Transport>(
     client: &mut Client<S>,
     path: &[u8],
 ) -> Result<bool, Fault> {
@@ -81,7 +81,7 @@ pub(crate) fn is_directory<S: Read + Write>(
 }
 
 /// Whether the object is a directory or another. It matters to the letter `W` alone.
-fn kind_at<S: Read + Write>(client: &mut Client<S>, path: &[u8]) -> Result<Kind, Fault> {
+fn kind_at<S: Transport>(client: &mut Client<S>, path: &[u8]) -> Result<Kind, Fault> {
     if is_directory(client, path)? {
         Ok(Kind::Directory)
     } else {
@@ -89,8 +89,8 @@ fn kind_at<S: Read + Write>(client: &mut Client<S>, path: &[u8]) -> Result<Kind,
     }
 }
 
-/// Sets the list to entries as text.
-pub(crate) fn set<S: Read + Write>(
+/// Sets the ACL to ACEs as text.
+pub(crate) fn set<S: Transport>(
     client: &mut Client<S>,
     alloc: Global,
     path: &[u8],
@@ -104,8 +104,8 @@ pub(crate) fn set<S: Read + Write>(
     Ok(())
 }
 
-/// The list of an object in words, an entry a line.
-pub(crate) fn get<S: Read + Write>(
+/// The ACL of an object in words, one ACE a line.
+pub(crate) fn get<S: Transport>(
     client: &mut Client<S>,
     alloc: Global,
     path: &[u8],
@@ -118,18 +118,19 @@ pub(crate) fn get<S: Read + Write>(
     Ok(text)
 }
 
-/// A change of a list, in words.
+/// A change of an ACL, in words.
 #[derive(Clone, Copy)]
 pub(crate) enum Change<'a> {
-    /// To these entries.
+    /// Sets these ACEs.
     Set(&'a [&'a [u8]]),
-    /// These entries are put before the one of this number, counted from 1; at the end for the number after the last.
+    /// Inserts these ACEs before the one of this number, counted from 1; at the end for the number
+    /// after the last.
     Add(usize, &'a [&'a [u8]]),
-    /// The entries of these numbers are taken out.
+    /// Removes the ACEs of these numbers.
     Remove(&'a [&'a str]),
 }
 
-/// The entries of a list with more of them before the one of this number.
+/// The ACEs of an ACL with more of them before the one of this number.
 fn added(alloc: Global, old: &[Vec<u8>], place: usize, more: &[Vec<u8>]) -> Result<Entries, Fault> {
     let before = place.saturating_sub(1);
     if before > old.len() {
@@ -146,7 +147,7 @@ fn added(alloc: Global, old: &[Vec<u8>], place: usize, more: &[Vec<u8>]) -> Resu
     Ok(all)
 }
 
-/// The numbers of words. `NoSuch`: one is no number, or the list has no such entry.
+/// The numbers of words. `NoSuch`: one is no number, or the ACL has no ACE of this number.
 fn places(alloc: Global, words: &[&str], most: usize) -> Result<Vec<usize>, Fault> {
     let mut places = Vec::new(alloc);
     for word in words {
@@ -158,20 +159,20 @@ fn places(alloc: Global, words: &[&str], most: usize) -> Result<Vec<usize>, Faul
     Ok(places)
 }
 
-/// The entries of a list without those of these numbers.
+/// The ACEs of an ACL without those of these numbers.
 fn removed(alloc: Global, old: &[Vec<u8>], numbers: &[&str]) -> Result<Entries, Fault> {
-    let gone = places(alloc, numbers, old.len())?;
+    let past = places(alloc, numbers, old.len())?;
     let mut left = Vec::new(alloc);
     for (index, text) in old.iter().enumerate() {
-        if !gone.contains(&index.saturating_add(1)) {
+        if !past.contains(&index.saturating_add(1)) {
             left.push(text.clone()?)?;
         }
     }
     Ok(left)
 }
 
-/// The list of an object, each entry as text.
-fn entries_of<S: Read + Write>(
+/// The ACL of an object, each ACE as text.
+fn entries_of<S: Transport>(
     client: &mut Client<S>,
     alloc: Global,
     path: &[u8],
@@ -180,8 +181,8 @@ fn entries_of<S: Read + Write>(
     lines_of(alloc, listed.as_slice())
 }
 
-/// The entries that a change leaves.
-fn changed<S: Read + Write>(
+/// The ACEs after a change.
+fn changed<S: Transport>(
     client: &mut Client<S>,
     alloc: Global,
     path: &[u8],
@@ -205,9 +206,9 @@ fn changed<S: Read + Write>(
     }
 }
 
-/// Changes the list of an object. Unless it is forced, a list that leaves the caller without the
-/// right to read it and to change it again is refused.
-pub(crate) fn apply<S: Read + Write>(
+/// Changes the ACL of an object. Unless it is forced, an ACL that leaves the caller without the
+/// permission to read it and to change it again is refused.
+pub(crate) fn apply<S: Transport>(
     client: &mut Client<S>,
     alloc: Global,
     around: &Around,

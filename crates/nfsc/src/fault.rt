@@ -1,17 +1,19 @@
-//! The faults of a run, and a sentence for each: what was wrong, and what would do.
+//! The faults of a run, and a sentence for each: what was wrong, and what would help.
 use acl_words::Field;
 use nfs_client::ToolFault;
-use nfs_ops::OP_SETATTR;
+use nfs_ops::{
+    OP_CREATE, OP_CREATE_SESSION, OP_EXCHANGE_ID, OP_LINK, OP_OPEN, OP_RENAME, OP_SETATTR, OP_WRITE,
+};
 use nfs_types::Status;
 use std::alloc::{AllocError, AllocFailed};
 
-/// A fault in the place of an answer.
+/// A fault in place of an answer.
 #[derive(Clone, Copy, Debug, thiserror::Error)]
 pub(crate) enum Fault {
     /// The server can't be connected to.
     #[error("socket")]
     Socket,
-    /// The server takes no connection in time.
+    /// The server accepts no connection in time.
     #[error("socket")]
     LateSocket,
     /// The system gives no random bytes, of which the owner of this run is made.
@@ -26,37 +28,37 @@ pub(crate) enum Fault {
     /// More bytes than a file of the server may have.
     #[error("size")]
     TooLarge,
-    /// The entry of this number, counted from 1, can't be read.
+    /// The access control entry (ACE) of this number, counted from 1, can't be read.
     #[error("entry {0}")]
     Entry(usize, Field),
-    /// The list has no entry of this number.
+    /// The access control list (ACL) has no ACE of this number.
     #[error("number")]
     NoSuch,
-    /// The words name no right.
+    /// The words name no permission.
     #[error("right")]
     NoRight,
     /// The words name no user.
     #[error("user")]
     NoUser,
-    /// There is no book, whose users are asked about.
+    /// There is no book whose users could be tested.
     #[error("book")]
     NoBook,
-    /// The entry of this number, counted from 1, is of one whose number isn't known.
+    /// The ACE of this number, counted from 1, has a principal whose number is unknown.
     #[error("entry {0}")]
     Stranger(usize),
-    /// The owner or the owning group is one whose number isn't known.
+    /// The owner or the owning group has an unknown number.
     #[error("owner")]
     NoNumber,
-    /// No object of this number was found.
+    /// No object with this file ID was found.
     #[error("object")]
     NoObject,
-    /// The caller would lose the right to read the list or to change it again.
+    /// The caller would lose the permission to read the ACL or to change it again.
     #[error("locked")]
     Locked,
-    /// No entry would be left.
+    /// No ACE would be left.
     #[error("list")]
     NoneLeft,
-    /// There are more objects than a command takes.
+    /// There are more objects than a command supports.
     #[error("tree")]
     TooMany,
     /// A directory can't be listed.
@@ -65,13 +67,13 @@ pub(crate) enum Fault {
     /// The root can't be removed.
     #[error("root")]
     Root,
-    /// This many objects were refused.
+    /// The server refused this number of objects.
     #[error("refused {0}")]
     Partly(usize),
     /// Standard output can't be written.
     #[error("output")]
-    Unsaid,
-    /// A line of a batch wants standard input.
+    Missing,
+    /// A line of a batch needs standard input.
     #[error("input")]
     Input,
     /// A line of a batch is a batch.
@@ -86,7 +88,7 @@ pub(crate) enum Fault {
     /// The command has a fault.
     #[error("{0}")]
     Tool(ToolFault),
-    /// An answer was late, which the command has for this fault.
+    /// A reply was late, and the command ends with this fault.
     #[error("{0}")]
     Late(ToolFault),
 }
@@ -109,8 +111,32 @@ impl<T: Drop> From<AllocFailed<T>> for Fault {
     }
 }
 
+/// The limits of this server that an operation may have reached if it is refused with NOSPC (RFC
+/// 8881, section 15.1).
+fn limits_of(op: u32) -> &'static str {
+    match op {
+        OP_CREATE => {
+            "the directory has 4,096 names, or the server has 16,384 objects, or its disk is full"
+        }
+        OP_OPEN => {
+            "the directory has 4,096 names, or the server has 16,384 objects or 4,096 open files, or its disk is full"
+        }
+        OP_LINK | OP_RENAME => "the directory has 4,096 names, or the server's disk is full",
+        OP_SETATTR => "a list that is set has at most 59 entries, or the server's disk is full",
+        OP_WRITE => "the server's disk is full",
+        OP_EXCHANGE_ID => "the server has 64 clients, and takes no more",
+        OP_CREATE_SESSION => "the server has 64 sessions, and takes no more",
+        _ => "the server has no room left",
+    }
+}
+
+/// Whether the server refuses an operation because an access control list (ACL) doesn't grant it.
+pub(crate) fn is_denied(status: Status) -> bool {
+    matches!(status, Status::Access | Status::Perm)
+}
+
 /// The meaning of a refusal (RFC 8881, section 15.1).
-fn refusal(status: Status) -> &'static str {
+fn refusal(op: u32, status: Status) -> &'static str {
     match status {
         Status::Access | Status::Perm => "the access control list doesn't allow it to this user",
         Status::NoEnt => "there is no object of this name",
@@ -124,7 +150,7 @@ fn refusal(status: Status) -> &'static str {
         Status::BadOwner => "a name isn't in the server's book",
         Status::AttrNotSupp => "the server doesn't take such entries",
         Status::FBig => "a file has at most 1,048,576 bytes",
-        Status::NoSpc => "the server has no room left",
+        Status::NoSpc => limits_of(op),
         Status::MLink => "the object has as many names as it may have",
         Status::NameTooLong => "a name has at most 255 bytes",
         Status::BadChar => "a name is UTF-8",
@@ -137,21 +163,16 @@ fn refusal(status: Status) -> &'static str {
     }
 }
 
-/// The meaning of a fault of the client, and what would do.
+/// The meaning of a fault of the client, and what would help.
 fn sentence_of(fault: ToolFault) -> &'static str {
     match fault {
         ToolFault::Path => "a path is '/', or names each with '/' in front, as in /docs/notes",
-        ToolFault::Refused(op, Status::NoSpc) if op == OP_SETATTR => {
-            "a list that is set has at most 59 entries, or the server has no room left"
-        }
-        ToolFault::Refused(_, status) => refusal(status),
+        ToolFault::Refused(op, status) => refusal(op, status),
         ToolFault::Reply => "what the server sent is no reply, or it is longer than is taken",
         ToolFault::Read => "the server closed the connection",
         ToolFault::Write => "the server takes no more bytes",
         ToolFault::Memory => "there is no memory left here",
-        ToolFault::Entry => {
-            "a mode is one to four octal digits, and an entry is TYPE:FLAGS:MASK:WHO, as in A:00:00000001:1001"
-        }
+        ToolFault::Entry => "a mode or an entry can't be read",
         ToolFault::Failed => "an earlier command of this session failed",
         ToolFault::TooLarge =>
             "the words make a call of more than 131,072 bytes, which no server takes",
@@ -159,10 +180,10 @@ fn sentence_of(fault: ToolFault) -> &'static str {
 }
 
 impl Fault {
-    /// A sentence on the fault: what was wrong, and what would do.
+    /// A sentence on the fault: what was wrong, and what would help.
     pub(crate) fn sentence(self) -> &'static str {
         match self {
-            Fault::Socket => "nothing listens there, or it takes no connection",
+            Fault::Socket => "the server can't be reached",
             Fault::LateSocket | Fault::Late(_) => "no answer in time",
             Fault::Random => "the system gives no random bytes",
             Fault::Unread => "the file can't be read",
@@ -171,8 +192,8 @@ impl Fault {
             Fault::Entry(_, field) => field.help(),
             Fault::NoSuch => "the list has no entry of this number; getfacl shows them from 1 on",
             Fault::NoRight => {
-                "a right is read, write, list, execute, delete, or a name or letters of 'nfsc help lists', \
-                 with commas between names"
+                "RIGHTS are names that 'nfsc why --help' lists, with commas between them, \
+                 or letters that 'nfsc help lists' explains"
             }
             Fault::NoUser => {
                 "a user is a name of --book FILE, or a number; with groups, as in 1002:100,200, \
@@ -195,7 +216,7 @@ impl Fault {
             Fault::Unlisted => "not all of it can be listed; nothing was changed",
             Fault::Root => "the root has no name to be removed; name what is to go",
             Fault::Partly(_) => "these were refused, and the others were done",
-            Fault::Unsaid => "what was to be printed can't be written",
+            Fault::Missing => "what was to be printed can't be written",
             Fault::Input => "standard input has the commands of the batch; name a file",
             Fault::Nested => "a batch can't be a line of a batch",
             Fault::Text => "a line is UTF-8",

@@ -10,8 +10,8 @@ use xdr_wire::Writer;
 /// The bytes of a record's mark (RFC 5531, section 11).
 const MARK: usize = 4;
 
-/// A stream on which calls are made in further groups. Each write begins with the mark of a record and has the whole
-/// call, as a write of `Client` has.
+/// A stream on which calls have further groups. Each write begins with the mark of a record and has
+/// the whole call, as a write of `Client` has.
 #[derive(Drop)]
 pub(crate) struct Grouped<'a, S> {
     alloc: Global,
@@ -20,7 +20,7 @@ pub(crate) struct Grouped<'a, S> {
 }
 
 impl<'a, S> Grouped<'a, S> {
-    /// The stream on which calls are made in these groups too, at most 16.
+    /// The stream on which calls have these groups too, at most 16.
     pub(crate) fn new(alloc: Global, stream: S, groups: &'a [u32]) -> Self {
         Grouped {
             alloc,
@@ -30,8 +30,8 @@ impl<'a, S> Grouped<'a, S> {
     }
 }
 
-/// The groups of a text, numbers with commas between them, and none where there is no text. `None`: the text is no such
-/// list, or one of more than 16.
+/// The groups of a text, numbers with commas between them, and none if there is no text. `None`:
+/// the text isn't of this form, or has more than 16 numbers.
 pub(crate) fn groups_in(alloc: Global, text: Option<&str>) -> Result<Option<Vec<u32>>, AllocError> {
     let mut groups = Vec::new(alloc);
     let Some(text) = text else {
@@ -46,7 +46,7 @@ pub(crate) fn groups_in(alloc: Global, text: Option<&str>) -> Result<Option<Vec<
     Ok((groups.len() <= MOST_FURTHER).then_some(groups))
 }
 
-/// The caller in further groups. `None`: they are more than a credential may have.
+/// The caller with further groups. `None`: they are more than a credential may have.
 fn caller_in(caller: Caller, groups: &[u32]) -> Option<Caller> {
     if groups.len() > MOST_FURTHER {
         return None;
@@ -54,8 +54,8 @@ fn caller_in(caller: Caller, groups: &[u32]) -> Option<Caller> {
     Some(Caller::new(caller.uid(), caller.gid(), groups))
 }
 
-/// The header of a call by this caller, whose groups hold its gid, as those of `Caller::new` do. `None`: they don't, or
-/// it has no room.
+/// The header of a call by this caller, whose groups contain its gid, as those of `Caller::new` do.
+/// `None`: they don't, or the header has no room.
 fn head(alloc: Global, xid: u32, caller: Caller) -> io::Result<Option<Writer>> {
     if !caller.is_member(caller.gid()) {
         return Ok(None);
@@ -80,7 +80,8 @@ fn one_record(alloc: Global, head: &[u8], arguments: &[u8]) -> io::Result<Option
     Ok(Some(record))
 }
 
-/// The record with this call, made in further groups. `None`: it is no such call, or it is too long then.
+/// The record of this call with further groups. `None`: it isn't a call of this form, or it is too
+/// long then.
 fn in_groups(alloc: Global, record: &[u8], groups: &[u32]) -> io::Result<Option<Vec<u8>>> {
     let Some(content) = record.get(MARK..) else {
         return Ok(None);

@@ -1,12 +1,12 @@
-//! Help: the commands, each with an example, and the words of lists.
-use crate::shown::Shown;
-use crate::telling::Place;
+//! Help: the commands, each with an example, and the words of access control lists (ACLs).
+use crate::printable::Printable;
+use crate::printing::Place;
 use nfsc_options::COMMANDS;
 use std::io;
 use std::io::Write;
 
-/// The commands that `nfsc` has beside those of the client. The line of a command, and no other,
-/// begins with four spaces.
+/// The commands of `nfsc` beside those of the client. The line of a command, and no other, begins
+/// with four spaces.
 const MORE_COMMANDS: &str = "\
 Commands for files and lists in words:
 
@@ -45,7 +45,7 @@ A list that its user can't read or change back is set by setfacl, addfacl and de
 entry are, and 'nfsc COMMAND --help' what a command wants.
 ";
 
-/// The words of lists.
+/// The words of ACLs.
 const LISTS: &str = "\
 An entry is TYPE:FLAGS:PRINCIPAL:PERMISSIONS, as in A:fd:alice@lab.example:rxtncy.
 The first entry that speaks of a right decides it.
@@ -67,7 +67,34 @@ PERMISSIONS   r 001 read, or list           w 002 write, or make files     a 004
 In hexadecimal an entry is TYPE:FLAGS:MASK:PRINCIPAL, as in A:03:001200a9:alice@lab.example.
 ";
 
-/// The line of a command's name in a table, where the name is in the table.
+/// The permissions that `why` and `who` take.
+const RIGHTS: &str = "
+RIGHTS are names with commas between them, or letters of an entry as in 'nfsc help lists':
+
+    read  write  append  list  search  execute  delete-child
+    read-data  write-data  append-data  list-directory  add-file  add-subdirectory
+    read-attributes  write-attributes  read-named-attrs  write-named-attrs
+    read-acl  write-acl  write-owner  synchronize  write-retention  write-retention-hold
+
+'delete' or 'remove' alone asks whether rm and mv may remove the name. Beside others 'delete' is the
+permission of the object's own list.
+";
+
+/// The flag of the commands that set a list.
+const FORCE: &str = "
+With '--force' after the command's name a list is set even if you can't read it or change it back.
+";
+
+/// What help tells of a command beside its line.
+fn note_on(name: &str) -> &'static str {
+    match name {
+        "why" | "who" => RIGHTS,
+        "setfacl" | "addfacl" | "delfacl" => FORCE,
+        _ => "",
+    }
+}
+
+/// The line of a command's name in a table, if the table has the name.
 fn line_in(table: &'static str, name: &str) -> Option<&'static str> {
     table
         .lines()
@@ -82,7 +109,7 @@ fn usage_in(table: &'static str, name: &str) -> Option<&'static str> {
     Some(usage)
 }
 
-/// The words that the commands of a name want. They are those of the client's command, of one over
+/// The words that the commands of a name need. They are those of the client's command, of one over
 /// several of them, and of one over an object and all below it.
 #[derive(Clone, Copy)]
 pub(crate) struct Usages {
@@ -100,7 +127,7 @@ impl Usages {
         }
     }
 
-    /// The words of the first of these commands. `None`: there is no command of this name.
+    /// The words of the first of these commands. `None`: no command has this name.
     fn first(&self) -> Option<&'static str> {
         match self.plain {
             Some(usage) => Some(usage),
@@ -108,9 +135,10 @@ impl Usages {
         }
     }
 
-    /// Says of a line of a batch that its words are no command, and which words a command of this name wants.
-    pub(crate) fn say<R: Eprint>(&self, rt: &R, place: Place, name: &str) -> io::Result<()> {
-        let name = Shown(name.as_bytes());
+    /// Reports that the words of a batch line are no command, and which words a command of this
+    /// name needs.
+    pub(crate) fn report<R: Eprint>(&self, rt: &R, place: Place, name: &str) -> io::Result<()> {
+        let name = Printable(name.as_bytes());
         match (self.first(), self.deep) {
             (Some(usage), Some(deep)) => {
                 eprintln!(rt;
@@ -132,10 +160,15 @@ impl Usages {
 pub(crate) enum Help {
     /// `help`: the commands.
     Commands,
-    /// `help lists`: the words of lists.
+    /// `help lists`: the words of ACLs.
     Lists,
-    /// `COMMAND --help` or `help COMMAND`: the lines of the commands of a name.
-    Lines(&'static str, Option<&'static str>),
+    /// `COMMAND --help` or `help COMMAND`: the lines of the commands of a name, and what else there
+    /// is to know of them.
+    Lines {
+        first: &'static str,
+        deep: Option<&'static str>,
+        note: &'static str,
+    },
 }
 
 /// The lines of the commands of a name.
@@ -145,14 +178,19 @@ fn lines_of(name: &str) -> Option<Help> {
         Some(line) => Some(line),
         None => line_in(MORE_COMMANDS, name),
     };
+    let note = note_on(name);
     match first {
-        Some(line) => Some(Help::Lines(line, deep)),
-        None => deep.map(|line| Help::Lines(line, None)),
+        Some(first) => Some(Help::Lines { first, deep, note }),
+        None => deep.map(|first| Help::Lines {
+            first,
+            deep: None,
+            note,
+        }),
     }
 }
 
 impl Help {
-    /// The help that words ask for, from the command's name on. `None`: they are no call for help.
+    /// The help that words ask for, from the command's name on. `None`: they don't ask for help.
     pub(crate) fn read(words: &[&str]) -> Option<Self> {
         match words {
             ["help"] => Some(Help::Commands),
@@ -162,13 +200,21 @@ impl Help {
         }
     }
 
-    /// The texts that are printed one after the other.
+    /// The texts that are printed, in order.
     fn texts(self) -> [&'static str; 5] {
         match self {
             Help::Commands => [COMMANDS, "\n\n", MORE_COMMANDS, "\n", DEEP_COMMANDS],
             Help::Lists => [LISTS, "", "", "", ""],
-            Help::Lines(line, None) => [line, "\n", "", "", ""],
-            Help::Lines(line, Some(deep)) => [line, "\n", deep, "\n", ""],
+            Help::Lines {
+                first,
+                deep: None,
+                note,
+            } => [first, "\n", note, "", ""],
+            Help::Lines {
+                first,
+                deep: Some(deep),
+                note,
+            } => [first, "\n", deep, "\n", note],
         }
     }
 
@@ -181,8 +227,8 @@ impl Help {
         Ok(())
     }
 
-    /// Says the help on standard error, where `clap` says its own.
-    pub(crate) fn say<R: Eprint>(self, rt: &R) -> io::Result<()> {
+    /// Prints the help on standard error, where `clap` prints its own.
+    pub(crate) fn report<R: Eprint>(self, rt: &R) -> io::Result<()> {
         for text in self.texts() {
             eprint!(rt; "{text}")?;
         }

@@ -1,18 +1,18 @@
-//! An object as the server judges access to it: its list, its owner and its group.
+//! An object as the server judges access to it: its access control list (ACL), its owner and its
+//! group.
 use crate::around::Around;
 use crate::facl::lines_of;
 use crate::fault::Fault;
 use acl_list::{AclList, Caller, Kind, mask};
 use acl_reasons::{Governed, Reason, why};
-use acl_words::{ListFault, read_list};
-use nfs_client::{Client, Stat, ToolFault};
+use acl_words::{AclFault, read_acl};
+use nfs_client::{Client, Stat, ToolFault, Transport};
 use nfs_ops::{Bytes, OP_GETATTR};
 use nfs_types::Status;
 use std::alloc::Global;
-use std::io::{Read, Write};
 use who_book::{Book, NameKind};
 
-/// The list, the owner and the group of an object, which decide on access to it.
+/// The ACL, the owner and the group of an object, which decide access to it.
 #[derive(Drop)]
 pub(crate) struct Judged {
     pub(crate) list: AclList,
@@ -21,7 +21,7 @@ pub(crate) struct Judged {
     pub(crate) object: Kind,
 }
 
-/// The kind of an object by its number, `nfs_ftype4`.
+/// The type of an object by its number, `nfs_ftype4`.
 fn kind_of(number: Option<u32>) -> Kind {
     match number {
         Some(2) => Kind::Directory,
@@ -35,19 +35,19 @@ fn number_in(book: &Book, kind: NameKind, text: Option<Bytes<'_>>) -> Option<u32
     book.principal(kind, text?.bytes)
 }
 
-/// The list of entries as text. `Stranger`: an entry has a name that the book doesn't have.
+/// The ACL of entries as text. `Stranger`: an entry has a name that the book doesn't have.
 fn list_of(alloc: Global, book: &Book, object: Kind, lines: &[Vec<u8>]) -> Result<AclList, Fault> {
     let lent: Vec<&[u8]> = lines.iter().map(|line| line.as_slice()).collect(alloc)?;
-    match read_list(alloc, book, object, lent.as_slice()) {
+    match read_acl(alloc, book, object, lent.as_slice()) {
         Ok(list) => Ok(list),
-        Err(ListFault::Entry { index, field: _ }) => Err(Fault::Stranger(index.saturating_add(1))),
-        Err(ListFault::Memory) => Err(Fault::Tool(ToolFault::Memory)),
+        Err(AclFault::Entry { index, field: _ }) => Err(Fault::Stranger(index.saturating_add(1))),
+        Err(AclFault::Memory) => Err(Fault::Tool(ToolFault::Memory)),
     }
 }
 
 impl Judged {
     /// The object of a path, by a book. `NoNumber`: its owner or its group isn't in the book.
-    pub(crate) fn read<S: Read + Write>(
+    pub(crate) fn read<S: Transport>(
         client: &mut Client<S>,
         alloc: Global,
         book: &Book,
@@ -74,7 +74,7 @@ impl Judged {
         })
     }
 
-    /// Lends the list, as `why_removal` takes it.
+    /// Lends the ACL, as `why_removal` takes it.
     pub(crate) fn governed(&self) -> Governed<'_> {
         Governed {
             list: &self.list,
@@ -84,17 +84,17 @@ impl Judged {
     }
 }
 
-/// The rights to read a list and to change it again.
+/// The permissions to read an ACL and to change it again.
 const OWN: u32 = mask::READ_ACL | mask::WRITE_ACL;
 
-/// Whether a list grants a caller the rights to read it and to change it again. The object has this
-/// owner and this group.
+/// Whether an ACL grants a caller the permissions to read it and to change it again. The object has
+/// this owner and this group.
 fn is_own(list: &AclList, (owner, group): (u32, u32), caller: &Caller) -> bool {
     why(list, owner, group, caller, OWN) == Reason::Granted
 }
 
-/// Whether a caller could read a list and change it, and can't after a change. A list before that
-/// isn't known may have granted it.
+/// Whether a caller could read an ACL and change it before a change, and can't afterwards. An
+/// unknown ACL before the change may have granted it.
 fn is_lost(before: Option<&AclList>, after: &AclList, of: (u32, u32), caller: &Caller) -> bool {
     let had = match before {
         Some(list) => is_own(list, of, caller),
@@ -103,14 +103,14 @@ fn is_lost(before: Option<&AclList>, after: &AclList, of: (u32, u32), caller: &C
     had && !is_own(after, of, caller)
 }
 
-/// A group that a caller isn't in.
+/// A group of which the caller is no member.
 fn foreign_group(caller: &Caller) -> u32 {
     (0..u32::MAX)
         .find(|group| !caller.is_member(*group))
         .unwrap_or(u32::MAX)
 }
 
-/// Owners and groups that an object may have: all that a list can tell apart for a caller. It is
+/// Owners and groups that an object may have: all that an ACL can distinguish for a caller. It is
 /// the owner or not, and in the group or not.
 fn possible(caller: &Caller) -> [(u32, u32); 4] {
     let (own, other) = (caller.uid(), caller.uid() ^ 1);
@@ -124,9 +124,9 @@ fn possible(caller: &Caller) -> [(u32, u32); 4] {
     ]
 }
 
-/// `Locked`: on an object of one of these owners and groups, these entries take from the caller
-/// the right to read the list or to change it. What can't be judged for want of a name's number is
-/// as it was.
+/// `Locked`: on an object with one of these owners and groups, these entries take from the caller
+/// the permission to read the ACL or to change it. An ACL that can't be judged, since a name's
+/// number is unknown, isn't refused.
 fn stays_own(
     alloc: Global,
     around: &Around,
@@ -142,7 +142,8 @@ fn stays_own(
     }
 }
 
-/// Whether the server doesn't show the caller what it asked for, and may yet let it set the list.
+/// Whether the server doesn't show the caller the requested attributes, but may still let it set
+/// the ACL.
 fn is_unseen(fault: Fault) -> bool {
     match fault {
         Fault::Tool(ToolFault::Refused(op, Status::Access)) => op == OP_GETATTR,
@@ -150,8 +151,8 @@ fn is_unseen(fault: Fault) -> bool {
     }
 }
 
-/// The list of the object of a path. `None`: the caller may not read it.
-fn list_at<S: Read + Write>(
+/// The ACL of the object of a path. `None`: the caller may not read it.
+fn list_at<S: Transport>(
     client: &mut Client<S>,
     alloc: Global,
     book: &Book,
@@ -167,8 +168,8 @@ fn list_at<S: Read + Write>(
     }
 }
 
-/// As `keeps_rights`, of an object whose owner and group or whose list the caller may not see.
-fn keeps_unseen<S: Read + Write>(
+/// As `keeps_rights`, for an object whose owner and group or whose ACL the caller may not read.
+fn keeps_unseen<S: Transport>(
     client: &mut Client<S>,
     alloc: Global,
     around: &Around,
@@ -180,8 +181,8 @@ fn keeps_unseen<S: Read + Write>(
     stays_own(alloc, around, before.as_ref(), &of, entries)
 }
 
-/// As `keeps_rights`, where the object can be judged or not.
-fn keeps<S: Read + Write>(
+/// As `keeps_rights`, whether the object can be judged or not.
+fn keeps<S: Transport>(
     client: &mut Client<S>,
     alloc: Global,
     around: &Around,
@@ -198,10 +199,10 @@ fn keeps<S: Read + Write>(
     }
 }
 
-/// `Locked`: by these entries the caller would no longer be granted to read the list of an object
-/// and to change it again, or might not be where the server doesn't show it the object's owner, its
-/// group or its list. What the server refuses otherwise, it refuses as the list is set.
-pub(crate) fn keeps_rights<S: Read + Write>(
+/// `Locked`: by these entries the caller would no longer be granted to read the ACL of an object
+/// and to change it again. Or it might not be, if the server doesn't show it the object's owner,
+/// its group or its ACL. Other refusals of the server come when the ACL is set.
+pub(crate) fn keeps_rights<S: Transport>(
     client: &mut Client<S>,
     alloc: Global,
     around: &Around,
@@ -210,6 +211,6 @@ pub(crate) fn keeps_rights<S: Read + Write>(
 ) -> Result<(), Fault> {
     match keeps(client, alloc, around, path, entries) {
         Err(Fault::Stranger(_) | Fault::NoNumber | Fault::Tool(ToolFault::Refused(_, _))) => Ok(()),
-        told => told,
+        outcome => outcome,
     }
 }

@@ -1,4 +1,4 @@
-//! The stream to the server, on which an answer is waited for no longer than it may take.
+//! The stream to the server, with a time limit for each reply.
 use std::cell::Cell;
 use std::io;
 use std::io::{ErrorKind, Read, Write};
@@ -6,19 +6,19 @@ use std::net::TcpStream;
 use std::rt::Clock;
 use std::time::{Duration, Instant};
 
-/// A stream to the server. An answer is late where it isn't whole in its time after the first write
-/// of its call. So is a call that isn't taken in that time.
+/// A stream to the server. A reply is late if it isn't complete within its time after the first
+/// write of its call. So is a call that isn't sent within that time.
 #[derive(Drop)]
 pub(crate) struct Link<'a, R> {
     rt: &'a R,
     stream: TcpStream,
-    /// How long an answer may take.
+    /// The time that a reply may take.
     patience: Duration,
-    /// When the call was begun. `None`: none was, or the clock can't be read.
+    /// When the call was begun. `None`: no call was begun, or the clock can't be read.
     begun: Option<Instant>,
-    /// Whether something was read after the last write, so that the next one begins a call.
-    is_heard: bool,
-    /// Set where an answer is late.
+    /// Whether something was read after the last write, so that the next write begins a call.
+    is_answered: bool,
+    /// Set if a reply is late.
     is_late: &'a Cell<bool>,
 }
 
@@ -27,13 +27,13 @@ fn is_over(error: &io::Error) -> bool {
     matches!(error.kind(), ErrorKind::WouldBlock | ErrorKind::TimedOut)
 }
 
-/// Whether a signal broke in on a read or a write, as where a stopped program goes on.
+/// Whether a signal interrupted a read or a write, as when a stopped program continues.
 fn is_broken_in_on(error: &io::Error) -> bool {
     matches!(error.kind(), ErrorKind::Interrupted)
 }
 
 impl<'a, R: Clock> Link<'a, R> {
-    /// The link over a stream. The cell is set where an answer is late.
+    /// The link over a stream. The cell is set if a reply is late.
     pub(crate) fn new(
         rt: &'a R,
         stream: TcpStream,
@@ -45,12 +45,12 @@ impl<'a, R: Clock> Link<'a, R> {
             stream,
             patience,
             begun: None,
-            is_heard: true,
+            is_answered: true,
             is_late,
         }
     }
 
-    /// The rest of the answer's time. It is all of it where the clock can't be read.
+    /// The rest of the reply's time. It is all of it if the clock can't be read.
     fn left(&self) -> Duration {
         let Some(begun) = self.begun else {
             return self.patience;
@@ -61,7 +61,7 @@ impl<'a, R: Clock> Link<'a, R> {
         }
     }
 
-    /// The rest of the answer's time, at least a millisecond, or the error of an answer that is late.
+    /// The rest of the reply's time, at least a millisecond, or the error of a late reply.
     fn wait(&self) -> io::Result<Duration> {
         let left = self.left();
         if left.as_millis() == 0 {
@@ -71,7 +71,7 @@ impl<'a, R: Clock> Link<'a, R> {
         Ok(left)
     }
 
-    /// Notes an answer that is late by the error of its read or its write.
+    /// Notes a late reply by the error of its read or its write.
     fn note(&self, error: &io::Error) {
         if is_over(error) {
             self.is_late.set(true);
@@ -81,7 +81,7 @@ impl<'a, R: Clock> Link<'a, R> {
 
 impl<R: Clock> Read for Link<'_, R> {
     fn read(&mut self, buf: &mut [u8]) -> io::Result<usize> {
-        self.is_heard = true;
+        self.is_answered = true;
         for _try in 0..u64::MAX {
             let left = self.wait()?;
             let _ = self.stream.set_read_timeout(Some(left));
@@ -100,8 +100,8 @@ impl<R: Clock> Read for Link<'_, R> {
 
 impl<R: Clock> Write for Link<'_, R> {
     fn write(&mut self, buf: &[u8]) -> io::Result<usize> {
-        if self.is_heard {
-            self.is_heard = false;
+        if self.is_answered {
+            self.is_answered = false;
             self.begun = Instant::now(self.rt).ok();
         }
         for _try in 0..u64::MAX {

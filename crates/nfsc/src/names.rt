@@ -1,4 +1,5 @@
-//! The book of `--book FILE`, with the names of its users.
+//! The book of `--book FILE` or NFSC_BOOK, with the names of its users.
+use crate::given::Given;
 use crate::person::NoPerson;
 use book_words::explain;
 use std::alloc::{AllocError, Global};
@@ -51,12 +52,30 @@ impl Names {
         }
     }
 
-    /// Reads the book of a file.
+    /// The book of a call, or the one without names. A fault of a file that NFSC_BOOK names has
+    /// that variable before the file.
     pub(crate) fn read<R: Files + Alloc>(
         rt: &R,
         alloc: Global,
-        file: &str,
+        given: &Given<'_>,
     ) -> Result<Self, NoPerson> {
+        let Some(file) = given.value("--book") else {
+            return Ok(Names::none(alloc));
+        };
+        match Names::of_file(rt, alloc, file) {
+            Err(NoPerson::Book(file, why)) => match given.source("--book") {
+                Some(variable) => Err(NoPerson::Book(
+                    format!(in alloc; "{variable}: {file}")?,
+                    why,
+                )),
+                None => Err(NoPerson::Book(file, why)),
+            },
+            names => names,
+        }
+    }
+
+    /// The book of a file.
+    fn of_file<R: Files + Alloc>(rt: &R, alloc: Global, file: &str) -> Result<Self, NoPerson> {
         match fs::read_to_string(rt, file) {
             Ok(text) => Names::of(alloc, file, text.as_str()),
             Err(error) => {
@@ -65,6 +84,23 @@ impl Names {
             }
         }
     }
+}
+
+/// The owner or the group of a word as it is sent: a name of the book without its domain gets the
+/// domain, and any other word is sent as it is.
+pub(crate) fn principal_of(
+    alloc: Global,
+    book: &Book,
+    kind: NameKind,
+    word: &[u8],
+) -> Result<Vec<u8>, AllocError> {
+    let mut text = Vec::new(alloc);
+    text.extend_from_slice(word)?;
+    if book.number_of(kind, word).is_some() {
+        text.push(b'@')?;
+        text.extend_from_slice(book.domain().as_bytes())?;
+    }
+    Ok(text)
 }
 
 /// The number of a user of a book, by its name with or without the domain.

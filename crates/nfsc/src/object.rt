@@ -1,20 +1,19 @@
 //! The attributes of objects, as `stat` and the lines of `list` print them.
 use crate::fault::Fault;
-use crate::shown::Shown;
+use crate::printable::Printable;
 use crate::tree::Object;
 use jiff::Timestamp;
-use nfs_client::{Client, Given, Stat, ToolFault};
+use nfs_client::{Client, Given, Stat, ToolFault, Transport};
 use nfs_ops::Bytes;
 use nfs_types::{Attribute, Bitmap, Status};
 use std::alloc::{AllocError, Global};
 use std::fmt;
 use std::fmt::{Display, Formatter};
-use std::io::{Read, Write};
 
-/// Stands in place of an attribute that the server doesn't give.
+/// Printed in place of an attribute that the server doesn't give.
 const UNKNOWN: &str = "?";
 
-/// A value, or `?` where the server didn't give it.
+/// A value, or `?` if the server didn't give it.
 #[derive(Clone, Copy)]
 struct Known<T>(Option<T>);
 
@@ -52,12 +51,12 @@ impl Display for Moment {
     }
 }
 
-/// A text that the server gave.
-fn text(given: Option<Bytes<'_>>) -> Known<Shown<'_>> {
-    Known(given.map(|text| Shown(text.bytes)))
+/// A text that the server sent.
+fn text(given: Option<Bytes<'_>>) -> Known<Printable<'_>> {
+    Known(given.map(|text| Printable(text.bytes)))
 }
 
-/// The name of a kind by its number, `nfs_ftype4`.
+/// The name of a type by its number, `nfs_ftype4`.
 fn kind_name(number: Option<u32>) -> &'static str {
     match number {
         Some(1) => "file",
@@ -67,7 +66,7 @@ fn kind_name(number: Option<u32>) -> &'static str {
     }
 }
 
-/// The letter of a kind in a listing.
+/// The letter of a type in a listing.
 fn kind_letter(number: Option<u32>) -> &'static str {
     match number {
         Some(1) => "-",
@@ -77,25 +76,25 @@ fn kind_letter(number: Option<u32>) -> &'static str {
     }
 }
 
-/// The attributes that no list governs: those of the others are asked READ_ATTRIBUTES for.
+/// The attributes that no access control list governs: the others need READ_ATTRIBUTES.
 fn ungoverned() -> Bitmap {
     Bitmap::empty()
         .with(Attribute::ObjectType.number())
         .with(Attribute::FileId.number())
 }
 
-/// The attributes of an object, as far as the caller may read them.
-pub(crate) fn attributes<S: Read + Write>(
+/// The attributes of an object that the caller may read.
+pub(crate) fn attributes<S: Transport>(
     client: &mut Client<S>,
     path: &[u8],
 ) -> Result<Given, Fault> {
     match client.attributes(path, Stat::asked()) {
         Err(ToolFault::Refused(_, Status::Access)) => Ok(client.attributes(path, ungoverned())?),
-        told => Ok(told?),
+        outcome => Ok(outcome?),
     }
 }
 
-/// The attributes that were given.
+/// The attributes in a reply.
 pub(crate) fn read(given: &Given) -> Result<Stat<'_>, Fault> {
     match Stat::read(given) {
         Some(stat) => Ok(stat),
@@ -103,7 +102,7 @@ pub(crate) fn read(given: &Given) -> Result<Stat<'_>, Fault> {
     }
 }
 
-/// The first lines of what is known of an object.
+/// The first lines of an object's attributes.
 fn identity(alloc: Global, stat: &Stat<'_>) -> Result<String, AllocError> {
     let (number, kind) = (Known(stat.number), kind_name(stat.kind));
     let (mode, owner) = (Known(stat.mode.map(Mode)), text(stat.owner));
@@ -114,7 +113,7 @@ fn identity(alloc: Global, stat: &Stat<'_>) -> Result<String, AllocError> {
 }
 
 /// The other lines.
-fn standing(alloc: Global, stat: &Stat<'_>) -> Result<String, AllocError> {
+fn object_text(alloc: Global, stat: &Stat<'_>) -> Result<String, AllocError> {
     let (size, links, change) = (Known(stat.size), Known(stat.links), Known(stat.change));
     let (changed, modified) = (
         Known(stat.changed.map(Moment)),
@@ -125,15 +124,15 @@ fn standing(alloc: Global, stat: &Stat<'_>) -> Result<String, AllocError> {
     )
 }
 
-/// Puts what is known of an object.
+/// Puts the attributes of an object.
 fn put_known(alloc: Global, out: &mut Vec<u8>, stat: &Stat<'_>) -> Result<(), Fault> {
     out.extend_from_slice(identity(alloc, stat)?.as_bytes())?;
-    out.extend_from_slice(standing(alloc, stat)?.as_bytes())?;
+    out.extend_from_slice(object_text(alloc, stat)?.as_bytes())?;
     Ok(())
 }
 
-/// How many bytes the object of a path has, where the caller may know it.
-pub(crate) fn size<S: Read + Write>(
+/// The size of the object of a path, if the caller may know it.
+pub(crate) fn size<S: Transport>(
     client: &mut Client<S>,
     path: &[u8],
 ) -> Result<Option<u64>, Fault> {
@@ -143,7 +142,7 @@ pub(crate) fn size<S: Read + Write>(
 }
 
 /// The attributes of an object, one a line.
-pub(crate) fn stat<S: Read + Write>(
+pub(crate) fn stat<S: Transport>(
     client: &mut Client<S>,
     alloc: Global,
     path: &[u8],
@@ -154,9 +153,9 @@ pub(crate) fn stat<S: Read + Write>(
     Ok(out)
 }
 
-/// The end of an object's line: its number, its times and its name.
+/// The end of an object's line: its file ID, its times and its name.
 fn put_end(alloc: Global, out: &mut Vec<u8>, stat: &Stat<'_>, name: &[u8]) -> Result<(), Fault> {
-    let (number, name) = (Known(stat.number), Shown(name));
+    let (number, name) = (Known(stat.number), Printable(name));
     let (changed, modified) = (
         Known(stat.changed.map(Moment)),
         Known(stat.modified.map(Moment)),
@@ -182,8 +181,9 @@ fn nothing<'a>() -> Stat<'a> {
     }
 }
 
-/// Puts the line of an object of a listing, by this name. Where its attributes are refused, that of the listing stands.
-pub(crate) fn put_found<S: Read + Write>(
+/// Puts the line of an object of a listing, by this name. If its attributes are refused, those of
+/// the listing are printed.
+pub(crate) fn put_found<S: Transport>(
     client: &mut Client<S>,
     alloc: Global,
     out: &mut Vec<u8>,
@@ -199,7 +199,7 @@ pub(crate) fn put_found<S: Read + Write>(
 }
 
 /// Puts the line of the object of a path.
-pub(crate) fn put_line<S: Read + Write>(
+pub(crate) fn put_line<S: Transport>(
     client: &mut Client<S>,
     alloc: Global,
     out: &mut Vec<u8>,

@@ -1,30 +1,33 @@
-//! A user by the book: `--as NAME --book FILE`.
-use crate::given::value_of;
+//! A user by the book: `--as NAME --book FILE`, or NFSC_AS and NFSC_BOOK.
+use crate::given::Given;
 use crate::names::{Names, number_of};
 use rpc_record::{Caller, GroupSet};
-use std::alloc::{AllocError, Global};
+use std::alloc::{AllocError, AllocFailed, Global};
 use std::fmt;
 use std::fmt::{Display, Formatter};
 use who_book::Book;
 
-/// The group that a user is called in who is in none.
+/// The group of a user who is in no group.
 const NOBODY: u32 = 65_534;
 
 /// A user by the book.
 #[derive(Drop)]
 pub(crate) struct Person {
     uid: u32,
-    /// The user in its groups, where the book says which users are in which groups.
+    /// The user with its groups, if the book has members.
     member: Option<Caller>,
 }
 
-/// Why the words give no user of a book.
+/// Why a call has no user of a book.
 #[derive(Drop)]
 pub(crate) enum NoPerson {
-    /// Options that can't be given together, or one that is missing.
+    /// Options that can't be given together, or a missing option.
     Words(&'static str),
-    /// The book has no such user: its file, and the name.
-    Unknown(String, String),
+    /// This variable isn't UTF-8.
+    Variable(&'static str),
+    /// The book has no user of this name: the option or the variable of the name, the book's file,
+    /// and the name.
+    Unknown(&'static str, String, String),
     /// The file is no book that can be read: its name, and why.
     Book(String, String),
     Memory,
@@ -36,11 +39,20 @@ impl From<AllocError> for NoPerson {
     }
 }
 
+impl<T: Drop> From<AllocFailed<T>> for NoPerson {
+    fn from(_: AllocFailed<T>) -> Self {
+        NoPerson::Memory
+    }
+}
+
 impl Display for NoPerson {
     fn fmt<W: fmt::Write>(&self, f: &mut Formatter<W>) -> fmt::Result {
         match self {
             NoPerson::Words(why) => write!(f, "{why}"),
-            NoPerson::Unknown(file, name) => write!(f, "--as: {file} has no user {name}"),
+            NoPerson::Variable(variable) => write!(f, "{variable} isn't UTF-8"),
+            NoPerson::Unknown(option, file, name) => {
+                write!(f, "{option}: {file} has no user {name}")
+            }
             NoPerson::Book(file, why) => write!(f, "{file}: {why}"),
             NoPerson::Memory => write!(f, "there is no memory left here"),
         }
@@ -51,65 +63,69 @@ impl NoPerson {
     /// The status that the program ends with.
     pub(crate) fn status(&self) -> u8 {
         match self {
-            NoPerson::Words(_) | NoPerson::Unknown(_, _) => 2,
+            NoPerson::Words(_) | NoPerson::Variable(_) | NoPerson::Unknown(_, _, _) => 2,
             NoPerson::Book(_, _) | NoPerson::Memory => 1,
         }
     }
 }
 
-/// A text of its own.
+/// An owned copy of a text.
 fn own(alloc: Global, text: &str) -> Result<String, AllocError> {
     String::from_str(alloc, text)
 }
 
-/// Whether a book says which users are in which groups: whether a user that sends different groups has the same ones by
-/// the book.
+/// Whether a book has the members of groups: then the groups that a user sends don't matter.
 pub(crate) fn has_members(book: &Book) -> bool {
     let first = book.member(&Caller::new(0, 0, &[]));
     let second = book.member(&Caller::new(0, 1, &[]));
     first.groups() == second.groups()
 }
 
-/// The user of this number in its groups by the book. `None`: the book doesn't say which users are in which groups.
+/// The user of this number with its groups by the book. `None`: the book doesn't have the members
+/// of groups.
 pub(crate) fn member_of(book: &Book, uid: u32) -> Option<Caller> {
     has_members(book).then_some(book.member(&Caller::new(uid, NOBODY, &[])))
 }
 
-/// The user of this number in no group, as a book with `members` has a user whom it puts in none.
+/// The user of this number in no group, as a user whom a book with `members` puts in none.
 pub(crate) fn alone(uid: u32) -> Caller {
     Caller::with_groups(uid, NOBODY, GroupSet::new())
 }
 
-/// Whether the words have an option that says what the book says too.
-fn said_twice(words: &[String], person: &Person) -> Option<&'static str> {
-    if value_of(words, "--uid").is_some() {
+/// An option of the words that the book gives too.
+fn given_twice(given: &Given<'_>, person: &Person) -> Option<&'static str> {
+    if given.is_word("--uid") {
         return Some("--as says the user, so leave --uid out");
     }
-    let has_groups = value_of(words, "--gid").is_some() || value_of(words, "--groups").is_some();
+    let has_groups = given.is_word("--gid") || given.is_word("--groups");
     (has_groups && person.member.is_some()).then_some(
         "the book says the groups of its users, so leave --gid and --groups out",
     )
 }
 
 impl Person {
-    /// The user that the words name by this book. `None`: they name none.
+    /// The user that a call names by this book. `None`: it names none.
     pub(crate) fn read(
         alloc: Global,
-        words: &[String],
+        given: &Given<'_>,
         names: &Names,
     ) -> Result<Option<Self>, NoPerson> {
-        let Some(name) = value_of(words, "--as") else {
+        let Some(name) = given.value("--as") else {
             return Ok(None);
         };
-        let Some(file) = value_of(words, "--book") else {
-            return Err(NoPerson::Words("--as wants --book FILE too"));
+        let option = given.source("--as").unwrap_or("--as");
+        let Some(file) = given.value("--book") else {
+            return Err(NoPerson::Words(match given.source("--as") {
+                Some(_) => "NFSC_AS wants --book FILE too, or NFSC_BOOK",
+                None => "--as wants --book FILE too, or NFSC_BOOK",
+            }));
         };
         let Some(uid) = number_of(&names.book, name) else {
-            return Err(NoPerson::Unknown(own(alloc, file)?, own(alloc, name)?));
+            return Err(NoPerson::Unknown(option, own(alloc, file)?, own(alloc, name)?));
         };
         let member = member_of(&names.book, uid);
         let person = Person { uid, member };
-        match said_twice(words, &person) {
+        match given_twice(given, &person) {
             Some(why) => Err(NoPerson::Words(why)),
             None => Ok(Some(person)),
         }

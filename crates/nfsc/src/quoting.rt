@@ -1,29 +1,29 @@
 //! The words of a line.
 use std::alloc::{AllocError, Global};
 
-/// The quote that is open. It takes characters up to its end:
+/// The open quote, and the characters that are literal in it:
 #[derive(Clone, Copy)]
 enum Quote {
-    /// `'`: all but a `'` as it is.
+    /// `'`: all but a `'`.
     Single,
-    /// `"`: all but a `"` and a backslash as it is.
+    /// `"`: all but a `"` and a backslash.
     Double,
 }
 
-/// The words of a line, as far as it is read.
+/// The words of a line, up to the last character that was read.
 #[derive(Drop)]
 struct Words {
     alloc: Global,
     words: Vec<String>,
-    /// The word that isn't over.
+    /// The word that isn't complete.
     word: Option<String>,
     quote: Option<Quote>,
-    /// Whether the next character is taken as it is.
+    /// Whether the next character is literal.
     is_escaped: bool,
 }
 
 impl Words {
-    /// Puts a character into the word, which is begun where there is none.
+    /// Puts a character into the word, which is begun if there is none.
     fn put(&mut self, letter: char) -> Result<(), AllocError> {
         self.begin();
         match &mut self.word {
@@ -32,14 +32,14 @@ impl Words {
         }
     }
 
-    /// Begins a word where there is none.
+    /// Begins a word if there is none.
     fn begin(&mut self) {
         if self.word.is_none() {
             self.word = Some(String::new(self.alloc));
         }
     }
 
-    /// The word is over, if there is one.
+    /// Ends the word, if there is one.
     fn end(&mut self) -> Result<(), AllocError> {
         if let Some(word) = self.word.take() {
             self.words.push(word)?;
@@ -53,13 +53,13 @@ impl Words {
         self.quote = Some(quote);
     }
 
-    /// Takes the next character as it is, which may be a space or a quote.
+    /// Makes the next character literal, even a space or a quote.
     fn escape(&mut self) {
         self.begin();
         self.is_escaped = true;
     }
 
-    /// Takes the next character where no quote is open.
+    /// Takes the next character outside quotes.
     fn take_plain(&mut self, letter: char) -> Result<(), AllocError> {
         if letter == ' ' || letter == '\t' {
             return self.end();
@@ -115,9 +115,9 @@ impl Words {
     }
 }
 
-/// The words of a line, with spaces and tabs between them. Within `'` all is taken as it is, within `"` all but a
-/// backslash, and after a backslash the next character is. `None`: a quote isn't closed, or nothing comes after a
-/// backslash.
+/// The words of a line, with spaces and tabs between them. Within `'` every character is literal,
+/// and within `"` every one but a backslash. After a backslash the next character is literal.
+/// `None`: a quote isn't closed, or nothing comes after a backslash.
 pub(crate) fn words_in(alloc: Global, line: &str) -> Result<Option<Vec<String>>, AllocError> {
     let mut read = Words {
         alloc,

@@ -1,10 +1,10 @@
-//! The rights that `why` and `who` are asked about (RFC 8881, section 6.2.1.3.1).
+//! The permissions that `why` and `who` are asked about (RFC 8881, section 6.2.1.3.1).
 use acl_list::{Kind, mask};
 use acl_words::{RIGHTS, Words, right_name};
 use std::fmt;
 use std::fmt::{Display, Formatter};
 
-/// The rights of a mask, as they are named on an object of this kind, the lowest first.
+/// The permissions of a mask, by their names on an object of this type, the lowest first.
 #[derive(Clone, Copy)]
 pub(crate) struct Named {
     pub(crate) mask: u32,
@@ -25,12 +25,12 @@ impl Display for Named {
     }
 }
 
-/// Whether a word is the name of a right, on a directory or on any other object.
+/// Whether a word is the name of a permission, on a directory or on any other object.
 fn is_name_of(word: &str, right: u32) -> bool {
     right_name(Kind::Directory, right) == Some(word) || right_name(Kind::File, right) == Some(word)
 }
 
-/// The right that a word names.
+/// The permission that a word names.
 fn bit_of(word: &str) -> Option<u32> {
     match word {
         "read" | "list" => Some(mask::READ_DATA),
@@ -57,7 +57,7 @@ fn mask_of_words(text: &str) -> Option<u32> {
     Some(rights)
 }
 
-/// The mask of the letters of an entry's permissions.
+/// The mask of the permission letters of an access control entry (ACE).
 fn mask_of_letters(object: Kind, entry: &str) -> Option<u32> {
     match Words::read(object, entry.as_bytes()) {
         Ok(words) if words.mask & !mask::DEFINED == 0 => Some(words.mask),
@@ -65,8 +65,8 @@ fn mask_of_letters(object: Kind, entry: &str) -> Option<u32> {
     }
 }
 
-/// The mask of a word on an object of this kind: of names with commas between them, or of letters. The entry is
-/// `A::EVERYONE@:` and the word.
+/// The mask of a word on an object of this type: of names with commas between them, or of letters.
+/// The ACE is `A::EVERYONE@:` and the word.
 fn mask_in(object: Kind, text: &str, entry: &str) -> Option<u32> {
     if text.contains(':') {
         return None;
@@ -81,14 +81,17 @@ fn mask_in(object: Kind, text: &str, entry: &str) -> Option<u32> {
 /// A question of `why` and `who`.
 #[derive(Clone, Copy)]
 pub(crate) enum Rights {
-    /// Whether the object's name may be removed, as `rm` and `mv` do: two lists decide that (section 6.2.1.3.2).
+    /// Whether the object's name may be removed, as `rm` and `mv` do: two access control lists
+    /// decide that (section 6.2.1.3.2).
     Removal,
-    /// Rights by their masks, on a directory and on any other object: the letter `W` has another meaning there.
+    /// Permissions by their masks, on a directory and on any other object: the letter `W` has
+    /// another meaning there.
     Masks { on_directory: u32, on_other: u32 },
 }
 
 impl Rights {
-    /// The question of a word. The entry is `A::EVERYONE@:` and the word. `None`: the word names no right.
+    /// The question of a word. The ACE is `A::EVERYONE@:` and the word. `None`: the word names no
+    /// permission.
     pub(crate) fn read(text: &str, entry: &str) -> Option<Self> {
         if text == "delete" || text == "remove" {
             return Some(Rights::Removal);
@@ -99,7 +102,7 @@ impl Rights {
         })
     }
 
-    /// The mask on an object of this kind. `None`: the removal of a name is asked about.
+    /// The mask on an object of this type. `None`: the question is about the removal of a name.
     pub(crate) fn mask(self, object: Kind) -> Option<u32> {
         match self {
             Rights::Removal => None,

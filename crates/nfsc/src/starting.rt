@@ -1,15 +1,16 @@
-//! The owner and the verifier of this run of the client, by which a server knows it from others.
+//! The owner and the verifier of this run of the client, by which a server distinguishes it from
+//! others.
 use std::io;
 use std::random::RandomSource;
 use std::rt::Clock;
 use std::time::{SystemTime, UNIX_EPOCH};
 
-/// The first bytes of an owner, which say what it is.
+/// The first bytes of an owner, which name the program.
 const NAME: &[u8; 4] = b"nfsc";
 
 /// The owner of this run (RFC 8881, section 2.4): `nfsc`, and 16 random bytes of the system. No two
-/// runs have one owner, also where they start in the same instant, by one process after the other
-/// or by several machines.
+/// runs have one owner, even if they start in the same instant, from one process after the other or
+/// on several machines.
 ///
 /// An error: the system gives no random bytes.
 pub(crate) fn owner<R: RandomSource>(rt: &R) -> io::Result<[u8; 20]> {
@@ -19,7 +20,8 @@ pub(crate) fn owner<R: RandomSource>(rt: &R) -> io::Result<[u8; 20]> {
     Ok(owner)
 }
 
-/// The verifier of this start: the system's time in nanoseconds since the epoch, or zero where the time can't be read.
+/// The verifier of this start: the system's time in nanoseconds since the epoch, or zero if the
+/// time can't be read.
 pub(crate) fn verifier<R: Clock>(rt: &R) -> [u8; 8] {
     let Ok(now) = SystemTime::now(rt) else {
         return [0; 8];

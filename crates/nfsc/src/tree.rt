@@ -1,14 +1,13 @@
-//! The objects below a directory, as listings of the server have them.
+//! The objects below a directory, as the server lists them.
 use crate::fault::Fault;
-use crate::shown::Shown;
-use nfs_client::{Client, ToolFault};
+use crate::printable::Printable;
+use nfs_client::{Client, ToolFault, Transport};
 use std::alloc::{AllocError, Global};
-use std::io::{Read, Write};
 
 /// The most objects of a tree.
 const MOST_OBJECTS: usize = 1_000_000;
 
-/// The columns of an entry of a listing: kind, mode, owner, group, size, name.
+/// The columns of a line of a listing: type, mode, owner, group, size, name.
 const COLUMNS: usize = 6;
 
 /// An object in a directory.
@@ -20,12 +19,12 @@ pub(crate) struct Object {
     pub(crate) columns: String,
 }
 
-/// The kind of an object.
+/// The type of an object.
 #[derive(Clone, Copy, Debug, PartialEq, Eq)]
 pub(crate) enum Kind {
     Directory,
     Link,
-    /// A file, or an object whose kind the server didn't say.
+    /// A file, or an object whose type the server didn't give.
     Other,
 }
 
@@ -39,7 +38,7 @@ pub(crate) struct Unlisted {
 /// The objects below a directory.
 #[derive(Drop)]
 pub(crate) struct Tree {
-    /// Each directory stands before the objects in it.
+    /// Each directory comes before its contents.
     pub(crate) objects: Vec<Object>,
     /// The directories that the server refused to list.
     pub(crate) unlisted: Vec<Unlisted>,
@@ -70,7 +69,7 @@ fn path_in(alloc: Global, directory: &[u8], name: &[u8]) -> Result<Vec<u8>, Allo
     Ok(path)
 }
 
-/// The object of an entry of a directory. `Reply`: its name can't be one in a directory.
+/// The object of a line of a listing. `Reply`: its name can't be one in a directory.
 fn object_in(alloc: Global, directory: &[u8], entry: &[&[u8]]) -> Result<Object, Fault> {
     let [letter, mode, owner, group, size, name] = entry else {
         return Err(Fault::Tool(ToolFault::Reply));
@@ -81,8 +80,8 @@ fn object_in(alloc: Global, directory: &[u8], entry: &[&[u8]]) -> Result<Object,
     if !is_name(name) {
         return Err(Fault::Tool(ToolFault::Reply));
     }
-    let (letter, mode, size) = (Shown(letter), Shown(mode), Shown(size));
-    let (owner, group) = (Shown(owner), Shown(group));
+    let (letter, mode, size) = (Printable(letter), Printable(mode), Printable(size));
+    let (owner, group) = (Printable(owner), Printable(group));
     Ok(Object {
         path: path_in(alloc, directory, name)?,
         kind,
@@ -91,7 +90,7 @@ fn object_in(alloc: Global, directory: &[u8], entry: &[&[u8]]) -> Result<Object,
 }
 
 impl Tree {
-    /// Puts the objects of a directory's listing, in which a zero byte stands after each column.
+    /// Puts the objects of a directory's listing, in which each column is followed by a zero byte.
     fn put(&mut self, alloc: Global, directory: &[u8], listing: &[u8]) -> Result<(), Fault> {
         let Some(text) = listing.strip_suffix(b"\0") else {
             return Ok(());
@@ -104,7 +103,7 @@ impl Tree {
     }
 
     /// Lists a directory, and puts its objects. A refusal is noted.
-    fn list<S: Read + Write>(
+    fn list<S: Transport>(
         &mut self,
         client: &mut Client<S>,
         alloc: Global,
@@ -120,7 +119,7 @@ impl Tree {
         }
     }
 
-    /// The path of the object at this place, where that is a directory.
+    /// The path of the object at this place, if that is a directory.
     fn directory_at(&self, index: usize) -> Result<Option<Vec<u8>>, AllocError> {
         match self.objects.get(index) {
             Some(object) if object.kind == Kind::Directory => Ok(Some(object.path.clone()?)),
@@ -128,8 +127,8 @@ impl Tree {
         }
     }
 
-    /// The objects in a directory. A refusal to list it is the command's.
-    pub(crate) fn within<S: Read + Write>(
+    /// The objects in a directory. A refusal to list it is the command's result.
+    pub(crate) fn within<S: Transport>(
         client: &mut Client<S>,
         alloc: Global,
         path: &[u8],
@@ -143,8 +142,9 @@ impl Tree {
         Ok(tree)
     }
 
-    /// The objects below a directory. A refusal to list the directory itself is the command's.
-    pub(crate) fn below<S: Read + Write>(
+    /// The objects below a directory. A refusal to list the directory itself is the command's
+    /// result.
+    pub(crate) fn below<S: Transport>(
         client: &mut Client<S>,
         alloc: Global,
         path: &[u8],

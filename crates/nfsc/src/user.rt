@@ -7,14 +7,15 @@ use rpc_record::{Caller, MOST_FURTHER};
 use std::alloc::Global;
 use who_book::Book;
 
-/// A user in groups, as the server takes it.
+/// A user with the groups that the server uses.
 #[derive(Clone, Copy)]
 pub(crate) struct Asked<'a> {
     pub(crate) name: &'a str,
     pub(crate) caller: Caller,
 }
 
-/// The user of a number in its groups by the book, or in none where the book doesn't say them.
+/// The user of a number with its groups by the book, or in no group if the book doesn't have the
+/// members of groups.
 fn in_groups(book: &Book, uid: u32) -> Caller {
     match member_of(book, uid) {
         Some(member) => member,
@@ -44,8 +45,8 @@ fn caller_in(alloc: Global, uid: u32, text: &str) -> Result<Option<Caller>, Faul
 }
 
 impl<'a> Asked<'a> {
-    /// The user of a text: a name of the book, or a number; with its groups after a colon, where
-    /// the book doesn't say them.
+    /// The user of a text: a name of the book, or a number; with its groups after a colon, if the
+    /// book doesn't have the members of groups.
     pub(crate) fn read(alloc: Global, book: &Book, text: &'a str) -> Result<Self, Fault> {
         if let Some(uid) = uid_in(book, text) {
             return Ok(Asked {

@@ -1,31 +1,20 @@
-//! `why` and `who`: whether users have rights, and by which entries of lists.
+//! `why` and `who`: whether users have permissions, and which entries of access control lists
+//! (ACLs) decide that.
+use crate::about::parent_of;
 use crate::fault::Fault;
 use crate::judged::Judged;
 use crate::names::Names;
+use crate::printable::Printable;
 use crate::rights::{Named, Rights};
-use crate::shown::Shown;
 use crate::user::Asked;
 use acl_list::{Entry, EntryKind, Kind, mask};
 use acl_reasons::{
-    Reason, RemovalReason, Share, Standing, share_of, standing_of, why, why_removal,
+    Applicability, Reason, RemovalReason, Share, applicability_of, share_of, why, why_removal,
 };
 use acl_words::{Text, write_entry};
-use nfs_client::Client;
+use nfs_client::{Client, Transport};
 use std::alloc::Global;
-use std::io::{Read, Write};
 use who_book::Book;
-
-/// The path of the directory that a path's last name stands in. `None`: it is the root's.
-fn parent_of(path: &[u8]) -> Option<&[u8]> {
-    let place = path.iter().rposition(|byte| *byte == b'/')?;
-    if place.saturating_add(1) == path.len() {
-        return None;
-    }
-    if place == 0 {
-        return Some(b"/");
-    }
-    path.get(..place)
-}
 
 /// Puts a line.
 fn put(out: &mut Vec<u8>, text: &str) -> Result<(), Fault> {
@@ -34,7 +23,8 @@ fn put(out: &mut Vec<u8>, text: &str) -> Result<(), Fault> {
     Ok(())
 }
 
-/// The rights that an entry allows or denies, of those that are asked about, and those that were decided before it.
+/// The requested permissions that an access control entry (ACE) allows or denies, and those that
+/// were decided before it.
 fn doing(alloc: Global, object: Kind, kind: EntryKind, share: Share) -> Result<String, Fault> {
     let verb = match kind {
         EntryKind::Deny => "denies",
@@ -59,7 +49,7 @@ fn doing(alloc: Global, object: Kind, kind: EntryKind, share: Share) -> Result<S
     }
 }
 
-/// Whether an entry applies to a caller and what it decides, or why it doesn't apply.
+/// Whether an ACE applies to a caller and what it decides, or why it doesn't apply.
 fn part_of(
     alloc: Global,
     judged: &Judged,
@@ -67,12 +57,12 @@ fn part_of(
     rights: u32,
     (index, entry): (usize, &Entry),
 ) -> Result<String, Fault> {
-    match standing_of(entry, judged.owner, judged.group, &asked.caller) {
-        Standing::Watches => Ok(format!(in alloc; "watches, and decides nothing")?),
-        Standing::InheritOnly => Ok(format!(in alloc; "is for what is made below alone")?),
-        Standing::AnotherUser => Ok(format!(in alloc; "is another user's")?),
-        Standing::NoMember => Ok(format!(in alloc; "is a group's that the user isn't in")?),
-        Standing::Applies => {
+    match applicability_of(entry, judged.owner, judged.group, &asked.caller) {
+        Applicability::Watches => Ok(format!(in alloc; "watches, and decides nothing")?),
+        Applicability::InheritOnly => Ok(format!(in alloc; "is for what is made below alone")?),
+        Applicability::AnotherUser => Ok(format!(in alloc; "is another user's")?),
+        Applicability::NoMember => Ok(format!(in alloc; "is a group's that the user isn't in")?),
+        Applicability::Applies => {
             let (owner, group) = (judged.owner, judged.group);
             let share = share_of(&judged.list, owner, group, &asked.caller, rights, index);
             doing(alloc, judged.object, entry.kind, share)
@@ -80,13 +70,14 @@ fn part_of(
     }
 }
 
-/// The words of an entry, whose flags are those of eight bits.
+/// The words of an ACE, whose flags are those of eight bits.
 fn words_of(book: &Book, entry: &Entry) -> Text {
     let flags = u32::from((entry.flags & 0xFF) as u8);
     write_entry(book, &Entry { flags, ..*entry })
 }
 
-/// Puts a line for each entry of a list: its number from 1 on, its words, and what it is to a caller.
+/// Puts a line for each ACE of an ACL: its number from 1 on, its words, and its effect for a
+/// caller.
 fn put_entries(
     out: &mut Vec<u8>,
     alloc: Global,
@@ -99,7 +90,7 @@ fn put_entries(
         let number = index.saturating_add(1);
         let words = words_of(book, entry);
         let part = part_of(alloc, judged, asked, rights, (index, entry))?;
-        let text = format!(in alloc; "{number}  {}  {part}", Shown(words.as_bytes()))?;
+        let text = format!(in alloc; "{number}  {}  {part}", Printable(words.as_bytes()))?;
         put(out, text.as_str())?;
     }
     Ok(())
@@ -114,7 +105,7 @@ fn sentence(
     path: &[u8],
 ) -> Result<String, Fault> {
     let object = judged.object;
-    let (name, path) = (Shown(asked.name.as_bytes()), Shown(path));
+    let (name, path) = (Printable(asked.name.as_bytes()), Printable(path));
     let all = Named {
         mask: rights,
         object,
@@ -140,7 +131,7 @@ fn sentence(
     Ok(text)
 }
 
-/// The lists that decide on a removal: that of the object, and that of its directory.
+/// The ACLs that decide a removal: that of the object, and that of its directory.
 #[derive(Drop)]
 struct Pair<'a> {
     parent: Judged,
@@ -150,7 +141,7 @@ struct Pair<'a> {
 }
 
 impl<'a> Pair<'a> {
-    fn read<S: Read + Write>(
+    fn read<S: Transport>(
         client: &mut Client<S>,
         alloc: Global,
         book: &Book,
@@ -179,7 +170,7 @@ impl<'a> Pair<'a> {
 
     /// Why a name may be removed, or why not.
     fn because(&self, alloc: Global, reason: RemovalReason) -> Result<String, Fault> {
-        let (above, path) = (Shown(self.above), Shown(self.path));
+        let (above, path) = (Printable(self.above), Printable(self.path));
         let text = match reason {
             RemovalReason::ByDelete(index) => {
                 let number = index.saturating_add(1);
@@ -213,7 +204,7 @@ impl<'a> Pair<'a> {
         Ok(text)
     }
 
-    /// The sentence on a removal, and both lists.
+    /// The sentence on a removal, and both ACLs.
     fn put(
         &self,
         out: &mut Vec<u8>,
@@ -222,9 +213,9 @@ impl<'a> Pair<'a> {
         asked: &Asked<'_>,
     ) -> Result<(), Fault> {
         let (name, path, above) = (
-            Shown(asked.name.as_bytes()),
-            Shown(self.path),
-            Shown(self.above),
+            Printable(asked.name.as_bytes()),
+            Printable(self.path),
+            Printable(self.above),
         );
         let reason = self.reason(asked);
         let verdict = if is_granted(reason) { "may" } else { "may not" };
@@ -249,7 +240,7 @@ fn is_granted(reason: RemovalReason) -> bool {
     )
 }
 
-/// The mask of rights on an object.
+/// The mask of permissions on an object.
 fn mask_on(rights: Rights, judged: &Judged) -> Result<u32, Fault> {
     match rights.mask(judged.object) {
         Some(mask) => Ok(mask),
@@ -257,8 +248,9 @@ fn mask_on(rights: Rights, judged: &Judged) -> Result<u32, Fault> {
     }
 }
 
-/// Says whether a user has rights on an object and why, and what each entry of its list is to that.
-pub(crate) fn explain<S: Read + Write>(
+/// Explains whether a user has permissions on an object and why, and the effect of each ACE of its
+/// ACL.
+pub(crate) fn explain<S: Transport>(
     client: &mut Client<S>,
     alloc: Global,
     book: &Book,
@@ -280,7 +272,7 @@ pub(crate) fn explain<S: Read + Write>(
     Ok(out)
 }
 
-/// Whether a list grants a user rights.
+/// Whether an ACL grants a user permissions.
 fn is_allowed(judged: &Judged, asked: &Asked<'_>, rights: u32) -> bool {
     matches!(
         why(
@@ -294,7 +286,7 @@ fn is_allowed(judged: &Judged, asked: &Asked<'_>, rights: u32) -> bool {
     )
 }
 
-/// The users of a book whom a list grants rights, a line each.
+/// The users of a book whom an ACL grants permissions, one a line.
 fn holders(alloc: Global, names: &Names, judged: &Judged, rights: u32) -> Result<Vec<u8>, Fault> {
     let mut out = Vec::new(alloc);
     for name in &names.users {
@@ -307,7 +299,7 @@ fn holders(alloc: Global, names: &Names, judged: &Judged, rights: u32) -> Result
     Ok(out)
 }
 
-/// The users of a book who may remove a name, a line each.
+/// The users of a book who may remove a name, one a line.
 fn removers(alloc: Global, names: &Names, pair: &Pair<'_>) -> Result<Vec<u8>, Fault> {
     let mut out = Vec::new(alloc);
     for name in &names.users {
@@ -320,8 +312,8 @@ fn removers(alloc: Global, names: &Names, pair: &Pair<'_>) -> Result<Vec<u8>, Fa
     Ok(out)
 }
 
-/// The users of a book that have rights on an object, a line each.
-pub(crate) fn list<S: Read + Write>(
+/// The users of a book who have permissions on an object, one a line.
+pub(crate) fn list<S: Transport>(
     client: &mut Client<S>,
     alloc: Global,
     names: &Names,

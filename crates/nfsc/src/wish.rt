@@ -1,9 +1,10 @@
-//! The command that the words of a call ask for.
+//! The command that the words of a call request.
 use crate::deep::{Deep, Manner};
 use crate::facl::Change;
 use nfs_client::Command;
 
-/// The command that the words of a call ask for: one as the client has it, or one for people over several of them.
+/// The command that the words of a call request: one as the client has it, or one for people over
+/// several of them.
 #[derive(Drop)]
 pub(crate) enum Wish<'a> {
     Plain(Command<'a>),
@@ -17,22 +18,22 @@ pub(crate) enum Wish<'a> {
         file: &'a str,
         path: &'a [u8],
     },
-    /// `getfacl P`: the list in words.
+    /// `getfacl P`: the access control list (ACL) in words.
     GetFacl(&'a [u8]),
-    /// `setfacl P ENTRY..`, `addfacl P [N] ENTRY..`, `delfacl P N..`: changes the list, with
-    /// `--force` also where the caller can't change it back.
+    /// `setfacl P ENTRY..`, `addfacl P [N] ENTRY..`, `delfacl P N..`: changes the ACL; with
+    /// `--force` even if the caller can't change it back.
     ChangeFacl {
         path: &'a [u8],
         change: Change<'a>,
         is_forced: bool,
     },
-    /// `mkdir -p P`: makes a directory, and those above it that aren't there.
+    /// `mkdir -p P`: makes a directory, and its missing parents.
     MakeAll(&'a [u8]),
-    /// `stat P`: what is known of an object.
+    /// `stat P`: the attributes of an object.
     Stat(&'a [u8]),
-    /// `list P`: the lines of what is in a directory, or of another object.
+    /// `list P`: the lines of a directory's contents, or of another object.
     List(&'a [u8]),
-    /// `path N`: the paths of the object of this number.
+    /// `path N`: the paths of the object with this file ID.
     PathOf(u64),
     /// `chown OWNER P`: sets the owner.
     ChOwn(&'a [u8], &'a [u8]),
@@ -44,13 +45,13 @@ pub(crate) enum Wish<'a> {
     ReadLink(&'a [u8]),
     /// `cp OLD NEW`: makes the bytes of a file those of another.
     Copy(&'a [u8], &'a [u8]),
-    /// `why USER RIGHTS P`: whether a user has rights, and by which entries.
+    /// `why USER RIGHTS P`: whether a user has permissions, and which entries decide that.
     Why {
         user: &'a str,
         rights: &'a str,
         path: &'a [u8],
     },
-    /// `who RIGHTS P`: which users of a book have rights.
+    /// `who RIGHTS P`: which users of a book have permissions.
     Who {
         rights: &'a str,
         path: &'a [u8],
@@ -68,11 +69,11 @@ pub(crate) enum Wish<'a> {
 struct Flags {
     is_deep: bool,
     manner: Manner,
-    /// How many words they are.
+    /// The number of these words.
     count: usize,
 }
 
-/// The flags at the front of words.
+/// The flags that the words begin with.
 fn flags_in(words: &[&str]) -> Flags {
     let mut flags = Flags {
         is_deep: false,
@@ -128,7 +129,8 @@ pub(crate) fn place_in(word: &str) -> Option<usize> {
     }
 }
 
-/// The words of `addfacl` after the path, `[N] ENTRY..`. Where no number is given, entries are put before the first.
+/// The words of `addfacl` after the path, `[N] ENTRY..`. If no number is given, entries are
+/// inserted before the first.
 fn adding<'a>(first: &str, rest: &'a [&'a [u8]]) -> Option<Change<'a>> {
     match place_in(first) {
         Some(place) => match rest {
@@ -139,7 +141,7 @@ fn adding<'a>(first: &str, rest: &'a [&'a [u8]]) -> Option<Change<'a>> {
     }
 }
 
-/// The change of a list by the command of this name, from its path on.
+/// The change of an ACL by the command of this name, from its path on.
 fn change_in<'a>(
     name: &str,
     words: &'a [&'a str],
@@ -165,7 +167,7 @@ fn change_in<'a>(
     })
 }
 
-/// The change of a list by the words of a command.
+/// The change of an ACL by the words of a command.
 fn facl_in<'a>(words: &'a [&'a str], bytes: &'a [&'a [u8]]) -> Option<Wish<'a>> {
     match (words, bytes) {
         ([name, "--force", words @ ..], [_, _, bytes @ ..]) => change_in(name, words, bytes, true),
@@ -188,7 +190,7 @@ fn of_paths<'a>(words: &[&str], bytes: &'a [&'a [u8]]) -> Option<Wish<'a>> {
 }
 
 impl<'a> Wish<'a> {
-    /// Reads the command of these words, as text and as bytes. `None`: there is no such command, or
+    /// Reads the command of these words, as text and as bytes. `None`: no command has this name, or
     /// it has another number of words.
     pub(crate) fn read(words: &'a [&'a str], bytes: &'a [&'a [u8]]) -> Option<Self> {
         if let Some(wish) = deep_in(words, bytes) {

@@ -40,7 +40,7 @@ spelled low high n t passed is = go (starts_with_minus t) refl
         let value : n ≡ digits_value 10 (without_leading_plus t) = rw minus at is in
         rw minus (ap pos (sym value))
 
--- where a text is given that passed the range, a number is read, and it is the number that the text spells
+-- if a text is given that passed the range, a number is read, and it is the number that the text spells
 pub number_read : (E : Type 0) (G : Text → Result ℕ E → Type 0) (bits low high : ℕ) (t : Text) (o : Option ℕ)
     → ReadsOne G (without_minus t) o → ((u : Text) (x : Result ℕ E) → G u x → ParsesUnsigned bits 10 u x) → high < 2 ^ bits
     → IsSignedIn (pos low) (pos high) t

@@ -1,4 +1,4 @@
--- The eight arguments by their places, and the rules of each that building keeps.
+-- The nine arguments by their places, and the rules of each that building keeps.
 use Rattle.std.proofs.Common.{◌≡◌, ◌∙◌, ◌<◌, ◌≤◌, ap, ap₂, ℕ, true, false, List, [], ◌∷◌, length, zero, suc, Option, Some, is_some}
 use Rattle.std.proofs.Common.{refl, sym, subst, inl, inr, arith, codes}
 use Rattle.std.specs.List.{slice_index_or}
@@ -30,23 +30,23 @@ differ a b other same =
     cc
 
 -- the argument at place k has the rule r, and an id that no other argument of the command has
-pub record StandsAt (k : ℕ) (r : Rule) : Type 0 where
-  pub here : k < 8
+pub record IsRuleAt (k : ℕ) (r : Rule) : Type 0 where
+  pub here : k < 9
   pub place : (e : Rule) → slice_index_or nfsc_rules k e ≡ r
   pub exact : r.ignore_case ≡ false
-  pub alone : (j : ℕ) (e : Rule) → j < 8 → bytes_eq (slice_index_or nfsc_rules j e).id r.id ≡ true → j ≡ k
+  pub alone : (j : ℕ) (e : Rule) → j < 9 → bytes_eq (slice_index_or nfsc_rules j e).id r.id ≡ true → j ≡ k
   pub named : bytes_eq r.id [] ≡ false
   pub no_help : bytes_eq r.id (codes "help") ≡ false
   pub no_version : bytes_eq r.id (codes "version") ≡ false
 
--- an argument with this rule can't be left out
+-- an argument with this rule is required
 pub record IsAskedFor (r : Rule) : Type 0 where
   pub required : r.required ≡ true
   pub set : r.action ≡ Some Set
   pub least : 1 ≤ (unwrap_or_range r.range).start_inclusive
   pub simple : r.is_simple ≡ true
 
-port_alone : (j : ℕ) (e : Rule) → j < 8 → bytes_eq (slice_index_or nfsc_rules j e).id (codes "port") ≡ true → j ≡ 0
+port_alone : (j : ℕ) (e : Rule) → j < 9 → bytes_eq (slice_index_or nfsc_rules j e).id (codes "port") ≡ true → j ≡ 0
 port_alone zero e lt same = refl
 port_alone (suc zero) e lt same = cc
 port_alone (suc (suc zero)) e lt same = cc
@@ -55,9 +55,10 @@ port_alone (suc (suc (suc (suc zero)))) e lt same = cc
 port_alone (suc (suc (suc (suc (suc zero))))) e lt same = cc
 port_alone (suc (suc (suc (suc (suc (suc zero)))))) e lt same = cc
 port_alone (suc (suc (suc (suc (suc (suc (suc zero))))))) e lt same = cc
-port_alone (suc (suc (suc (suc (suc (suc (suc (suc j)))))))) e lt same = absurd (omega arith)
+port_alone (suc (suc (suc (suc (suc (suc (suc (suc zero)))))))) e lt same = cc
+port_alone (suc (suc (suc (suc (suc (suc (suc (suc (suc j))))))))) e lt same = absurd (omega arith)
 
-uid_alone : (j : ℕ) (e : Rule) → j < 8 → bytes_eq (slice_index_or nfsc_rules j e).id (codes "uid") ≡ true → j ≡ 1
+uid_alone : (j : ℕ) (e : Rule) → j < 9 → bytes_eq (slice_index_or nfsc_rules j e).id (codes "uid") ≡ true → j ≡ 1
 uid_alone zero e lt same = cc
 uid_alone (suc zero) e lt same = refl
 uid_alone (suc (suc zero)) e lt same = cc
@@ -66,9 +67,10 @@ uid_alone (suc (suc (suc (suc zero)))) e lt same = cc
 uid_alone (suc (suc (suc (suc (suc zero))))) e lt same = cc
 uid_alone (suc (suc (suc (suc (suc (suc zero)))))) e lt same = cc
 uid_alone (suc (suc (suc (suc (suc (suc (suc zero))))))) e lt same = cc
-uid_alone (suc (suc (suc (suc (suc (suc (suc (suc j)))))))) e lt same = absurd (omega arith)
+uid_alone (suc (suc (suc (suc (suc (suc (suc (suc zero)))))))) e lt same = cc
+uid_alone (suc (suc (suc (suc (suc (suc (suc (suc (suc j))))))))) e lt same = absurd (omega arith)
 
-gid_alone : (j : ℕ) (e : Rule) → j < 8 → bytes_eq (slice_index_or nfsc_rules j e).id (codes "gid") ≡ true → j ≡ 2
+gid_alone : (j : ℕ) (e : Rule) → j < 9 → bytes_eq (slice_index_or nfsc_rules j e).id (codes "gid") ≡ true → j ≡ 2
 gid_alone zero e lt same = cc
 gid_alone (suc zero) e lt same = cc
 gid_alone (suc (suc zero)) e lt same = refl
@@ -77,9 +79,10 @@ gid_alone (suc (suc (suc (suc zero)))) e lt same = cc
 gid_alone (suc (suc (suc (suc (suc zero))))) e lt same = cc
 gid_alone (suc (suc (suc (suc (suc (suc zero)))))) e lt same = cc
 gid_alone (suc (suc (suc (suc (suc (suc (suc zero))))))) e lt same = cc
-gid_alone (suc (suc (suc (suc (suc (suc (suc (suc j)))))))) e lt same = absurd (omega arith)
+gid_alone (suc (suc (suc (suc (suc (suc (suc (suc zero)))))))) e lt same = cc
+gid_alone (suc (suc (suc (suc (suc (suc (suc (suc (suc j))))))))) e lt same = absurd (omega arith)
 
-command_alone : (j : ℕ) (e : Rule) → j < 8 → bytes_eq (slice_index_or nfsc_rules j e).id (codes "command") ≡ true → j ≡ 3
+command_alone : (j : ℕ) (e : Rule) → j < 9 → bytes_eq (slice_index_or nfsc_rules j e).id (codes "command") ≡ true → j ≡ 3
 command_alone zero e lt same = cc
 command_alone (suc zero) e lt same = cc
 command_alone (suc (suc zero)) e lt same = cc
@@ -88,9 +91,10 @@ command_alone (suc (suc (suc (suc zero)))) e lt same = cc
 command_alone (suc (suc (suc (suc (suc zero))))) e lt same = cc
 command_alone (suc (suc (suc (suc (suc (suc zero)))))) e lt same = cc
 command_alone (suc (suc (suc (suc (suc (suc (suc zero))))))) e lt same = cc
-command_alone (suc (suc (suc (suc (suc (suc (suc (suc j)))))))) e lt same = absurd (omega arith)
+command_alone (suc (suc (suc (suc (suc (suc (suc (suc zero)))))))) e lt same = cc
+command_alone (suc (suc (suc (suc (suc (suc (suc (suc (suc j))))))))) e lt same = absurd (omega arith)
 
-timeout_alone : (j : ℕ) (e : Rule) → j < 8 → bytes_eq (slice_index_or nfsc_rules j e).id (codes "timeout") ≡ true → j ≡ 4
+timeout_alone : (j : ℕ) (e : Rule) → j < 9 → bytes_eq (slice_index_or nfsc_rules j e).id (codes "timeout") ≡ true → j ≡ 4
 timeout_alone zero e lt same = cc
 timeout_alone (suc zero) e lt same = cc
 timeout_alone (suc (suc zero)) e lt same = cc
@@ -99,10 +103,11 @@ timeout_alone (suc (suc (suc (suc zero)))) e lt same = refl
 timeout_alone (suc (suc (suc (suc (suc zero))))) e lt same = cc
 timeout_alone (suc (suc (suc (suc (suc (suc zero)))))) e lt same = cc
 timeout_alone (suc (suc (suc (suc (suc (suc (suc zero))))))) e lt same = cc
-timeout_alone (suc (suc (suc (suc (suc (suc (suc (suc j)))))))) e lt same = absurd (omega arith)
+timeout_alone (suc (suc (suc (suc (suc (suc (suc (suc zero)))))))) e lt same = cc
+timeout_alone (suc (suc (suc (suc (suc (suc (suc (suc (suc j))))))))) e lt same = absurd (omega arith)
 
-pub port_stands : StandsAt 0 port_rule
-port_stands = record {
+pub port_is_at : IsRuleAt 0 port_rule
+port_is_at = record {
   here = omega arith;
   place = λ e. refl;
   exact = refl;
@@ -112,8 +117,8 @@ port_stands = record {
   no_version = refl;
 }
 
-pub uid_stands : StandsAt 1 uid_rule
-uid_stands = record {
+pub uid_is_at : IsRuleAt 1 uid_rule
+uid_is_at = record {
   here = omega arith;
   place = λ e. refl;
   exact = refl;
@@ -123,8 +128,8 @@ uid_stands = record {
   no_version = refl;
 }
 
-pub gid_stands : StandsAt 2 gid_rule
-gid_stands = record {
+pub gid_is_at : IsRuleAt 2 gid_rule
+gid_is_at = record {
   here = omega arith;
   place = λ e. refl;
   exact = refl;
@@ -134,8 +139,8 @@ gid_stands = record {
   no_version = refl;
 }
 
-pub command_stands : StandsAt 3 command_rule
-command_stands = record {
+pub command_is_at : IsRuleAt 3 command_rule
+command_is_at = record {
   here = omega arith;
   place = λ e. refl;
   exact = refl;
@@ -145,8 +150,8 @@ command_stands = record {
   no_version = refl;
 }
 
-pub timeout_stands : StandsAt 4 timeout_rule
-timeout_stands = record {
+pub timeout_is_at : IsRuleAt 4 timeout_rule
+timeout_is_at = record {
   here = omega arith;
   place = λ e. refl;
   exact = refl;
@@ -168,14 +173,14 @@ gid_asked = record { required = refl; set = refl; least = omega arith; simple = 
 pub command_asked : IsAskedFor command_rule
 command_asked = record { required = refl; set = refl; least = omega arith; simple = refl }
 
-eight : (c : Command) → app_of c ≡ nfsc → length (args_of c) ≡ 8
-eight c is = sym (length-map (args_of c) rule_of) ∙ ap (λ (a : App). length a.top.rules) is
+nine : (c : Command) → app_of c ≡ nfsc → length (args_of c) ≡ 9
+nine c is = sym (length-map (args_of c) rule_of) ∙ ap (λ (a : App). length a.top.rules) is
 
 rule_at : (c : Command) → app_of c ≡ nfsc → (k : ℕ) (d : Arg) (e : Rule) → k < length (args_of c)
     → rule_of (slice_index_or (args_of c) k d) ≡ slice_index_or nfsc_rules k e
 rule_at c is k d e lt = sym (get_or-map rule_of (args_of c) k d e lt) ∙ ap (λ (a : App). slice_index_or a.top.rules k e) is
 
-simple_rules : (k : ℕ) (e : Rule) → k < 8 → (slice_index_or nfsc_rules k e).is_simple ≡ true
+simple_rules : (k : ℕ) (e : Rule) → k < 9 → (slice_index_or nfsc_rules k e).is_simple ≡ true
 simple_rules zero e lt = refl
 simple_rules (suc zero) e lt = refl
 simple_rules (suc (suc zero)) e lt = refl
@@ -184,9 +189,10 @@ simple_rules (suc (suc (suc (suc zero)))) e lt = refl
 simple_rules (suc (suc (suc (suc (suc zero))))) e lt = refl
 simple_rules (suc (suc (suc (suc (suc (suc zero)))))) e lt = refl
 simple_rules (suc (suc (suc (suc (suc (suc (suc zero))))))) e lt = refl
-simple_rules (suc (suc (suc (suc (suc (suc (suc (suc k)))))))) e lt = absurd (omega arith)
+simple_rules (suc (suc (suc (suc (suc (suc (suc (suc zero)))))))) e lt = refl
+simple_rules (suc (suc (suc (suc (suc (suc (suc (suc (suc k))))))))) e lt = absurd (omega arith)
 
-free_rules : (k : ℕ) (e : Rule) → k < 8 → (slice_index_or nfsc_rules k e).is_free ≡ true
+free_rules : (k : ℕ) (e : Rule) → k < 9 → (slice_index_or nfsc_rules k e).is_free ≡ true
 free_rules zero e lt = refl
 free_rules (suc zero) e lt = refl
 free_rules (suc (suc zero)) e lt = refl
@@ -195,14 +201,15 @@ free_rules (suc (suc (suc (suc zero)))) e lt = refl
 free_rules (suc (suc (suc (suc (suc zero))))) e lt = refl
 free_rules (suc (suc (suc (suc (suc (suc zero)))))) e lt = refl
 free_rules (suc (suc (suc (suc (suc (suc (suc zero))))))) e lt = refl
-free_rules (suc (suc (suc (suc (suc (suc (suc (suc k)))))))) e lt = absurd (omega arith)
+free_rules (suc (suc (suc (suc (suc (suc (suc (suc zero)))))))) e lt = refl
+free_rules (suc (suc (suc (suc (suc (suc (suc (suc (suc k))))))))) e lt = absurd (omega arith)
 
 -- no argument of the command excludes another
 plain : (c : Command) → app_of c ≡ nfsc → IsPlain c
 plain c is = (
   (λ k d lt.
-      let count = eight c is in
-      let few : k < 8 = omega arith in
+      let count = nine c is in
+      let few : k < 9 = omega arith in
       let mine = rule_at c is k d (rule_of d) lt in
       plain_arg (slice_index_or (args_of c) k d)
       (ap (λ (r : Rule). r.is_simple) mine ∙ simple_rules k (rule_of d) few)
@@ -210,10 +217,10 @@ plain c is = (
   (plain_fields c (ap (λ (a : App). a.top.is_plain) is)).groups,
 )
 
-module _ (old : Command) (m : ArgMatches) (p : IsParsedFrom old m) (is : app_of old ≡ nfsc) (k : ℕ) (r : Rule) (s : StandsAt k r) where
+module _ (old : Command) (m : ArgMatches) (p : IsParsedFrom old m) (is : app_of old ≡ nfsc) (k : ℕ) (r : Rule) (s : IsRuleAt k r) where
   within : k < length (args_of old)
   within =
-      let count = eight old is in
+      let count = nine old is in
       let few = s.here in
       omega arith
 
@@ -226,7 +233,7 @@ module _ (old : Command) (m : ArgMatches) (p : IsParsedFrom old m) (is : app_of 
   only : (d : Arg) (i : ℕ) (e : Arg) → i < length (args_of old)
       → bytes_eq (slice_index_or (args_of old) i e).id.now (slice_index_or (args_of old) k d).id.now ≡ true → i ≡ k
   only d i e low eq =
-      let count = eight old is in
+      let count = nine old is in
       let other : (slice_index_or (args_of old) i e).id.now ≡ (slice_index_or nfsc_rules i r).id = ap (λ (a : Rule). a.id) (rule_at old is i e r low) in
       s.alone i r (omega arith) (sym (ap₂ bytes_eq other (id_of d)) ∙ eq)
 

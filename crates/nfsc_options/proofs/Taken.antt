@@ -25,7 +25,7 @@ use Rattle.clap.proofs.SimpleLemmas.{all_simple, plain_fields, simple_groups}
 use Rattle.nfsc_options.specs.Simple.{nfsc}
 use Rattle.nfsc_options.proofs.Answers.{Reads}
 use Rattle.nfsc_options.proofs.Numbers.{number_read}
-use Rattle.nfsc_options.proofs.Rules.{StandsAt, differ, own_parser}
+use Rattle.nfsc_options.proofs.Rules.{IsRuleAt, differ, own_parser}
 
 abbrev first_text : List (Bor Text) → Option Text
 first_text vs = option_map (λ s. s.now) (slice_get vs 0)
@@ -49,7 +49,7 @@ no_groups old m p is =
     (p.from.same_groups (simple_groups old (ap (λ (a : App). all_simple a.top.rules) is))).1
     ∙ (plain_fields old (ap (λ (a : App). a.top.is_plain) is)).groups
 
-module _ (old : Command) (m : ArgMatches) (p : IsParsedFrom old m) (is : app_of old ≡ nfsc) (k : ℕ) (r : Rule) (s : StandsAt k r) (q : ValueParser)
+module _ (old : Command) (m : ArgMatches) (p : IsParsedFrom old m) (is : app_of old ≡ nfsc) (k : ℕ) (r : Rule) (s : IsRuleAt k r) (q : ValueParser)
     (parser : r.parser ≡ Some q) (t : Text) where
   no_group : (e : Entry) → e.0.now ≡ r.id → EntryPasses p.built e → e.1.is_group ≡ true → ⊥
   no_group e key pass group = elim (pass.3 group) [
@@ -107,7 +107,7 @@ module _ (old : Command) (m : ArgMatches) (p : IsParsedFrom old m) (is : app_of 
           (p.parsed (p.from.globals ∙ (plain_fields old (ap (λ (a : App). a.top.is_plain) is)).globals)).values found)
 
 -- a number's getter reads the text that is given for its option as the number that it spells
-pub option_reads : (old : Command) (m : ArgMatches) (p : IsParsedFrom old m) → app_of old ≡ nfsc → (k : ℕ) (r : Rule) → StandsAt k r
+pub option_reads : (old : Command) (m : ArgMatches) (p : IsParsedFrom old m) → app_of old ≡ nfsc → (k : ℕ) (r : Rule) → IsRuleAt k r
     → (E : Type 0) (G : Text → Result ℕ E → Type 0) (bits low high : ℕ) → r.parser ≡ Some (vp.Signed (pos low) (pos high)) → high < 2 ^ bits
     → ((u : Text) (x : Result ℕ E) → G u x → ParsesUnsigned bits 10 u x)
     → (o : Option ℕ) → ((t : Text) → one_text (found_of m) r.id ≡ Some t → ReadsOne G t o)
@@ -116,7 +116,7 @@ option_reads old m p is k r s E G bits low high parser fits only o read t first 
     let taken = value_taken old m p is k r s (vp.Signed (pos low) (pos high)) parser t first in
     (taken.0, number_read E G bits low high t o (read (without_minus t) taken.1) only fits taken.0)
 
--- where no text is given, none is read
+-- if no text is given, none is read
 pub nothing_read : (f : Found) (id : Text) → first_value f id ≡ None → one_text f id ≡ None
 nothing_read f id first = go (matched_of f id) refl
   where

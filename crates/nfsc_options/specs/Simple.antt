@@ -1,6 +1,6 @@
--- The commands of the client's programs as `clap` sees simple commands:
+-- The command lines of the client's programs, as simple commands of `clap`:
 -- `nfsc --port N --uid N --gid N [--timeout SECONDS] [--groups N,N] [--as NAME] [--book FILE]
--- COMMAND ..`, and `nfslab [--book FILE]`.
+-- [--host ADDRESS] COMMAND ..`, and `nfslab [--book FILE]`.
 use Rattle.std.specs.Prelude.{codes, Some, pos, true}
 use Rattle.clap.specs.Lexer.{usize_max}
 use Rattle.clap.specs.Words.{App, Rule, Text, new_app, new_rule, with_rule}
@@ -47,7 +47,7 @@ command_rule = record (new_rule (codes "command")) {
   trailing_var_arg = true;
 }
 
--- `--timeout SECONDS`: a number from 1 to 86400, which may be left out
+-- `--timeout SECONDS`: a number from 1 to 86400; optional
 abbrev pub timeout_rule : Rule
 timeout_rule = record (new_rule (codes "timeout")) {
   long = Some (codes "timeout");
@@ -56,7 +56,7 @@ timeout_rule = record (new_rule (codes "timeout")) {
   parser = Some (vp.Signed (pos 1) (pos 86400));
 }
 
--- an option with any text, which may be left out
+-- an option with any text; optional
 abbrev pub text_rule : Text → Rule
 text_rule name = record (new_rule name) { long = Some name; value_names = 1 }
 
@@ -72,11 +72,16 @@ as_rule = text_rule (codes "as")
 abbrev pub book_rule : Rule
 book_rule = text_rule (codes "book")
 
+-- `--host ADDRESS`
+abbrev pub host_rule : Rule
+host_rule = text_rule (codes "host")
+
 abbrev pub nfsc : App
 nfsc =
     let asked =
     with_rule (with_rule (with_rule (with_rule (new_app (codes "nfsc")) port_rule) uid_rule) gid_rule) command_rule in
-    with_rule (with_rule (with_rule (with_rule asked timeout_rule) groups_rule) as_rule) book_rule
+    let served = with_rule (with_rule (with_rule (with_rule asked timeout_rule) groups_rule) as_rule) book_rule in
+    with_rule served host_rule
 
 abbrev pub nfslab : App
 nfslab = with_rule (new_app (codes "nfslab")) book_rule

@@ -1,16 +1,18 @@
 //! The command of `nfsc`, with its help.
 ghost use Rattle.std.specs.Prelude.{◌≡◌, IfOk, false};
 ghost use Rattle.clap.specs.Words.{app_of, rule_of};
-ghost use Rattle.nfsc_options.specs.Simple.{as_rule, book_rule, command_rule, gid_rule, groups_rule, nfsc, port_rule};
+ghost use Rattle.nfsc_options.specs.Simple.{as_rule, book_rule, command_rule, gid_rule, groups_rule, host_rule, nfsc};
+ghost use Rattle.nfsc_options.specs.Simple.{port_rule};
 ghost use Rattle.nfsc_options.specs.Simple.{text_rule, timeout_rule, uid_rule};
 
 use crate::commands::COMMANDS;
 use clap::{Arg, ArgAction, Command, value_parser};
 use std::alloc::{AllocError, Global};
 
-/// The command that is run, and the server's address.
+/// The command that is run, the server's address, and the variables of the environment.
 const ABOUT: &str = "\
-Runs one command on the NFS version 4.1 server at 127.0.0.1, as this user in this group, and prints its answer.
+Runs one command on the NFS version 4.1 server at 127.0.0.1 or at the address that '--host' names, as this user in
+this group, and prints its answer.
 
 For example, on the server at port 2049:
 
@@ -21,7 +23,8 @@ With a book the user has a name in place of numbers, and the groups that the boo
 
     nfsc --port 2049 --as carol --book book.toml ls /
 
-Where the environment has NFSC_PORT, NFSC_UID or NFSC_GID, --port, --uid or --gid may be left out.";
+These variables of the environment are read where their options aren't given: NFSC_PORT for --port, NFSC_UID for --uid,
+NFSC_GID for --gid, NFSC_HOST for --host, NFSC_BOOK for --book, and NFSC_AS for --as, unless --uid is given.";
 
 /// The command of `nfsc`, as `clap` reads it.
 pub(crate) fn command<'a>(alloc: Global) -> Result<Command<'a>, AllocError>
@@ -37,7 +40,8 @@ pub(crate) fn command<'a>(alloc: Global) -> Result<Command<'a>, AllocError>
         .arg(timeout(alloc))?
         .arg(groups(alloc))?
         .arg(person(alloc))?
-        .arg(book(alloc))?;
+        .arg(book(alloc))?
+        .arg(host(alloc))?;
     Ok(command)
 }
 
@@ -141,5 +145,16 @@ fn book<'a>(alloc: Global) -> Arg<'a>
         "book",
         "FILE",
         "The book of --as, a file in TOML ('nfsd --help' tells of it)",
+    )
+}
+
+fn host<'a>(alloc: Global) -> Arg<'a>
+    ensures { (rule_of result ≡ host_rule) × (result.global ≡ false) }
+{
+    text(
+        alloc,
+        "host",
+        "ADDRESS",
+        "The IPv4 or IPv6 address of the server [default: 127.0.0.1]",
     )
 }

@@ -27,7 +27,7 @@ domain of the book, as alice@example.org. A command whose answer has no text pri
 What the server refuses prints 'refused OP STATUS', and any other fault 'failed N':
 1 a path, 3 a reply, 4 reading, 5 writing, 6 memory, 7 a mode or an entry, 8 an earlier failure.";
 
-/// The line of a command's name, where the name is in the table.
+/// The line of a command's name. `None`: the table doesn't have the name.
 fn line_of(name: &str) -> Option<&'static str> {
     COMMANDS
         .lines()

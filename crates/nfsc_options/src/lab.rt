@@ -1,4 +1,4 @@
-//! The options of the words of `nfslab`.
+//! The options of a command line of `nfslab`.
 ghost use Rattle.std.specs.Prelude.{IfOk, map};
 ghost use Rattle.clap.specs.Words.{FailsBy, fault_of};
 ghost use Rattle.nfsc_options.specs.Simple.{nfslab};
@@ -9,7 +9,7 @@ use clap::Error;
 use std::alloc::Global;
 use std::convert::AsStr;
 
-/// The options of the words of `nfslab`.
+/// The options of a command line of `nfslab`.
 #[derive(Clone, Copy, Debug, PartialEq, Eq)]
 pub struct LabOptions<'a> {
     /// The file of the book.
@@ -17,12 +17,12 @@ pub struct LabOptions<'a> {
 }
 
 impl<'a> LabOptions<'a> {
-    /// Reads the words, of which the first is the program's name, as in `env::args`.
+    /// Reads the words of a command line. The first one is the program's name, as in `env::args`.
     ///
-    /// An error is `clap`'s own: a mistake in the words, a call for help, or want of memory. Its
-    /// `Display` is the text for the user.
+    /// An error is `clap`'s own: a fault in the words, a call for help, or an allocation that fails.
+    /// Its `Display` is the text for the user.
     pub fn read<S: AsStr>(alloc: Global, words: &'a [S]) -> Result<LabOptions<'a>, Error>
-        ensures said { IfOk result (LabOptionsOf (map S.text words.entry.now)) }
+        ensures options_are { IfOk result (LabOptionsOf (map S.text words.entry.now)) }
         ensures refused { FailsBy (fault_of nfslab (map S.text words.entry.now)) result }
     {
         let matches = lab_command(alloc)?.try_get_matches_from(words)?;

@@ -1,8 +1,9 @@
-//! The words of the client's programs: `nfsc --port N --uid N --gid N COMMAND ..`, and `nfslab [--book FILE]`.
+//! The command lines of the client's programs: `nfsc --port N --uid N --gid N COMMAND ..`, and `nfslab [--book FILE]`.
 #![tactic(auto)]
 
 mod command;
 mod commands;
+mod host;
 mod lab;
 mod lab_command;
 mod options;

@@ -9,8 +9,8 @@ use clap::Error;
 use clap::error::ErrorKind;
 use std::alloc::{AllocError, Global};
 
-/// `clap`'s error for words that aren't a command. It names the words of the command of this name,
-/// or tells that there is no command of this name.
+/// `clap`'s error for words that aren't a command. Its text has the words of the command with this
+/// name, or states that no command has this name.
 pub fn wrong_command(alloc: Global, name: &str) -> Result<Error, AllocError>
     ensures { IfOk result (λ e. kind_of e ≡ kind.InvalidSubcommand) }
 {

@@ -11,6 +11,6 @@ by_members None = refl
 by_members (Some ms) = (bytes_eq-Decides (groups_at 0 ms) (groups_at 0 ms)).1 refl
 
 -- by a book with members both have the groups of its user; without, each has the group that it sent
-pub told_apart : (book : Content) → bytes_eq (member book (identity 0 0 [])).groups (member book (identity 0 1 [])).groups ≡ is_some book.members
+pub members_differ : (book : Content) → bytes_eq (member book (identity 0 0 [])).groups (member book (identity 0 1 [])).groups ≡ is_some book.members
 unfolding member
-told_apart book = by_members book.members
+members_differ book = by_members book.members

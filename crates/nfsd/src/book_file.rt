@@ -4,7 +4,7 @@ use crate::book_rule::{
 };
 use crate::clock::second;
 use crate::home::Home;
-use crate::words::say_no_book;
+use crate::words::report_no_book;
 use crate::{Fault, slips};
 use std::alloc::Global;
 use std::fs::{Metadata, OpenFile};
@@ -52,36 +52,36 @@ pub(crate) struct BookFile<'a, R: Files> {
 }
 
 /// Which file it is.
-pub(crate) fn id_of(told: &Metadata) -> FileId {
+pub(crate) fn id_of(answer: &Metadata) -> FileId {
     FileId {
-        device: told.dev(),
-        node: told.ino(),
+        device: answer.dev(),
+        node: answer.ino(),
     }
 }
 
 /// The stamp of a regular file. `None`: it is none; reading another one, such as a pipe, might never end.
-fn stamp_of(told: &Metadata) -> Option<Stamp> {
-    if !told.is_file() {
+fn stamp_of(answer: &Metadata) -> Option<Stamp> {
+    if !answer.is_file() {
         return None;
     }
     Some(Stamp {
-        id: id_of(told),
+        id: id_of(answer),
         written: FileTime {
-            seconds: told.mtime(),
-            nanoseconds: told.mtime_nsec(),
+            seconds: answer.mtime(),
+            nanoseconds: answer.mtime_nsec(),
         },
         changed: FileTime {
-            seconds: told.ctime(),
-            nanoseconds: told.ctime_nsec(),
+            seconds: answer.ctime(),
+            nanoseconds: answer.ctime_nsec(),
         },
-        len: told.len(),
+        len: answer.len(),
     })
 }
 
 /// Looks at what a name leads to.
 fn look(files: &impl Files, path: &str) -> Found {
     match fs::metadata(files, path) {
-        Ok(told) => match stamp_of(&told) {
+        Ok(answer) => match stamp_of(&answer) {
             Some(stamp) => Found::File(stamp),
             None => Found::Other,
         },
@@ -100,7 +100,7 @@ fn open_at<R: Files>(rt: &R, path: &str) -> Option<Held<R::File>> {
 /// Whether a file that is held is as it was when it was opened.
 fn is_as_opened<F: OpenFile>(held: &Held<F>) -> bool {
     match held.file.metadata() {
-        Ok(told) => stamp_of(&told).is_some_and(|stamp| stamp.is(&held.stamp)),
+        Ok(answer) => stamp_of(&answer).is_some_and(|stamp| stamp.is(&held.stamp)),
         Err(_) => false,
     }
 }
@@ -142,7 +142,7 @@ impl<'a, R: Files + Alloc + Eprint + Clock> BookFile<'a, R> {
         match self.home.map_or(Start::Read, |home| home.start(self.rt)) {
             Start::Read => self.read_first(path),
             Start::Await => Ok(Book::default(self.alloc)),
-            Start::Refuse => Err(Fault::Gone),
+            Start::Refuse => Err(Fault::Missing),
         }
     }
 
@@ -167,7 +167,7 @@ impl<'a, R: Files + Alloc + Eprint + Clock> BookFile<'a, R> {
             return Err(Fault::File);
         };
         let book = Book::read(self.alloc, text.as_str()).map_err(Fault::Book)?;
-        slips::say(self.rt, path, text.as_str(), book.root_mode());
+        slips::report(self.rt, path, text.as_str(), book.root_mode());
         Ok(book)
     }
 
@@ -269,6 +269,6 @@ impl<'a, R: Files + Alloc + Eprint + Clock> BookFile<'a, R> {
     fn refuse(&self, path: &str, fault: &Fault) {
         let rt = self.rt;
         let _ = eprintln!(rt; "nfsd: {fault}; the book before stays");
-        say_no_book(rt, self.alloc, path, fault);
+        report_no_book(rt, self.alloc, path, fault);
     }
 }

@@ -26,19 +26,32 @@ pub(crate) struct Home<'a> {
     note: String,
 }
 
+/// Makes a folder, where there is none. The folder that it stands in is synced then, so that a power loss leaves its name.
+/// One that can't be made shows when its store is opened.
+fn make_folder<R: Files>(rt: &R, alloc: Global, folder: &str) -> Result<(), AllocError> {
+    if DirBuilder::new().mode(MODE).create(rt, folder).is_err() {
+        return Ok(());
+    }
+    let parent = format!(in alloc; "{folder}/..")?;
+    if let Ok(parent) = fs::open(rt, parent.as_str()) {
+        let _ = parent.sync_all();
+    }
+    Ok(())
+}
+
 /// Whether a name leads to something, or may do so.
 fn is_there<R: Files>(rt: &R, path: &str) -> bool {
     fs::exists(rt, path).unwrap_or(true)
 }
 
 impl<'a> Home<'a> {
-    /// The home of a folder, which is made where it isn't there. One that can't be made shows when its store is opened.
+    /// The home of a folder, which is made where it isn't there.
     pub(crate) fn open<R: Files>(
         rt: &R,
         alloc: Global,
         folder: &'a str,
     ) -> Result<Self, AllocError> {
-        let _ = DirBuilder::new().mode(MODE).create(rt, folder);
+        make_folder(rt, alloc, folder)?;
         Ok(Home {
             folder,
             store: format!(in alloc; "{folder}/store")?,

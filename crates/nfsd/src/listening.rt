@@ -1,22 +1,22 @@
-//! Listening on 127.0.0.1, and serving by the options.
+//! Serving by the options.
 use crate::book_file::BookFile;
-use crate::sockets::Sockets;
-use crate::stored::Stored;
+use crate::clock::SystemClock;
+use crate::stored::open_folder;
 use crate::streams::Served;
 use crate::trail_file::{TrailFile, is_of_store};
-use crate::{Fault, TURNS, ended};
-use nfs_hub::{Clock, Hub, HubFault, MAX_CONNECTIONS, ServeEnd};
+use crate::{Fault, TURNS, ended, hub_fault};
+use kept_server::{KeptEnd, Site, Start, serve_kept};
+use nfs_hub::{Hub, HubFault, MAX_CONNECTIONS, ServeEnd};
 use nfs_streams::{AllEnd, Limits, serve_all};
 use nfsd_options::Options;
 use std::alloc::Global;
+use std::hash::RandomState;
 use std::io;
-use std::net::Net;
-use std::rt::{Clock as SystemTimes, Files};
-use store_files::StoreFolder;
-use tree_store::Store;
+use std::rt::{Clock, Files};
+use who_book::Book;
 
 /// The file of the trail, where the options name one. It is none of the store's.
-fn trail<'a, R: Files + Alloc + SystemTimes>(
+pub(crate) fn open_trail<'a, R: Files + Alloc + Clock>(
     rt: &'a R,
     options: &Options<'a>,
 ) -> Result<Option<TrailFile<'a, R>>, Fault> {
@@ -32,22 +32,6 @@ fn trail<'a, R: Files + Alloc + SystemTimes>(
     match TrailFile::start(rt, path, options.book, options.stamped) {
         Some(trail) => Ok(Some(trail)),
         None => Err(Fault::Trail),
-    }
-}
-
-/// Puts together what is served by the options: sockets that listen, the files of the store, the
-/// file of the trail, and the file of the book.
-fn served<'a, R: Net + Files + Alloc + Eprint + SystemTimes>(
-    rt: &'a R,
-    alloc: Global,
-    options: &Options<'a>,
-    book: BookFile<'a, R>,
-    folder: Option<StoreFolder>,
-) -> Result<Served<'a, R>, Fault> {
-    let trail = trail(rt, options)?;
-    match Sockets::listen(rt, alloc, options.port, options.privileged_ports) {
-        Ok(sockets) => Ok(Served::new(rt, sockets, folder, trail, book)),
-        Err(error) => Err(Fault::Socket(Some(error.kind()))),
     }
 }
 
@@ -70,7 +54,7 @@ fn limits(options: &Options<'_>) -> Limits {
 
 /// Why no more connections are served. The value is whether each ended after a whole record; `Err`:
 /// no more of them can be served.
-fn outcome<R: Files + Alloc + Eprint + SystemTimes>(
+fn outcome<R: Files + Alloc + Eprint + Clock>(
     rt: &R,
     served: &mut Served<'_, R>,
     end: AllEnd,
@@ -80,66 +64,60 @@ fn outcome<R: Files + Alloc + Eprint + SystemTimes>(
         AllEnd::Turns => Ok(ended(rt, ServeEnd::Turns)),
         AllEnd::Wait => Err(Fault::Socket(None)),
         AllEnd::Keep => Err(Fault::Trail),
-        AllEnd::Store => Err(Fault::Store(served.store_stop())),
-        AllEnd::Memory => Err(Fault::Hub(HubFault::Memory as u8)),
+        AllEnd::Store => Err(served.store_stop()),
+        AllEnd::Memory => Err(hub_fault()),
     }
 }
 
-/// Says that a port is listened on.
-fn announce<R: Print>(rt: &R, port: u16) -> io::Result<()> {
-    println!(rt; "listening on 127.0.0.1:{port}")
-}
-
-/// Serves what listens, once that is said.
-fn serve_listening<R: Files + Alloc + Print + Eprint + SystemTimes, C: Clock>(
-    rt: &R,
+/// Serves over the store of a folder. The value is whether all went well; `Err`: no more connections
+/// can be served; of the outer result: standard output can't be written.
+pub(crate) fn serve_stored<'r>(
+    rt: &'r HostRuntime,
     alloc: Global,
-    hub: &mut Hub,
-    served: &mut Served<'_, R>,
-    clock: &C,
-    store: Option<Store>,
-    options: &Options<'_>,
-) -> io::Result<AllEnd> {
-    match announce(rt, options.port) {
-        Ok(()) => Ok(serve_all(alloc, hub, served, clock, store, limits(options))),
-        Err(error) => Err(error),
-    }
-}
-
-/// Serves by the options, from a port of 127.0.0.1. The value is whether all went well; `Err`: no
-/// more connections can be served; of the outer result: standard output can't be written.
-pub(crate) fn serve_options<R: Net + Files + Alloc + Print + Eprint + SystemTimes, C: Clock>(
-    rt: &R,
-    alloc: Global,
-    hub: &mut Hub,
-    clock: &C,
-    options: &Options<'_>,
-    book: BookFile<'_, R>,
-    stored: Option<Stored>,
+    options: &'r Options<'r>,
+    path: &str,
+    file: BookFile<'r, HostRuntime>,
+    book: Book,
+    hasher: RandomState,
 ) -> io::Result<Result<bool, Fault>> {
-    let (folder, store) = match stored {
-        Some(Stored { folder, store }) => (Some(folder), Some(store)),
-        None => (None, None),
+    let folder = match open_folder(rt, path) {
+        Ok(folder) => folder,
+        Err(fault) => return Ok(Err(fault)),
     };
-    match served(rt, alloc, options, book, folder) {
-        Ok(served) => serve_opened(rt, alloc, hub, served, clock, store, options),
-        Err(fault) => Ok(Err(fault)),
+    let mut served = Served::new(rt, alloc, options, Some(folder), file);
+    let start = Start {
+        book,
+        identity: served.new_identity(),
+        hasher,
+    };
+    let clock = SystemClock::new(rt);
+    let end = serve_kept(alloc, alloc, &mut served, &clock, start, limits(options));
+    match end {
+        KeptEnd::Ended(end) => Ok(outcome(rt, &mut served, end)),
+        KeptEnd::Unopened(fault) => Ok(Err(served.unopened(fault))),
+        KeptEnd::Unready => Ok(Err(served.unready()?)),
+        KeptEnd::Exhausted => Ok(Err(Fault::Hub(HubFault::Exhausted as u8))),
+        KeptEnd::Memory => Ok(Err(hub_fault())),
     }
 }
 
-/// Serves what was opened, and says how that ended.
-fn serve_opened<R: Files + Alloc + Print + Eprint + SystemTimes, C: Clock>(
-    rt: &R,
+/// Serves a root alone, without a store. The value is that of `serve_stored`.
+pub(crate) fn serve_unstored<'r>(
+    rt: &'r HostRuntime,
     alloc: Global,
-    hub: &mut Hub,
-    served: Served<'_, R>,
-    clock: &C,
-    store: Option<Store>,
-    options: &Options<'_>,
+    options: &'r Options<'r>,
+    file: BookFile<'r, HostRuntime>,
+    book: Book,
+    hasher: RandomState,
 ) -> io::Result<Result<bool, Fault>> {
-    let mut served = served;
-    match serve_listening(rt, alloc, hub, &mut served, clock, store, options) {
-        Ok(end) => Ok(outcome(rt, &mut served, end)),
-        Err(error) => Err(error),
+    let Ok(mut hub) = Hub::new(alloc, book, hasher) else {
+        return Ok(Err(hub_fault()));
+    };
+    let mut served = Served::new(rt, alloc, options, None, file);
+    if !served.begin() {
+        return Ok(Err(served.unready()?));
     }
+    let clock = SystemClock::new(rt);
+    let end = serve_all(alloc, &mut hub, &mut served, &clock, None, limits(options));
+    Ok(outcome(rt, &mut served, end))
 }

@@ -1,11 +1,12 @@
 //! `nfsd`: a file server over NFS version 4.1 (RFC 8881) that means what its access lists say.
 //!
-//! `nfsd` listens on 127.0.0.1 and serves its connections, one after the other or several at a
-//! time. With `--bare` it serves one connection of the sample tree, without sessions, from standard
+//! `nfsd` listens on 127.0.0.1, or on the addresses that its words name, and serves its
+//! connections, one after the other or several at a time. With `--bare` it serves one connection of the sample tree, without sessions, from standard
 //! input to standard output. The status is 0; 2 where the words aren't understood, with `clap`'s
 //! text on standard error; and else 1, with the fault on standard error.
 #![tactic(auto)]
 
+mod addresses;
 mod book_file;
 mod book_rule;
 mod clock;
@@ -22,7 +23,7 @@ use anyhow::Result;
 use book_file::BookFile;
 use clock::SystemClock;
 use home::Home;
-use listening::serve_options;
+use listening::{serve_stored, serve_unstored};
 use nfs_hub::{Hub, HubFault, ServeEnd, serve};
 use nfsd_options::Options;
 use std::alloc::Global;
@@ -30,13 +31,12 @@ use std::fmt::{Display, Formatter};
 use std::fs::{File, OpenOptions};
 use std::hash::RandomState;
 use std::io::ErrorKind;
+use std::net::SocketAddr;
 use std::os::fd::AsRawFd;
 use std::process::ExitCode;
-use std::random::RandomSource;
-use std::rt::{Clock, Files};
+use std::rt::Files;
 use std::{env, fmt, io};
-use store_files::StoreStop;
-use stored::{Stored, open_store};
+use store_words::Stop;
 use who_book::BookFault;
 
 /// The most turns of a connection: each reads some bytes of it.
@@ -46,7 +46,7 @@ const TURNS: u64 = 1_000_000;
 #[derive(Drop)]
 enum Fault {
     /// The home has no book, and had one.
-    Gone,
+    Missing,
     /// The book's file can't be read, is no regular file, or isn't UTF-8.
     File,
     /// The home can't keep that it has a book.
@@ -58,23 +58,25 @@ enum Fault {
     /// The hub can't be made, by a fault of this number.
     Hub(u8),
     /// The store isn't gone on with.
-    Store(StoreStop),
+    Store(Stop),
     /// The trail's file is that of the book, can't be opened, or can't be written.
     Trail,
-    /// The socket can't be listened on, for this reason; or waiting for the streams failed.
+    /// This address can't be listened on, for this reason.
+    Address(SocketAddr, ErrorKind),
+    /// The system gives no sockets, for this reason; or waiting for the streams failed.
     Socket(Option<ErrorKind>),
 }
 
 impl Display for Fault {
     fn fmt<W: fmt::Write>(&self, f: &mut Formatter<W>) -> fmt::Result {
         match self {
-            Fault::Gone | Fault::File | Fault::Note => f.write_str("file"),
+            Fault::Missing | Fault::File | Fault::Note => f.write_str("file"),
             Fault::Book(fault) => write!(f, "book {}", *fault as u8),
             Fault::Members => write!(f, "book {}", BookFault::Shape as u8),
             Fault::Hub(number) => write!(f, "hub {number}"),
             Fault::Store(stop) => write!(f, "store {}", stop.number()),
             Fault::Trail => f.write_str("trail"),
-            Fault::Socket(_) => f.write_str("socket"),
+            Fault::Address(..) | Fault::Socket(_) => f.write_str("socket"),
         }
     }
 }
@@ -82,31 +84,6 @@ impl Display for Fault {
 /// There is no memory to begin with.
 fn hub_fault() -> Fault {
     Fault::Hub(HubFault::Memory as u8)
-}
-
-/// The hub by the options. It is of the sample tree without sessions; of what the store has, which
-/// is then written; or of a root alone, with the owner and the group of the book.
-fn hub<R: Files<File = File> + RandomSource + Alloc + Eprint + Clock>(
-    rt: &R,
-    alloc: Global,
-    options: &Options<'_>,
-    book: &mut BookFile<'_, R>,
-    hasher: RandomState,
-) -> Result<(Hub, Option<Stored>), Fault> {
-    let made = if options.bare {
-        Hub::bare(alloc, alloc, hasher)
-    } else {
-        let book = book.read()?;
-        if let Some(path) = options.store {
-            let (hub, stored) = open_store(rt, alloc, path, book, hasher)?;
-            return Ok((hub, Some(stored)));
-        }
-        Hub::new(alloc, book, hasher)
-    };
-    match made {
-        Ok(hub) => Ok((hub, None)),
-        Err(_) => Err(hub_fault()),
-    }
 }
 
 /// Says on standard error how a connection ended that didn't end after a whole record. Whether it
@@ -126,39 +103,36 @@ fn serve_bare(rt: &HostRuntime, hub: &mut Hub) -> bool {
     ended(rt, end)
 }
 
-/// Serves by the options, over a hub of its own. The value is whether all went well. `Err` of the
-/// outer result: there is no randomness, or standard output can't be written.
-fn serve_hub(
-    rt: &HostRuntime,
-    alloc: Global,
-    options: &Options<'_>,
-    home: Option<&Home<'_>>,
-) -> Result<Result<bool, Fault>> {
-    let hasher = RandomState::new(rt)?;
-    let mut book = BookFile::new(rt, alloc, options.book, home);
-    match hub(rt, alloc, options, &mut book, hasher) {
-        Ok((hub, stored)) => {
-            let mut hub = hub;
-            Ok(serve_over(rt, alloc, options, &mut hub, book, stored)?)
-        }
-        Err(fault) => Ok(Err(fault)),
+/// Serves the sample tree by standard input and output.
+fn serve_sample(rt: &HostRuntime, alloc: Global, hasher: RandomState) -> Result<bool, Fault> {
+    match Hub::bare(alloc, alloc, hasher) {
+        Ok(mut hub) => Ok(serve_bare(rt, &mut hub)),
+        Err(_) => Err(hub_fault()),
     }
 }
 
-/// Serves by the options over this hub.
-fn serve_over(
-    rt: &HostRuntime,
+/// Serves by the options. The value is whether all went well. `Err` of the outer result: there is no
+/// randomness, or standard output can't be written.
+fn serve_by<'r>(
+    rt: &'r HostRuntime,
     alloc: Global,
-    options: &Options<'_>,
-    hub: &mut Hub,
-    book: BookFile<'_, HostRuntime>,
-    stored: Option<Stored>,
-) -> io::Result<Result<bool, Fault>> {
+    options: &'r Options<'r>,
+    home: Option<&'r Home<'r>>,
+) -> Result<Result<bool, Fault>> {
+    let hasher = RandomState::new(rt)?;
     if options.bare {
-        return Ok(Ok(serve_bare(rt, hub)));
+        return Ok(serve_sample(rt, alloc, hasher));
     }
-    let clock = SystemClock::new(rt);
-    serve_options(rt, alloc, hub, &clock, options, book, stored)
+    let mut file = BookFile::new(rt, alloc, options.book, home);
+    let book = match file.read() {
+        Ok(book) => book,
+        Err(fault) => return Ok(Err(fault)),
+    };
+    let served = match options.store {
+        Some(path) => serve_stored(rt, alloc, options, path, file, book, hasher)?,
+        None => serve_unstored(rt, alloc, options, file, book, hasher)?,
+    };
+    Ok(served)
 }
 
 /// The status of the program, by what came of serving. A fault is said on standard error.
@@ -172,26 +146,26 @@ fn status<R: Files + Alloc + Eprint>(
         Ok(true) => ExitCode::SUCCESS,
         Ok(false) => ExitCode::FAILURE,
         Err(fault) => {
-            words::say(rt, alloc, options, &fault);
+            words::report(rt, alloc, options, &fault);
             ExitCode::FAILURE
         }
     }
 }
 
 /// Serves by the options, which may be those of a home. The status of the program.
-fn run_options(
-    rt: &HostRuntime,
+fn run_options<'r>(
+    rt: &'r HostRuntime,
     alloc: Global,
-    options: &Options<'_>,
-    home: Option<&Home<'_>>,
+    options: &'r Options<'r>,
+    home: Option<&'r Home<'r>>,
 ) -> Result<ExitCode> {
-    let served = serve_hub(rt, alloc, options, home)?;
+    let served = serve_by(rt, alloc, options, home)?;
     Ok(status(rt, alloc, options, served))
 }
 
 /// Says on standard error what `clap` says of the words. A fault has the program's name in front,
 /// and help stays as it is.
-fn say_words<R: Eprint, E: Display>(rt: &R, alloc: Global, error: &E) -> Result<()> {
+fn report_words<R: Eprint, E: Display>(rt: &R, alloc: Global, error: &E) -> Result<()> {
     let text = format!(in alloc; "{error}")?;
     match text.as_str().strip_prefix("error: ") {
         Some(fault) => eprint!(rt; "nfsd: {fault}")?,
@@ -211,7 +185,7 @@ fn run_words(rt: &HostRuntime, alloc: Global, words: &[String]) -> Result<ExitCo
             None => run_options(rt, alloc, &options, None),
         },
         Err(error) => {
-            let _ = say_words(rt, alloc, &error);
+            let _ = report_words(rt, alloc, &error);
             Ok(ExitCode::from(2))
         }
     }
@@ -225,7 +199,7 @@ const FIRST_DESCRIPTOR: i32 = 3;
 
 /// Opens a file that stands in for standard input, output or error, where one of them is closed.
 /// Else the next file or socket would have its descriptor, and get what is said there.
-fn stand_in(rt: &HostRuntime) -> Option<File> {
+fn open_stand_in(rt: &HostRuntime) -> Option<File> {
     let file = OpenOptions::new().write(true).open(rt, NOWHERE).ok()?;
     if file.as_raw_fd() < FIRST_DESCRIPTOR {
         Some(file)
@@ -242,7 +216,7 @@ fn run(rt: &HostRuntime) -> Result<ExitCode> {
 }
 
 fn main(rt: HostRuntime) -> Result<ExitCode> {
-    let _stand_ins = [stand_in(&rt), stand_in(&rt), stand_in(&rt)];
+    let _stand_ins = [open_stand_in(&rt), open_stand_in(&rt), open_stand_in(&rt)];
     match run(&rt) {
         Ok(status) => Ok(status),
         Err(error) => {

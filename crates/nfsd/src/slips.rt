@@ -40,7 +40,7 @@ fn is_decimal(line: &str) -> bool {
 
 /// Says on standard error that a book's mode of the root is most likely a slip. It does so where
 /// the mode is given in decimal digits that mean another mode in octal: 755 is 0o1363.
-pub(crate) fn say<R: Eprint>(rt: &R, path: &str, text: &str, mode: u32) {
+pub(crate) fn report<R: Eprint>(rt: &R, path: &str, text: &str, mode: u32) {
     let Some(octal) = as_octal(mode) else {
         return;
     };

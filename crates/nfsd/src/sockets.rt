@@ -1,32 +1,33 @@
-//! Sockets on 127.0.0.1, with the system's word which of them are ready.
+//! Listeners and their sockets, with the system's word which of them are ready.
 ghost use Rattle.std.specs.Prelude.{length};
 ghost use Rattle.nfs_streams.specs.Acts.{IsWithin};
 
 use mio::event::Event;
 use mio::net::{TcpListener, TcpStream};
 use mio::{Events, Interest, Poll, Token};
+use networks::{Network, admits};
 use nfs_hub::MAX_CONNECTIONS;
-use nfs_streams::{Knock, Moved, Wait};
+use nfs_streams::{Arrival, Moved, Wait};
 use std::alloc::Global;
 use std::io;
 use std::io::{ErrorKind, Read, Write};
-use std::net::{Ipv4Addr, Net, SocketAddr, SocketAddrV4};
+use std::net::{Net, SocketAddr};
 use std::time::Duration;
 
-/// The listener's token: a number that no place has.
-const LISTENER: usize = MAX_CONNECTIONS;
+/// The token of the first listener: a number that no place has. Those of the others follow.
+const LISTENERS: usize = MAX_CONNECTIONS;
 
-/// The most events of one wait: one of the listener and of each stream.
-const EVENTS: usize = MAX_CONNECTIONS + 1;
+/// The most listeners.
+const MOST_LISTENERS: usize = 8;
 
-/// The first port that isn't privileged: any user of a system may have it.
-const FIRST_FREE_PORT: u16 = 1024;
+/// The most events of one wait: one of each listener and of each stream.
+const EVENTS: usize = MAX_CONNECTIONS + MOST_LISTENERS;
 
 /// The most streams that are let go unread before the others are looked at again.
 const MOST_TURNED_AWAY: u32 = 64;
 
 /// Whether streams wait to be accepted.
-#[derive(Clone, Copy)]
+#[derive(Clone, Copy, PartialEq, Eq)]
 enum Calls {
     /// None does.
     None,
@@ -55,15 +56,63 @@ impl Socket {
     }
 }
 
-/// A listener, and its accepted streams, each at its place.
+/// A listener, and whether streams wait to be accepted.
+#[derive(Drop)]
+struct Listener {
+    listener: TcpListener,
+    calls: Calls,
+    /// Streams from ports that aren't privileged are closed as they come.
+    privileged: bool,
+}
+
+impl Listener {
+    /// The next stream that is served, if one may wait.
+    fn next_stream(&mut self, networks: &[Network]) -> Option<TcpStream> {
+        if self.calls == Calls::None {
+            None
+        } else {
+            self.accept(networks)
+        }
+    }
+
+    /// Accepts the next stream that is served, if one waits. Others are closed as they come, before
+    /// a byte of them is read.
+    fn accept(&mut self, networks: &[Network]) -> Option<TcpStream> {
+        self.calls = Calls::More;
+        for _stream in 0..MOST_TURNED_AWAY {
+            match self.listener.accept() {
+                Ok((stream, from)) => {
+                    if admits(networks, self.privileged, &from) {
+                        let _ = stream.set_nodelay(true);
+                        self.calls = Calls::Some;
+                        return Some(stream);
+                    }
+                }
+                Err(error) => {
+                    self.calls = if error.kind() == ErrorKind::WouldBlock {
+                        Calls::None
+                    } else {
+                        Calls::Stuck
+                    };
+                    return None;
+                }
+            }
+        }
+        None
+    }
+}
+
+/// Listeners, and their accepted streams, each at its place.
 #[derive(Drop)]
 pub(crate) struct Sockets {
     poll: Poll,
     events: Events<Global>,
-    listener: TcpListener,
-    calls: Calls,
-    /// Streams from ports that aren't privileged are closed as they come.
-    privileged_ports: bool,
+    /// None: nothing listens yet.
+    listeners: Vec<Listener>,
+    /// The listener that is looked at first when a stream is wanted.
+    next: usize,
+    /// The networks from which streams are served, beside the machine itself.
+    networks: Vec<Network>,
     /// A stream that was accepted, and has no place yet.
     accepted: Option<TcpStream>,
     places: Vec<Option<Socket>>,
@@ -106,27 +155,38 @@ fn longest(how: Wait, calls: Calls) -> Option<Duration> {
 }
 
 impl Sockets {
-    /// Listens on a port of 127.0.0.1; on any free port, where the number is 0.
-    pub(crate) fn listen(
-        net: &impl Net,
-        alloc: Global,
-        port: u16,
-        privileged_ports: bool,
-    ) -> io::Result<Self> {
-        let address = SocketAddr::V4(SocketAddrV4::new(Ipv4Addr::LOCALHOST, port));
-        let poll = Poll::new(net)?;
-        let mut listener = TcpListener::bind(net, address)?;
-        poll.registry()
-            .register(&mut listener, Token(LISTENER), Interest::READABLE)?;
+    /// No listener, and no stream. Streams from the machine itself and from these networks will be served.
+    pub(crate) fn new(net: &impl Net, alloc: Global, networks: &[Network]) -> io::Result<Self> {
         Ok(Sockets {
-            poll,
+            poll: Poll::new(net)?,
             events: Events::with_capacity(alloc, EVENTS)?,
-            listener,
-            calls: Calls::None,
-            privileged_ports,
+            listeners: Vec::new(alloc),
+            next: 0,
+            networks: Vec::from_slice(alloc, networks)?,
             accepted: None,
             places: free_places(alloc)?,
         })
+    }
+
+    /// Listens on an address too; on any free port of it, where the port's number is 0. With `privileged` only streams
+    /// from ports below 1024 are served there.
+    pub(crate) fn listen(
+        &mut self,
+        net: &impl Net,
+        address: SocketAddr,
+        privileged: bool,
+    ) -> io::Result<()> {
+        let token = Token(LISTENERS.saturating_add(self.listeners.len()));
+        let mut listener = TcpListener::bind(net, address)?;
+        self.poll
+            .registry()
+            .register(&mut listener, token, Interest::READABLE)?;
+        self.listeners.push(Listener {
+            listener,
+            calls: Calls::None,
+            privileged,
+        })?;
+        Ok(())
     }
 
     /// The stream of a place.
@@ -138,10 +198,10 @@ impl Sockets {
     fn note(&mut self) {
         for event in &self.events {
             let place = event.token().0;
-            if place == LISTENER {
-                self.calls = Calls::Some;
-            } else if let Some(Some(socket)) = self.places.get_mut(place) {
+            if let Some(Some(socket)) = self.places.get_mut(place) {
                 socket.note(event);
+            } else if let Some(listener) = self.listeners.get_mut(place.wrapping_sub(LISTENERS)) {
+                listener.calls = Calls::Some;
             }
         }
     }
@@ -160,7 +220,7 @@ impl Sockets {
         let calls = if self.accepted.is_some() {
             Calls::None
         } else {
-            self.calls
+            self.calls()
         };
         if self
             .poll
@@ -173,46 +233,45 @@ impl Sockets {
         true
     }
 
-    /// Whether a stream is served, by the address that it comes from.
-    fn is_welcome(&self, from: &SocketAddr) -> bool {
-        !self.privileged_ports || from.port() < FIRST_FREE_PORT
+    /// Whether streams wait to be accepted, by the listener that should be looked at first.
+    fn calls(&self) -> Calls {
+        for calls in [Calls::More, Calls::Stuck, Calls::Some] {
+            if self
+                .listeners
+                .iter()
+                .any(|listener| listener.calls == calls)
+            {
+                return calls;
+            }
+        }
+        Calls::None
     }
 
-    /// Accepts the next stream that is served, if one waits. Others are closed as they come, before
-    /// a byte of them is read.
+    /// Accepts the next stream that is served, if one waits, of the listeners in turn.
     fn accept(&mut self) {
-        for _stream in 0..MOST_TURNED_AWAY {
-            match self.listener.accept() {
-                Ok((stream, from)) => {
-                    if self.is_welcome(&from) {
-                        let _ = stream.set_nodelay(true);
-                        self.accepted = Some(stream);
-                        self.calls = Calls::Some;
-                        return;
-                    }
-                }
-                Err(error) => {
-                    self.calls = if error.kind() == ErrorKind::WouldBlock {
-                        Calls::None
-                    } else {
-                        Calls::Stuck
-                    };
-                    return;
-                }
+        let count = self.listeners.len();
+        for _listener in 0..count {
+            self.accepted = match self.listeners.get_mut(self.next) {
+                Some(listener) => listener.next_stream(&self.networks),
+                None => None,
+            };
+            let next = self.next.saturating_add(1);
+            self.next = if next < count { next } else { 0 };
+            if self.accepted.is_some() {
+                return;
             }
         }
     }
 
     /// Whether a stream has come that has no place yet.
-    pub(crate) fn knocks(&mut self) -> Knock {
-        if self.accepted.is_none() && !matches!(self.calls, Calls::None) {
-            self.calls = Calls::More;
+    pub(crate) fn arrival(&mut self) -> Arrival {
+        if self.accepted.is_none() {
             self.accept();
         }
-        match (&self.accepted, self.calls) {
-            (Some(_), _) => Knock::Here,
-            (None, Calls::None) => Knock::Nobody,
-            (None, _) => Knock::Waiting,
+        match (&self.accepted, self.calls()) {
+            (Some(_), _) => Arrival::Here,
+            (None, Calls::None) => Arrival::Nobody,
+            (None, _) => Arrival::Waiting,
         }
     }
 

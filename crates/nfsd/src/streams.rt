@@ -1,48 +1,71 @@
 //! The streams that are served: sockets, the files of the store, the file of the trail, and the file of the book.
-ghost use Rattle.std.specs.Prelude.{MatchResult};
-ghost use Rattle.journal.specs.Disk.{Found, Unfound, appended, emptied, synced};
-
+use crate::Fault;
+use crate::addresses::{announce, listen_on_all};
 use crate::book_file::BookFile;
+use crate::listening::open_trail;
 use crate::sockets::Sockets;
+use crate::stored::{Folder, stop_of};
 use crate::trail_file::TrailFile;
+use call_store::StoreFault;
 use compound_run::Server;
-use journal::{Disk, LoadFault, Slot};
+use kept_server::Site;
 use nfs_hub::ConnId;
-use nfs_streams::{Knock, Moved, StreamEnd, Streams, Wait};
+use nfs_streams::{Arrival, Moved, StreamEnd, Streams, Wait};
+use nfsd_options::Options;
 use std::alloc::{Allocator, Global};
+use std::io;
+use std::net::Net;
 use std::rt::{Clock, Files};
-use store_files::{StoreFolder, StoreStop};
+use store_folder::StoreStop;
+use store_journal::{Disk, Identity, LoadFault, Slot};
+use store_words::Stop;
 use who_book::Book;
 
-/// Sockets and the file of the book. Beside these stand the folder of the store, if there is one,
-/// and the file in which the trail is kept, if it is kept.
+/// Why it isn't listened.
+#[derive(Drop)]
+enum Unready {
+    /// This keeps `nfsd` from serving.
+    Fault(Fault),
+    /// Standard output can't be written.
+    Output(io::Error),
+}
+
+/// Sockets, once they listen, and the file of the book. Beside these stand the folder of the store,
+/// if there is one, and the file in which the trail is kept, if it is kept.
 #[derive(Drop)]
 pub(crate) struct Served<'a, R: Files> {
     rt: &'a R,
-    sockets: Sockets,
-    folder: Option<StoreFolder>,
+    alloc: Global,
+    options: &'a Options<'a>,
+    /// `None`: nothing listens yet.
+    sockets: Option<Sockets>,
+    folder: Option<Folder<'a>>,
     trail: Option<TrailFile<'a, R>>,
     book: BookFile<'a, R>,
     /// Each connection so far ended after a whole record.
     are_whole: bool,
+    unready: Option<Unready>,
 }
 
 impl<'a, R: Files + Eprint> Served<'a, R> {
-    /// These, before any connection.
+    /// These, before it is listened, and before the trail is opened.
     pub(crate) fn new(
         rt: &'a R,
-        sockets: Sockets,
-        folder: Option<StoreFolder>,
-        trail: Option<TrailFile<'a, R>>,
+        alloc: Global,
+        options: &'a Options<'a>,
+        folder: Option<Folder<'a>>,
         book: BookFile<'a, R>,
     ) -> Self {
         Served {
             rt,
-            sockets,
+            alloc,
+            options,
+            sockets: None,
             folder,
-            trail,
+            trail: None,
             book,
             are_whole: true,
+            unready: None,
         }
     }
 
@@ -51,15 +74,37 @@ impl<'a, R: Files + Eprint> Served<'a, R> {
         self.are_whole
     }
 
-    /// Why nothing more is stored: the disk has failed; or, where it hasn't, there is no memory.
-    pub(crate) fn store_stop(&mut self) -> StoreStop {
+    /// The identity of a new store.
+    pub(crate) fn new_identity(&self) -> Option<Identity> {
+        self.folder.as_ref()?.new_identity()
+    }
+
+    /// Why it isn't listened.
+    pub(crate) fn unready(&mut self) -> io::Result<Fault> {
+        match self.unready.take() {
+            Some(Unready::Fault(fault)) => Ok(fault),
+            Some(Unready::Output(error)) => Err(error),
+            None => Ok(Fault::Socket(None)),
+        }
+    }
+
+    /// Why the store isn't opened, or begun.
+    pub(crate) fn unopened(&mut self, fault: StoreFault) -> Fault {
         match &mut self.folder {
+            Some(folder) => stop_of(self.alloc, folder, fault),
+            None => Fault::Store(Stop::Folder(StoreStop::Failed(None))),
+        }
+    }
+
+    /// Why nothing more is stored: the disk has failed; or, where it hasn't, there is no memory.
+    pub(crate) fn store_stop(&mut self) -> Fault {
+        Fault::Store(Stop::Folder(match &mut self.folder {
             Some(folder) => match folder.take_failure() {
                 Some(failure) => StoreStop::Failed(Some(failure)),
                 None => StoreStop::Memory,
             },
             None => StoreStop::Failed(None),
-        }
+        }))
     }
 
     /// Says on standard error how a connection ended that didn't end after a whole record. What
@@ -75,8 +120,29 @@ impl<'a, R: Files + Eprint> Served<'a, R> {
     }
 }
 
+impl<R: Files + Net + Alloc + Print + Eprint + Clock> Served<'_, R> {
+    /// Opens the trail, listens on each address, and says so.
+    fn listen(&mut self) -> Result<(), Unready> {
+        self.trail = open_trail(self.rt, self.options).map_err(Unready::Fault)?;
+        let mut sockets = match Sockets::new(self.rt, self.alloc, &self.options.allow) {
+            Ok(sockets) => sockets,
+            Err(error) => return Err(Unready::Fault(Fault::Socket(Some(error.kind())))),
+        };
+        listen_on_all(self.rt, &mut sockets, self.options).map_err(Unready::Fault)?;
+        self.sockets = Some(sockets);
+        announce(self.rt, self.options).map_err(Unready::Output)
+    }
+}
+
 /// The files of the store. Where there is none, each call fails.
 impl<R: Files> Disk for Served<'_, R> {
+    fn load_current<A: Allocator>(&mut self, alloc: A) -> Result<Option<Vec<u8, A>>, LoadFault> {
+        match &mut self.folder {
+            Some(folder) => folder.load_current(alloc),
+            None => Err(LoadFault::Failed),
+        }
+    }
+
     fn load<A: Allocator>(&mut self, alloc: A, slot: Slot) -> Result<Vec<u8, A>, LoadFault> {
         match &mut self.folder {
             Some(folder) => folder.load(alloc, slot),
@@ -84,9 +150,9 @@ impl<R: Files> Disk for Served<'_, R> {
         }
     }
 
-    fn append(&mut self, slot: Slot, bytes: &[u8]) -> bool {
+    fn write(&mut self, slot: Slot, at: u64, prefix: &[u8], body: &[u8], back: &[u8]) -> bool {
         match &mut self.folder {
-            Some(folder) => folder.append(slot, bytes),
+            Some(folder) => folder.write(slot, at, prefix, body, back),
             None => false,
         }
     }
@@ -98,9 +164,9 @@ impl<R: Files> Disk for Served<'_, R> {
         }
     }
 
-    fn empty(&mut self, slot: Slot) -> bool {
+    fn turn(&mut self, bytes: &[u8]) -> bool {
         match &mut self.folder {
-            Some(folder) => folder.empty(slot),
+            Some(folder) => folder.turn(bytes),
             None => false,
         }
     }
@@ -110,38 +176,66 @@ impl<R: Files + Alloc + Eprint + Clock> Streams<Global> for Served<'_, R> {
     ghost disk_acts = { λ old new act it. tt };
 
     fn wait(&mut self, how: Wait) -> bool {
-        self.sockets.wait(how)
+        match &mut self.sockets {
+            Some(sockets) => sockets.wait(how),
+            None => false,
+        }
     }
 
     fn book(&mut self) -> Option<Book> {
         self.book.changed()
     }
 
-    fn knocks(&mut self) -> Knock {
-        self.sockets.knocks()
+    fn arrival(&mut self) -> Arrival {
+        match &mut self.sockets {
+            Some(sockets) => sockets.arrival(),
+            None => Arrival::Nobody,
+        }
     }
 
     fn admit(&mut self, place: usize, _conn: ConnId) {
-        self.sockets.admit(place);
+        if let Some(sockets) = &mut self.sockets {
+            sockets.admit(place);
+        }
     }
 
     fn close(&mut self, place: usize, end: StreamEnd) {
-        self.sockets.close(place);
+        if let Some(sockets) = &mut self.sockets {
+            sockets.close(place);
+        }
         self.note(end);
     }
 
     fn read(&mut self, place: usize, buf: &mut [u8]) -> Moved {
-        self.sockets.read(place, buf)
+        match &mut self.sockets {
+            Some(sockets) => sockets.read(place, buf),
+            None => Moved::Failed,
+        }
     }
 
     fn write(&mut self, place: usize, bytes: &[u8]) -> Moved {
-        self.sockets.write(place, bytes)
+        match &mut self.sockets {
+            Some(sockets) => sockets.write(place, bytes),
+            None => Moved::Failed,
+        }
     }
 
     fn keep(&mut self, server: &Server) -> bool {
         match &mut self.trail {
             Some(trail) => trail.keep(server.guard()),
             None => true,
+        }
+    }
+}
+
+impl<R: Files + Net + Alloc + Print + Eprint + Clock> Site<Global> for Served<'_, R> {
+    fn begin(&mut self) -> bool {
+        match self.listen() {
+            Ok(()) => true,
+            Err(why) => {
+                self.unready = Some(why);
+                false
+            }
         }
     }
 }

@@ -8,7 +8,7 @@ use std::io::{Read, Seek, SeekFrom};
 use std::os::unix::fs::MetadataExt;
 use std::rt::{Clock, Files};
 use std::{fs, io};
-use store_files::{Bounded, Part, file_limit};
+use store_folder::{Bounded, Part, file_limit};
 use trail_keeper::{TrailKeeper, moment_text};
 
 /// The file that a name leads to, opened to append to, and which file it is.
@@ -34,8 +34,8 @@ pub(crate) struct TrailFile<'a, R: Files> {
 
 /// The last byte of a file, where it is regular and not empty; another byte than a newline, where it can't be read.
 fn last_byte<R: Files>(rt: &R, path: &str) -> Option<u8> {
-    let told = fs::metadata(rt, path).ok()?;
-    if !told.is_file() || told.len() == 0 {
+    let answer = fs::metadata(rt, path).ok()?;
+    if !answer.is_file() || answer.len() == 0 {
         return None;
     }
     Some(read_last(rt, path).unwrap_or(0))
@@ -53,24 +53,31 @@ fn read_last<R: Files>(rt: &R, path: &str) -> io::Result<u8> {
 /// Whether a name leads to this file.
 fn is_at<R: Files>(rt: &R, path: &str, id: &FileId) -> bool {
     match fs::metadata(rt, path) {
-        Ok(told) => id_of(&told).is(id),
+        Ok(answer) => id_of(&answer).is(id),
         Err(_) => false,
     }
 }
 
 /// Whether two names lead to one file.
-pub(crate) fn leads_to<R: Files>(rt: &R, path: &str, other: &str) -> bool {
+pub(crate) fn is_same_file<R: Files>(rt: &R, path: &str, other: &str) -> bool {
     match fs::metadata(rt, other) {
-        Ok(told) => is_at(rt, path, &id_of(&told)),
+        Ok(answer) => is_at(rt, path, &id_of(&answer)),
         Err(_) => false,
     }
 }
 
 /// Whether a name leads to a file of the store in a folder.
 pub(crate) fn is_of_store<R: Files + Alloc>(rt: &R, path: &str, folder: &str) -> bool {
-    for part in [Part::Key, Part::A, Part::B] {
+    for part in [
+        Part::Lock,
+        Part::Current,
+        Part::Fresh,
+        Part::Spare,
+        Part::A,
+        Part::B,
+    ] {
         match format!(in rt.alloc(); "{folder}{part}") {
-            Ok(name) if !leads_to(rt, path, name.as_str()) => {}
+            Ok(name) if !is_same_file(rt, path, name.as_str()) => {}
             _ => return true,
         }
     }
@@ -82,15 +89,15 @@ fn open_at<R: Files + Alloc>(rt: &R, path: &str) -> io::Result<Opened<R::File>> 
     let mut how = OpenOptions::new();
     how.append(true).create(true);
     let file = how.open(rt, path)?;
-    let told = file.metadata()?;
-    let room = if told.is_file() {
-        file_limit(rt).saturating_sub(told.len())
+    let answer = file.metadata()?;
+    let room = if answer.is_file() {
+        file_limit(rt).saturating_sub(answer.len())
     } else {
         u64::MAX
     };
     Ok(Opened {
         file: Bounded::new(file, room),
-        id: id_of(&told),
+        id: id_of(&answer),
     })
 }
 

@@ -1,13 +1,11 @@
 -- From the values of the matches' getters to the options, and from the kinds of errors to those of the words.
-use Rattle.std.proofs.Common.{◌≡◌, ◌||◌, ◌∙◌, ap, ℕ, Bool, true, false, [], ◌∷◌, Option, Some, None, refl, sym, inl, inr, codes}
+use Rattle.std.proofs.Common.{◌≡◌, ◌||◌, ◌∙◌, ap, ℕ, Bool, true, false, Option, Some, None, refl, sym, codes}
 use Rattle.std.specs.Prelude.{pos, unwrap_or}
 use Rattle.std.specs.Str.{bytes_eq}
 use Rattle.std.specs.Str.Parse.{signed_digits_value}
 use Rattle.std.proofs.lemmas.Slice.Eq.{bytes_eq-Decides}
-use Rattle.clap.specs.Kinds.{HasKind, Kinds, or_else}
 use Rattle.clap.specs.Values.{Accepts, IsSignedIn}
 use Rattle.clap.specs.Words.{Text}
-use Rattle.clap.specs.declared.error.Error.{Error}
 use Rattle.clap.specs.declared.builder.value_parser.ValueParser.TheVariants as vp
 use Rattle.nfsd_options.specs.Given.{IsNumber, is_set}
 
@@ -32,13 +30,3 @@ number_held default low high None r none some = ap (λ (x : Option ℕ). unwrap_
 number_held default low high (Some t) r none some =
     let got = some t refl in
     (got.0, got.1.2 ∙ ap pos (sym (ap (λ (x : Option ℕ). unwrap_or x default) got.1.1)))
-
--- where the first list has no kind, the second is the whole
-pub or_else-empty : (first next : Kinds) → first ≡ [] → or_else first next ≡ next
-or_else-empty [] next none = refl
-or_else-empty (k ∷ ks) next none = cc
-
-pub or_else-first : (first next : Kinds) (e : Error) → HasKind first e → HasKind (or_else first next) e
-or_else-first [] next e (inl memory) = inl memory
-or_else-first [] next e (inr among) = absurd among
-or_else-first (k ∷ ks) next e has = has

@@ -2,4 +2,5 @@ mod Rules
 mod Taken
 mod Numbers
 mod Answers
-mod Said
+mod Stated
+mod Lists

@@ -1,4 +1,4 @@
--- The eleven options by their places, and the rules of each that building keeps.
+-- The fourteen options by their places, and the rules of each that building keeps.
 use Rattle.std.proofs.Common.{◌≡◌, ◌∙◌, ◌<◌, ap, ap₂, ℕ, true, false, List, [], length, zero, suc, Some, refl, sym, inl, inr, arith, codes}
 use Rattle.std.specs.List.{slice_index_or}
 use Rattle.std.specs.Str.{bytes_eq}
@@ -14,7 +14,7 @@ use Rattle.clap.specs.declared.builder.value_parser.ValueParser.TheVariants as v
 use Rattle.clap.specs.declared.parser.matches.ArgMatches.{ArgMatches}
 use Rattle.clap.proofs.CallerLemmas.{same_rules_by_id}
 use Rattle.std.specs.Prelude.{pos}
-use Rattle.nfsd_options.specs.Simple.{bare_rule, concurrent_rule, connections_rule, leases_rule, nfsd, port_rule, privileged_rule, stamped_rule}
+use Rattle.nfsd_options.specs.Simple.{any_port_rule, bare_rule, concurrent_rule, connections_rule, leases_rule, nfsd, port_rule, privileged_rule, stamped_rule}
 
 abbrev pub nfsd_rules : List Rule
 nfsd_rules = nfsd.top.rules
@@ -26,17 +26,17 @@ differ a b other same =
     cc
 
 -- the option at place k has the rule r and the parser q, and an id that no other argument of the command has
-pub record StandsAt (k : ℕ) (r : Rule) (q : ValueParser) : Type 0 where
-  pub here : k < 11
+pub record IsRuleAt (k : ℕ) (r : Rule) (q : ValueParser) : Type 0 where
+  pub here : k < 14
   pub place : (e : Rule) → slice_index_or nfsd_rules k e ≡ r
   pub parser : r.parser ≡ Some q
   pub exact : r.ignore_case ≡ false
-  pub alone : (j : ℕ) (e : Rule) → j < 11 → bytes_eq (slice_index_or nfsd_rules j e).id r.id ≡ true → j ≡ k
+  pub alone : (j : ℕ) (e : Rule) → j < 14 → bytes_eq (slice_index_or nfsd_rules j e).id r.id ≡ true → j ≡ k
   pub named : bytes_eq r.id [] ≡ false
   pub no_help : bytes_eq r.id (codes "help") ≡ false
   pub no_version : bytes_eq r.id (codes "version") ≡ false
 
-bare_alone : (j : ℕ) (e : Rule) → j < 11 → bytes_eq (slice_index_or nfsd_rules j e).id (codes "bare") ≡ true → j ≡ 1
+bare_alone : (j : ℕ) (e : Rule) → j < 14 → bytes_eq (slice_index_or nfsd_rules j e).id (codes "bare") ≡ true → j ≡ 1
 bare_alone zero e lt same = cc
 bare_alone (suc zero) e lt same = refl
 bare_alone (suc (suc zero)) e lt same = cc
@@ -48,9 +48,12 @@ bare_alone (suc (suc (suc (suc (suc (suc (suc zero))))))) e lt same = cc
 bare_alone (suc (suc (suc (suc (suc (suc (suc (suc zero)))))))) e lt same = cc
 bare_alone (suc (suc (suc (suc (suc (suc (suc (suc (suc zero))))))))) e lt same = cc
 bare_alone (suc (suc (suc (suc (suc (suc (suc (suc (suc (suc zero)))))))))) e lt same = cc
-bare_alone (suc (suc (suc (suc (suc (suc (suc (suc (suc (suc (suc j))))))))))) e lt same = absurd (omega arith)
+bare_alone (suc (suc (suc (suc (suc (suc (suc (suc (suc (suc (suc zero))))))))))) e lt same = cc
+bare_alone (suc (suc (suc (suc (suc (suc (suc (suc (suc (suc (suc (suc zero)))))))))))) e lt same = cc
+bare_alone (suc (suc (suc (suc (suc (suc (suc (suc (suc (suc (suc (suc (suc zero))))))))))))) e lt same = cc
+bare_alone (suc (suc (suc (suc (suc (suc (suc (suc (suc (suc (suc (suc (suc (suc j)))))))))))))) e lt same = absurd (omega arith)
 
-port_alone : (j : ℕ) (e : Rule) → j < 11 → bytes_eq (slice_index_or nfsd_rules j e).id (codes "port") ≡ true → j ≡ 2
+port_alone : (j : ℕ) (e : Rule) → j < 14 → bytes_eq (slice_index_or nfsd_rules j e).id (codes "port") ≡ true → j ≡ 2
 port_alone zero e lt same = cc
 port_alone (suc zero) e lt same = cc
 port_alone (suc (suc zero)) e lt same = refl
@@ -62,9 +65,12 @@ port_alone (suc (suc (suc (suc (suc (suc (suc zero))))))) e lt same = cc
 port_alone (suc (suc (suc (suc (suc (suc (suc (suc zero)))))))) e lt same = cc
 port_alone (suc (suc (suc (suc (suc (suc (suc (suc (suc zero))))))))) e lt same = cc
 port_alone (suc (suc (suc (suc (suc (suc (suc (suc (suc (suc zero)))))))))) e lt same = cc
-port_alone (suc (suc (suc (suc (suc (suc (suc (suc (suc (suc (suc j))))))))))) e lt same = absurd (omega arith)
+port_alone (suc (suc (suc (suc (suc (suc (suc (suc (suc (suc (suc zero))))))))))) e lt same = cc
+port_alone (suc (suc (suc (suc (suc (suc (suc (suc (suc (suc (suc (suc zero)))))))))))) e lt same = cc
+port_alone (suc (suc (suc (suc (suc (suc (suc (suc (suc (suc (suc (suc (suc zero))))))))))))) e lt same = cc
+port_alone (suc (suc (suc (suc (suc (suc (suc (suc (suc (suc (suc (suc (suc (suc j)))))))))))))) e lt same = absurd (omega arith)
 
-connections_alone : (j : ℕ) (e : Rule) → j < 11 → bytes_eq (slice_index_or nfsd_rules j e).id (codes "connections") ≡ true → j ≡ 3
+connections_alone : (j : ℕ) (e : Rule) → j < 14 → bytes_eq (slice_index_or nfsd_rules j e).id (codes "connections") ≡ true → j ≡ 3
 connections_alone zero e lt same = cc
 connections_alone (suc zero) e lt same = cc
 connections_alone (suc (suc zero)) e lt same = cc
@@ -76,9 +82,12 @@ connections_alone (suc (suc (suc (suc (suc (suc (suc zero))))))) e lt same = cc
 connections_alone (suc (suc (suc (suc (suc (suc (suc (suc zero)))))))) e lt same = cc
 connections_alone (suc (suc (suc (suc (suc (suc (suc (suc (suc zero))))))))) e lt same = cc
 connections_alone (suc (suc (suc (suc (suc (suc (suc (suc (suc (suc zero)))))))))) e lt same = cc
-connections_alone (suc (suc (suc (suc (suc (suc (suc (suc (suc (suc (suc j))))))))))) e lt same = absurd (omega arith)
+connections_alone (suc (suc (suc (suc (suc (suc (suc (suc (suc (suc (suc zero))))))))))) e lt same = cc
+connections_alone (suc (suc (suc (suc (suc (suc (suc (suc (suc (suc (suc (suc zero)))))))))))) e lt same = cc
+connections_alone (suc (suc (suc (suc (suc (suc (suc (suc (suc (suc (suc (suc (suc zero))))))))))))) e lt same = cc
+connections_alone (suc (suc (suc (suc (suc (suc (suc (suc (suc (suc (suc (suc (suc (suc j)))))))))))))) e lt same = absurd (omega arith)
 
-concurrent_alone : (j : ℕ) (e : Rule) → j < 11 → bytes_eq (slice_index_or nfsd_rules j e).id (codes "concurrent") ≡ true → j ≡ 4
+concurrent_alone : (j : ℕ) (e : Rule) → j < 14 → bytes_eq (slice_index_or nfsd_rules j e).id (codes "concurrent") ≡ true → j ≡ 4
 concurrent_alone zero e lt same = cc
 concurrent_alone (suc zero) e lt same = cc
 concurrent_alone (suc (suc zero)) e lt same = cc
@@ -90,9 +99,12 @@ concurrent_alone (suc (suc (suc (suc (suc (suc (suc zero))))))) e lt same = cc
 concurrent_alone (suc (suc (suc (suc (suc (suc (suc (suc zero)))))))) e lt same = cc
 concurrent_alone (suc (suc (suc (suc (suc (suc (suc (suc (suc zero))))))))) e lt same = cc
 concurrent_alone (suc (suc (suc (suc (suc (suc (suc (suc (suc (suc zero)))))))))) e lt same = cc
-concurrent_alone (suc (suc (suc (suc (suc (suc (suc (suc (suc (suc (suc j))))))))))) e lt same = absurd (omega arith)
+concurrent_alone (suc (suc (suc (suc (suc (suc (suc (suc (suc (suc (suc zero))))))))))) e lt same = cc
+concurrent_alone (suc (suc (suc (suc (suc (suc (suc (suc (suc (suc (suc (suc zero)))))))))))) e lt same = cc
+concurrent_alone (suc (suc (suc (suc (suc (suc (suc (suc (suc (suc (suc (suc (suc zero))))))))))))) e lt same = cc
+concurrent_alone (suc (suc (suc (suc (suc (suc (suc (suc (suc (suc (suc (suc (suc (suc j)))))))))))))) e lt same = absurd (omega arith)
 
-stamped_alone : (j : ℕ) (e : Rule) → j < 11 → bytes_eq (slice_index_or nfsd_rules j e).id (codes "stamped") ≡ true → j ≡ 6
+stamped_alone : (j : ℕ) (e : Rule) → j < 14 → bytes_eq (slice_index_or nfsd_rules j e).id (codes "stamped") ≡ true → j ≡ 6
 stamped_alone zero e lt same = cc
 stamped_alone (suc zero) e lt same = cc
 stamped_alone (suc (suc zero)) e lt same = cc
@@ -104,9 +116,12 @@ stamped_alone (suc (suc (suc (suc (suc (suc (suc zero))))))) e lt same = cc
 stamped_alone (suc (suc (suc (suc (suc (suc (suc (suc zero)))))))) e lt same = cc
 stamped_alone (suc (suc (suc (suc (suc (suc (suc (suc (suc zero))))))))) e lt same = cc
 stamped_alone (suc (suc (suc (suc (suc (suc (suc (suc (suc (suc zero)))))))))) e lt same = cc
-stamped_alone (suc (suc (suc (suc (suc (suc (suc (suc (suc (suc (suc j))))))))))) e lt same = absurd (omega arith)
+stamped_alone (suc (suc (suc (suc (suc (suc (suc (suc (suc (suc (suc zero))))))))))) e lt same = cc
+stamped_alone (suc (suc (suc (suc (suc (suc (suc (suc (suc (suc (suc (suc zero)))))))))))) e lt same = cc
+stamped_alone (suc (suc (suc (suc (suc (suc (suc (suc (suc (suc (suc (suc (suc zero))))))))))))) e lt same = cc
+stamped_alone (suc (suc (suc (suc (suc (suc (suc (suc (suc (suc (suc (suc (suc (suc j)))))))))))))) e lt same = absurd (omega arith)
 
-privileged_alone : (j : ℕ) (e : Rule) → j < 11 → bytes_eq (slice_index_or nfsd_rules j e).id (codes "privileged-ports") ≡ true → j ≡ 7
+privileged_alone : (j : ℕ) (e : Rule) → j < 14 → bytes_eq (slice_index_or nfsd_rules j e).id (codes "privileged-ports") ≡ true → j ≡ 7
 privileged_alone zero e lt same = cc
 privileged_alone (suc zero) e lt same = cc
 privileged_alone (suc (suc zero)) e lt same = cc
@@ -118,9 +133,12 @@ privileged_alone (suc (suc (suc (suc (suc (suc (suc zero))))))) e lt same = refl
 privileged_alone (suc (suc (suc (suc (suc (suc (suc (suc zero)))))))) e lt same = cc
 privileged_alone (suc (suc (suc (suc (suc (suc (suc (suc (suc zero))))))))) e lt same = cc
 privileged_alone (suc (suc (suc (suc (suc (suc (suc (suc (suc (suc zero)))))))))) e lt same = cc
-privileged_alone (suc (suc (suc (suc (suc (suc (suc (suc (suc (suc (suc j))))))))))) e lt same = absurd (omega arith)
+privileged_alone (suc (suc (suc (suc (suc (suc (suc (suc (suc (suc (suc zero))))))))))) e lt same = cc
+privileged_alone (suc (suc (suc (suc (suc (suc (suc (suc (suc (suc (suc (suc zero)))))))))))) e lt same = cc
+privileged_alone (suc (suc (suc (suc (suc (suc (suc (suc (suc (suc (suc (suc (suc zero))))))))))))) e lt same = cc
+privileged_alone (suc (suc (suc (suc (suc (suc (suc (suc (suc (suc (suc (suc (suc (suc j)))))))))))))) e lt same = absurd (omega arith)
 
-leases_alone : (j : ℕ) (e : Rule) → j < 11 → bytes_eq (slice_index_or nfsd_rules j e).id (codes "leases") ≡ true → j ≡ 9
+leases_alone : (j : ℕ) (e : Rule) → j < 14 → bytes_eq (slice_index_or nfsd_rules j e).id (codes "leases") ≡ true → j ≡ 9
 leases_alone zero e lt same = cc
 leases_alone (suc zero) e lt same = cc
 leases_alone (suc (suc zero)) e lt same = cc
@@ -132,10 +150,30 @@ leases_alone (suc (suc (suc (suc (suc (suc (suc zero))))))) e lt same = cc
 leases_alone (suc (suc (suc (suc (suc (suc (suc (suc zero)))))))) e lt same = cc
 leases_alone (suc (suc (suc (suc (suc (suc (suc (suc (suc zero))))))))) e lt same = refl
 leases_alone (suc (suc (suc (suc (suc (suc (suc (suc (suc (suc zero)))))))))) e lt same = cc
-leases_alone (suc (suc (suc (suc (suc (suc (suc (suc (suc (suc (suc j))))))))))) e lt same = absurd (omega arith)
+leases_alone (suc (suc (suc (suc (suc (suc (suc (suc (suc (suc (suc zero))))))))))) e lt same = cc
+leases_alone (suc (suc (suc (suc (suc (suc (suc (suc (suc (suc (suc (suc zero)))))))))))) e lt same = cc
+leases_alone (suc (suc (suc (suc (suc (suc (suc (suc (suc (suc (suc (suc (suc zero))))))))))))) e lt same = cc
+leases_alone (suc (suc (suc (suc (suc (suc (suc (suc (suc (suc (suc (suc (suc (suc j)))))))))))))) e lt same = absurd (omega arith)
 
-pub bare_stands : StandsAt 1 bare_rule vp.Bool
-bare_stands = record {
+any_port_alone : (j : ℕ) (e : Rule) → j < 14 → bytes_eq (slice_index_or nfsd_rules j e).id (codes "any-port") ≡ true → j ≡ 13
+any_port_alone zero e lt same = cc
+any_port_alone (suc zero) e lt same = cc
+any_port_alone (suc (suc zero)) e lt same = cc
+any_port_alone (suc (suc (suc zero))) e lt same = cc
+any_port_alone (suc (suc (suc (suc zero)))) e lt same = cc
+any_port_alone (suc (suc (suc (suc (suc zero))))) e lt same = cc
+any_port_alone (suc (suc (suc (suc (suc (suc zero)))))) e lt same = cc
+any_port_alone (suc (suc (suc (suc (suc (suc (suc zero))))))) e lt same = cc
+any_port_alone (suc (suc (suc (suc (suc (suc (suc (suc zero)))))))) e lt same = cc
+any_port_alone (suc (suc (suc (suc (suc (suc (suc (suc (suc zero))))))))) e lt same = cc
+any_port_alone (suc (suc (suc (suc (suc (suc (suc (suc (suc (suc zero)))))))))) e lt same = cc
+any_port_alone (suc (suc (suc (suc (suc (suc (suc (suc (suc (suc (suc zero))))))))))) e lt same = cc
+any_port_alone (suc (suc (suc (suc (suc (suc (suc (suc (suc (suc (suc (suc zero)))))))))))) e lt same = cc
+any_port_alone (suc (suc (suc (suc (suc (suc (suc (suc (suc (suc (suc (suc (suc zero))))))))))))) e lt same = refl
+any_port_alone (suc (suc (suc (suc (suc (suc (suc (suc (suc (suc (suc (suc (suc (suc j)))))))))))))) e lt same = absurd (omega arith)
+
+pub bare_is_at : IsRuleAt 1 bare_rule vp.Bool
+bare_is_at = record {
   here = omega arith;
   place = λ e. refl;
   parser = refl;
@@ -146,8 +184,8 @@ bare_stands = record {
   no_version = refl;
 }
 
-pub port_stands : StandsAt 2 port_rule (vp.Signed (pos 1) (pos 65535))
-port_stands = record {
+pub port_is_at : IsRuleAt 2 port_rule (vp.Signed (pos 1) (pos 65535))
+port_is_at = record {
   here = omega arith;
   place = λ e. refl;
   parser = refl;
@@ -158,8 +196,8 @@ port_stands = record {
   no_version = refl;
 }
 
-pub connections_stands : StandsAt 3 connections_rule (vp.Signed (pos 0) (pos 4294967295))
-connections_stands = record {
+pub connections_is_at : IsRuleAt 3 connections_rule (vp.Signed (pos 0) (pos 4294967295))
+connections_is_at = record {
   here = omega arith;
   place = λ e. refl;
   parser = refl;
@@ -170,8 +208,8 @@ connections_stands = record {
   no_version = refl;
 }
 
-pub concurrent_stands : StandsAt 4 concurrent_rule vp.Bool
-concurrent_stands = record {
+pub concurrent_is_at : IsRuleAt 4 concurrent_rule vp.Bool
+concurrent_is_at = record {
   here = omega arith;
   place = λ e. refl;
   parser = refl;
@@ -182,8 +220,8 @@ concurrent_stands = record {
   no_version = refl;
 }
 
-pub stamped_stands : StandsAt 6 stamped_rule vp.Bool
-stamped_stands = record {
+pub stamped_is_at : IsRuleAt 6 stamped_rule vp.Bool
+stamped_is_at = record {
   here = omega arith;
   place = λ e. refl;
   parser = refl;
@@ -194,8 +232,8 @@ stamped_stands = record {
   no_version = refl;
 }
 
-pub privileged_stands : StandsAt 7 privileged_rule vp.Bool
-privileged_stands = record {
+pub privileged_is_at : IsRuleAt 7 privileged_rule vp.Bool
+privileged_is_at = record {
   here = omega arith;
   place = λ e. refl;
   parser = refl;
@@ -206,8 +244,8 @@ privileged_stands = record {
   no_version = refl;
 }
 
-pub leases_stands : StandsAt 9 leases_rule vp.Bool
-leases_stands = record {
+pub leases_is_at : IsRuleAt 9 leases_rule vp.Bool
+leases_is_at = record {
   here = omega arith;
   place = λ e. refl;
   parser = refl;
@@ -218,19 +256,31 @@ leases_stands = record {
   no_version = refl;
 }
 
-eleven : (c : Command) → app_of c ≡ nfsd → length (args_of c) ≡ 11
-eleven c is = sym (length-map (args_of c) rule_of) ∙ ap (λ (a : App). length a.top.rules) is
+pub any_port_stands : IsRuleAt 13 any_port_rule vp.Bool
+any_port_stands = record {
+  here = omega arith;
+  place = λ e. refl;
+  parser = refl;
+  exact = refl;
+  alone = any_port_alone;
+  named = refl;
+  no_help = refl;
+  no_version = refl;
+}
+
+fourteen : (c : Command) → app_of c ≡ nfsd → length (args_of c) ≡ 14
+fourteen c is = sym (length-map (args_of c) rule_of) ∙ ap (λ (a : App). length a.top.rules) is
 
 rule_at : (c : Command) → app_of c ≡ nfsd → (k : ℕ) (d : Arg) (e : Rule) → k < length (args_of c)
     → rule_of (slice_index_or (args_of c) k d) ≡ slice_index_or nfsd_rules k e
 rule_at c is k d e lt = sym (get_or-map rule_of (args_of c) k d e lt) ∙ ap (λ (a : App). slice_index_or a.top.rules k e) is
 
 -- an argument of the built command with the id of an option has that option's parser
-pub own_parser : (old : Command) (m : ArgMatches) (p : IsParsedFrom old m) → app_of old ≡ nfsd → (k : ℕ) (r : Rule) (q : ValueParser) → StandsAt k r q
+pub own_parser : (old : Command) (m : ArgMatches) (p : IsParsedFrom old m) → app_of old ≡ nfsd → (k : ℕ) (r : Rule) (q : ValueParser) → IsRuleAt k r q
     → (j : ℕ) (x : Arg) → j < length (args_of p.built) → slice_index_or (args_of p.built) j x ≡ x → bytes_eq x.id.now r.id ≡ true
     → (parser_of x ≡ q) × (x.ignore_case ≡ false)
 own_parser old m p is k r q s j x lt at same =
-    let count = eleven old is in
+    let count = fourteen old is in
     let few = s.here in
     let here : k < length (args_of old) = omega arith in
     let mine : rule_of (slice_index_or (args_of old) k x) ≡ r = rule_at old is k x r here ∙ s.place r in

@@ -20,7 +20,7 @@ use Rattle.clap.specs.declared.parser.matches.MatchedArg.{MatchedArg}
 use Rattle.clap.proofs.CallerLemmas.{entry_by_id}
 use Rattle.clap.proofs.SimpleLemmas.{all_simple, plain_fields, simple_groups}
 use Rattle.nfsd_options.specs.Simple.{nfsd}
-use Rattle.nfsd_options.proofs.Rules.{StandsAt, differ, own_parser}
+use Rattle.nfsd_options.proofs.Rules.{IsRuleAt, differ, own_parser}
 
 abbrev first_text : List (Bor Text) → Option Text
 first_text vs = option_map (λ s. s.now) (slice_get vs 0)
@@ -44,7 +44,7 @@ no_groups old m p is =
     (p.from.same_groups (simple_groups old (ap (λ (a : App). all_simple a.top.rules) is))).1
     ∙ (plain_fields old (ap (λ (a : App). a.top.is_plain) is)).groups
 
-module _ (old : Command) (m : ArgMatches) (p : IsParsedFrom old m) (is : app_of old ≡ nfsd) (k : ℕ) (r : Rule) (q : ValueParser) (s : StandsAt k r q)
+module _ (old : Command) (m : ArgMatches) (p : IsParsedFrom old m) (is : app_of old ≡ nfsd) (k : ℕ) (r : Rule) (q : ValueParser) (s : IsRuleAt k r q)
     (t : Text) where
   no_group : (e : Entry) → e.0.now ≡ r.id → EntryPasses p.built e → e.1.is_group ≡ true → ⊥
   no_group e key pass group = elim (pass.3 group) [

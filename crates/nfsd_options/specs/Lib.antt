@@ -1,3 +1,4 @@
 pub mod Simple
 pub mod Given
 pub mod Mistakes
+pub mod Lists

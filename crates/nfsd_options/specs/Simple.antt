@@ -1,9 +1,10 @@
 -- The command of `nfsd` as `clap` sees a simple command:
 -- `nfsd [--book FILE] [--bare] [--port N] [--connections N] [--concurrent] [--trail FILE]
--- [--stamped] [--privileged-ports] [--store FOLDER] [--leases] [--home FOLDER]`.
+-- [--stamped] [--privileged-ports] [--store FOLDER] [--leases] [--home FOLDER] [--listen ADDRESS]..
+-- [--allow NETWORK].. [--any-port]`.
 use Rattle.std.specs.Prelude.{codes, Some, pos}
 use Rattle.clap.specs.Words.{App, Rule, Text, new_app, new_rule, with_rule}
-use Rattle.clap.specs.declared.builder.action.ArgAction.TheVariants.{SetTrue}
+use Rattle.clap.specs.declared.builder.action.ArgAction.TheVariants.{Append, SetTrue}
 use Rattle.clap.specs.declared.builder.value_parser.ValueParser.TheVariants as vp
 
 -- an option with any text but the empty one
@@ -12,6 +13,10 @@ file_rule name = record (new_rule name) { long = Some name; value_names = 1; par
 
 abbrev pub flag_rule : Text → Rule
 flag_rule name = record (new_rule name) { long = Some name; action = Some SetTrue; parser = Some vp.Bool }
+
+-- an option that may be given more than once
+abbrev pub list_rule : Text → Rule
+list_rule name = record (new_rule name) { long = Some name; value_names = 1; action = Some Append }
 
 -- `--book FILE`
 abbrev pub book_rule : Rule
@@ -66,10 +71,23 @@ leases_rule = flag_rule (codes "leases")
 abbrev pub home_rule : Rule
 home_rule = file_rule (codes "home")
 
+-- `--listen ADDRESS`
+abbrev pub listen_rule : Rule
+listen_rule = list_rule (codes "listen")
+
+-- `--allow NETWORK`
+abbrev pub allow_rule : Rule
+allow_rule = list_rule (codes "allow")
+
+-- `--any-port`
+abbrev pub any_port_rule : Rule
+any_port_rule = flag_rule (codes "any-port")
+
 abbrev pub nfsd : App
 nfsd =
-    let front = with_rule (with_rule (new_app (codes "nfsd")) book_rule) bare_rule in
-    let numbers = with_rule (with_rule front port_rule) connections_rule in
+    let prefix = with_rule (with_rule (new_app (codes "nfsd")) book_rule) bare_rule in
+    let numbers = with_rule (with_rule prefix port_rule) connections_rule in
     let serving = with_rule (with_rule numbers concurrent_rule) trail_rule in
     let keeping = with_rule (with_rule (with_rule serving stamped_rule) privileged_rule) store_rule in
-    with_rule (with_rule keeping leases_rule) home_rule
+    let housed = with_rule (with_rule keeping leases_rule) home_rule in
+    with_rule (with_rule (with_rule housed listen_rule) allow_rule) any_port_rule

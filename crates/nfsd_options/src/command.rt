@@ -1,8 +1,9 @@
 //! The command of `nfsd`, with its help.
 ghost use Rattle.std.specs.Prelude.{◌≡◌, IfOk, false};
 ghost use Rattle.clap.specs.Words.{app_of, rule_of};
-ghost use Rattle.nfsd_options.specs.Simple.{bare_rule, book_rule, concurrent_rule, connections_rule, file_rule};
-ghost use Rattle.nfsd_options.specs.Simple.{flag_rule, home_rule, leases_rule, nfsd, port_rule, privileged_rule};
+ghost use Rattle.nfsd_options.specs.Simple.{allow_rule, any_port_rule, bare_rule, book_rule, concurrent_rule};
+ghost use Rattle.nfsd_options.specs.Simple.{connections_rule, file_rule, flag_rule, home_rule, leases_rule};
+ghost use Rattle.nfsd_options.specs.Simple.{list_rule, listen_rule, nfsd, port_rule, privileged_rule};
 ghost use Rattle.nfsd_options.specs.Simple.{stamped_rule, store_rule, trail_rule};
 
 use clap::builder::ValueParser;
@@ -14,7 +15,8 @@ const ABOUT: &str = "\
 Serves files over NFS version 4.1, and means what their access control lists say.
 
 It listens on 127.0.0.1, prints 'listening on 127.0.0.1:PORT', serves its connections, one after the
-other unless told else, and ends. The files are kept in memory: an empty root at first, which
+other unless told else, and ends. With '--listen ADDRESS' it listens on that address, and with
+'--allow NETWORK' it serves whoever connects from that network. The files are kept in memory: an empty root at first, which
 belongs to whom the book says. With '--store FOLDER' they are kept in that folder too, and outlive
 the server: nothing that was answered is lost, whatever ends it.";
 
@@ -62,7 +64,12 @@ and the same with files that are there again after a restart:
 
 and all of it in one folder, with the book where it is there:
 
-    nfsd --home office";
+    nfsd --home office
+
+and that for the machines of a network. The server believes each of them about who its users are,
+and nothing on the way is encrypted:
+
+    nfsd --home office --listen 192.0.2.7 --allow 192.0.2.0/24";
 
 /// The command of `nfsd`, as `clap` reads it.
 pub(crate) fn command<'a>(alloc: Global) -> Result<Command<'a>, AllocError>
@@ -81,7 +88,10 @@ pub(crate) fn command<'a>(alloc: Global) -> Result<Command<'a>, AllocError>
         .arg(privileged_ports(alloc))?
         .arg(store(alloc))?
         .arg(leases(alloc))?
-        .arg(home(alloc))?;
+        .arg(home(alloc))?
+        .arg(listen(alloc))?
+        .arg(allow(alloc))?
+        .arg(any_port(alloc))?;
     Ok(command)
 }
 
@@ -103,6 +113,17 @@ fn flag<'a>(alloc: Global, name: &'a str, help: &'a str) -> Arg<'a>
         .long(name)
         .value_parser(value_parser!(bool))
         .action(ArgAction::SetTrue)
+        .help(help)
+}
+
+/// An option that may be given more than once.
+fn list<'a>(alloc: Global, name: &'a str, what: &'a str, help: &'a str) -> Arg<'a>
+    ensures { (rule_of result ≡ list_rule name.entry.now) × (result.global ≡ false) }
+{
+    Arg::new(alloc, name)
+        .long(name)
+        .value_name(what)
+        .action(ArgAction::Append)
         .help(help)
 }
 
@@ -218,5 +239,40 @@ fn home<'a>(alloc: Global) -> Arg<'a>
         "FOLDER",
         "One folder for all: stands for '--concurrent --leases --store FOLDER/store --trail FOLDER/trail.txt \
          --stamped', and '--book FOLDER/book.toml' where that file is there",
+    )
+}
+
+fn listen<'a>(alloc: Global) -> Arg<'a>
+    ensures { (rule_of result ≡ listen_rule) × (result.global ≡ false) }
+{
+    list(
+        alloc,
+        "listen",
+        "ADDRESS",
+        "Listens on this IPv4 or IPv6 address; up to 8 times, and where it is no loopback address with '--allow'; \
+         not with --bare [default: 127.0.0.1]",
+    )
+}
+
+fn allow<'a>(alloc: Global) -> Arg<'a>
+    ensures { (rule_of result ≡ allow_rule) × (result.global ≡ false) }
+{
+    list(
+        alloc,
+        "allow",
+        "NETWORK",
+        "Serves connections from this network too, as 192.0.2.0/24, 2001:db8::/32 or an address; up to 64 times. \
+         Others are closed before anything is read of them, but for the machine's own; not with --bare",
+    )
+}
+
+fn any_port<'a>(alloc: Global) -> Arg<'a>
+    ensures { (rule_of result ≡ any_port_rule) × (result.global ≡ false) }
+{
+    flag(
+        alloc,
+        "any-port",
+        "Serves connections from ports of 1024 and above on addresses that aren't loopback ones too, where '--listen' \
+         means '--privileged-ports'; not with that, nor with --bare",
     )
 }

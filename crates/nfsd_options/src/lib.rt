@@ -1,9 +1,11 @@
 //! The words of `nfsd`: `nfsd [--book FILE] [--bare] [--port N] [--connections N] [--concurrent]
-//! [--trail FILE] [--stamped] [--privileged-ports] [--store FOLDER]`.
+//! [--trail FILE] [--stamped] [--privileged-ports] [--store FOLDER] [--leases] [--home FOLDER]
+//! [--listen ADDRESS].. [--allow NETWORK].. [--any-port]`.
 #![tactic(auto)]
 
 mod command;
 mod mistake;
 mod options;
+mod values;
 
 pub use options::Options;

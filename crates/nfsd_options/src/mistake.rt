@@ -1,14 +1,18 @@
 //! Options that can't be given together.
-ghost use Rattle.std.specs.Prelude.{◌≡◌, IfOk, option_map};
+ghost use Rattle.std.specs.Prelude.{◌≡◌, ◌&&◌, IfOk, not, option_map};
+ghost use Rattle.std.specs.List.{list_any};
 ghost use Rattle.clap.specs.Words.{kind_of};
-ghost use Rattle.nfsd_options.specs.Given.{is_meant, mistake, together};
+ghost use Rattle.networks.specs.Address.{is_loopback};
+ghost use Rattle.nfsd_options.specs.Given.{is_for_listening, is_meant, listening_mistake, mistake, together};
 ghost use Rattle.nfsd_options.specs.Mistakes.{kind_at};
 
 use crate::command::command;
 use crate::options::Options;
 use clap::Error;
 use clap::error::ErrorKind;
+use networks::is_loopback;
 use std::alloc::{AllocError, Global};
+use std::net::IpAddr;
 
 /// Options that can't be given together.
 #[derive(Clone, Copy, Debug, PartialEq, Eq)]
@@ -21,9 +25,23 @@ pub(crate) enum Mistake {
     PortsOfBare,
     /// `--store` with `--bare`.
     StoreOfBare,
+    /// `--listen`, `--allow` or `--any-port` with `--bare`.
+    ListeningOfBare,
+    /// `--any-port` with `--privileged-ports`.
+    AnyIsPrivileged,
+    /// More addresses or networks than there may be.
+    TooMany,
+    /// An address that other machines reach, without `--allow`.
+    NobodyAllowed,
     /// `--stamped` without `--trail`.
     NothingToStamp,
 }
+
+/// The most addresses that are listened on.
+const MOST_ADDRESSES: usize = 8;
+
+/// The most networks that are allowed.
+const MOST_NETWORKS: usize = 64;
 
 /// Whether an option is given that a home means.
 fn is_meant(options: &Options<'_>) -> bool
@@ -35,7 +53,52 @@ fn is_meant(options: &Options<'_>) -> bool
                 || (options.stamped || (options.store.is_some() || options.leases))))
 }
 
+/// Whether an option is given that says where it listens, or to whom.
+fn is_for_listening(options: &Options<'_>) -> bool
+    ensures { result ≡ is_for_listening (together options.now) }
+{
+    !options.listen.is_empty() || (!options.allow.is_empty() || options.any_port)
+}
+
+/// Whether there are more addresses or networks than there may be.
+fn are_many(options: &Options<'_>) -> bool
+    ensures { result ≡ (together options.now).many }
+{
+    options.listen.len() > MOST_ADDRESSES || options.allow.len() > MOST_NETWORKS
+}
+
+/// Whether other machines reach one of the addresses.
+fn is_beyond(addresses: &[IpAddr]) -> bool
+    ensures { result ≡ list_any (λ a. not (is_loopback a)) addresses.now }
+{
+    addresses.iter().any(|address| !is_loopback(address))
+}
+
+/// Whether other machines reach an address, and nobody is allowed.
+fn is_nobody_allowed(options: &Options<'_>) -> bool
+    ensures { result ≡ ((together options.now).beyond && not (together options.now).allow) }
+{
+    is_beyond(&options.listen) && options.allow.is_empty()
+}
+
 impl Mistake {
+    /// The first mistake of options that aren't those of the sample tree.
+    fn of_listening(options: &Options<'_>) -> Option<Mistake>
+        ensures { option_map kind_at result ≡ listening_mistake (together options.now) }
+    {
+        if options.any_port && options.privileged_ports {
+            Some(Mistake::AnyIsPrivileged)
+        } else if are_many(options) {
+            Some(Mistake::TooMany)
+        } else if is_nobody_allowed(options) {
+            Some(Mistake::NobodyAllowed)
+        } else if options.stamped && options.trail.is_none() {
+            Some(Mistake::NothingToStamp)
+        } else {
+            None
+        }
+    }
+
     /// The first mistake of the options, if there is one.
     pub(crate) fn of(options: &Options<'_>) -> Option<Mistake>
         ensures { option_map kind_at result ≡ mistake (together options.now) }
@@ -48,12 +111,12 @@ impl Mistake {
             Some(Mistake::TrailOfBare)
         } else if bare && options.privileged_ports {
             Some(Mistake::PortsOfBare)
+        } else if bare && is_for_listening(options) {
+            Some(Mistake::ListeningOfBare)
         } else if bare && options.store.is_some() {
             Some(Mistake::StoreOfBare)
-        } else if options.stamped && trail.is_none() {
-            Some(Mistake::NothingToStamp)
         } else {
-            None
+            Mistake::of_listening(options)
         }
     }
 
@@ -64,8 +127,11 @@ impl Mistake {
             Mistake::HomeWithOthers
             | Mistake::TrailOfBare
             | Mistake::PortsOfBare
-            | Mistake::StoreOfBare => ErrorKind::ArgumentConflict,
-            Mistake::NothingToStamp => ErrorKind::MissingRequiredArgument,
+            | Mistake::StoreOfBare
+            | Mistake::ListeningOfBare
+            | Mistake::AnyIsPrivileged => ErrorKind::ArgumentConflict,
+            Mistake::TooMany => ErrorKind::TooManyValues,
+            Mistake::NobodyAllowed | Mistake::NothingToStamp => ErrorKind::MissingRequiredArgument,
         }
     }
 
@@ -84,6 +150,20 @@ impl Mistake {
             }
             Mistake::StoreOfBare => {
                 "the argument '--store <FOLDER>' cannot be used with '--bare', whose tree is kept nowhere"
+            }
+            Mistake::ListeningOfBare => {
+                "the arguments '--listen <ADDRESS>', '--allow <NETWORK>' and '--any-port' cannot be used with '--bare', \
+                 which listens on no port"
+            }
+            Mistake::AnyIsPrivileged => {
+                "the argument '--any-port' cannot be used with '--privileged-ports'"
+            }
+            Mistake::TooMany => {
+                "the argument '--listen <ADDRESS>' is taken 8 times at most, and '--allow <NETWORK>' 64 times"
+            }
+            Mistake::NobodyAllowed => {
+                "the argument '--listen <ADDRESS>' names an address that other machines reach, and '--allow <NETWORK>' \
+                 names nobody who may connect to it"
             }
             Mistake::NothingToStamp => {
                 "the argument '--stamped' is for the lines of a file, and '--trail <FILE>' names none"

@@ -1,14 +1,15 @@
 //! The options of the words of `nfsd`.
 ghost use Rattle.std.specs.Prelude.{◌≡◌, ◌||◌, IfOk, is_some, map};
-ghost use Rattle.clap.specs.Words.{FailsBy, fault_of};
-ghost use Rattle.nfsd_options.specs.Given.{OptionsOf, connections_unsaid, kinds_of};
-ghost use Rattle.nfsd_options.specs.Simple.{nfsd};
+ghost use Rattle.nfsd_options.specs.Given.{AreReadOr, IsTakenOr, OptionsOf, default_connections};
 
 use crate::command::command;
 use crate::mistake::Mistake;
+use crate::values::values;
 use clap::Error;
+use networks::Network;
 use std::alloc::Global;
 use std::convert::AsStr;
+use std::net::IpAddr;
 
 /// The port, where the words name none.
 const PORT: u16 = 2049;
@@ -20,7 +21,7 @@ const CONNECTIONS: u32 = 1;
 const CONCURRENT_CONNECTIONS: u32 = 4_294_967_295;
 
 /// The options of the words of `nfsd`.
-#[derive(Clone, Copy, Debug, PartialEq, Eq)]
+#[derive(Debug, PartialEq, Eq, Drop)]
 pub struct Options<'a> {
     /// The file of the book.
     pub book: Option<&'a str>,
@@ -44,11 +45,17 @@ pub struct Options<'a> {
     pub leases: bool,
     /// The folder of all: of the store, the trail and the book.
     pub home: Option<&'a str>,
+    /// The addresses to listen on, at most 8; 127.0.0.1 where there is none.
+    pub listen: Vec<IpAddr>,
+    /// The networks from which connections are served, at most 64, beside the machine itself.
+    pub allow: Vec<Network>,
+    /// Whether connections from ports of 1024 and above are served on addresses that aren't loopback ones too.
+    pub any_port: bool,
 }
 
 /// How many connections are served where the words have no number.
 fn connections_of(concurrent: bool) -> u32
-    ensures { result ≡ connections_unsaid concurrent }
+    ensures { result ≡ default_connections concurrent }
 {
     if concurrent {
         CONCURRENT_CONNECTIONS
@@ -67,8 +74,8 @@ fn are_many(concurrent: bool, home: Option<&str>) -> bool
 impl<'a> Options<'a> {
     /// Takes what `clap` reads of the words, whether or not it can be given together.
     fn taken<S: AsStr>(alloc: Global, words: &'a [S]) -> Result<Options<'a>, Error>
-        ensures said { IfOk result (OptionsOf (map S.text words.entry.now)) }
-        ensures refused { FailsBy (fault_of nfsd (map S.text words.entry.now)) result }
+        ensures options_are { IfOk result (OptionsOf (map S.text words.entry.now)) }
+        ensures refused { AreReadOr (map S.text words.entry.now) result }
     {
         let matches = command(alloc)?.try_get_matches_from(words)?;
         let bare = matches.get_flag("bare");
@@ -80,12 +87,17 @@ impl<'a> Options<'a> {
         let store = matches.get_str("store");
         let home = matches.get_str("home");
         let many = are_many(concurrent, home);
-        let unsaid = connections_of(many);
+        let default_count = connections_of(many);
+        let any_port = matches.get_flag("any-port");
+        let listen = values(alloc, "--listen <ADDRESS>", matches.get_strs("listen"))?;
+        let allow = values(alloc, "--allow <NETWORK>", matches.get_strs("allow"))?;
         Ok(Options {
             book: matches.get_str("book"),
             bare,
             port: matches.get_one::<u16>("port").unwrap_or(PORT),
-            connections: matches.get_one::<u32>("connections").unwrap_or(unsaid),
+            connections: matches
+                .get_one::<u32>("connections")
+                .unwrap_or(default_count),
             concurrent,
             trail,
             stamped,
@@ -93,18 +105,23 @@ impl<'a> Options<'a> {
             store,
             leases,
             home,
+            listen,
+            allow,
+            any_port,
         })
     }
 
     /// Reads the words, of which the first is the program's name, as in `env::args`.
     ///
-    /// An error is `clap`'s own. It is a mistake in the words, a call for help, options that can't
-    /// be given together (`--home` with an option that it means or with `--bare`, `--bare` with
-    /// `--trail`, `--privileged-ports` or `--store`, `--stamped` without `--trail`), or want of
-    /// memory. Its `Display` is the text for the user.
+    /// An error is `clap`'s own. It is a mistake in the words, a call for help, an address or a
+    /// network that isn't one, options that can't be given together (`--home` with an option that it
+    /// means or with `--bare`; `--bare` with `--trail`, `--store` or an option for what listens;
+    /// `--any-port` with `--privileged-ports`; an address that isn't loopback without `--allow`;
+    /// `--stamped` without `--trail`), too many of them, or want of memory. Its `Display` is the text
+    /// for the user.
     pub fn read<S: AsStr>(alloc: Global, words: &'a [S]) -> Result<Options<'a>, Error>
-        ensures said { IfOk result (OptionsOf (map S.text words.entry.now)) }
-        ensures refused { FailsBy (kinds_of (map S.text words.entry.now)) result }
+        ensures options_are { IfOk result (OptionsOf (map S.text words.entry.now)) }
+        ensures refused { IsTakenOr (map S.text words.entry.now) result }
     {
         let options = Options::taken(alloc, words)?;
         if let Some(mistake) = Mistake::of(&options) {

@@ -1,5 +1,5 @@
-//! A fault keeps `nfslab` from running a script to its end, and is said in two lines on standard
-//! error.
+//! A fault prevents `nfslab` from running a script to its end, and is printed in two lines on
+//! standard error.
 use nfs_hub::HubFault;
 use nfs_tool::ToolFault;
 use nfsc_options::LabOptions;
@@ -7,8 +7,8 @@ use std::fmt;
 use std::fmt::{Display, Formatter};
 use who_book::BookFault;
 
-/// A fault that keeps `nfslab` from running a script to its end. Faults are found in this order. A
-/// reason is missing where there was no memory for it.
+/// A fault that prevents `nfslab` from running a script to its end. Faults are tested in this
+/// order. A reason is missing if there was no memory for it.
 #[derive(Drop)]
 pub(crate) enum Fault {
     /// The book's file can't be read, or isn't UTF-8, for this reason.
@@ -32,8 +32,8 @@ impl Display for Fault {
     }
 }
 
-/// Says why a script wasn't run to its end.
-fn say_failed<R: Eprint>(rt: &R, fault: ToolFault) {
+/// Prints why a script wasn't run to its end.
+fn report_failed<R: Eprint>(rt: &R, fault: ToolFault) {
     let _ = match fault {
         ToolFault::Read => eprintln!(rt; "standard input: it can't be read"),
         ToolFault::Write => eprintln!(rt; "standard output: it can't be written"),
@@ -41,8 +41,8 @@ fn say_failed<R: Eprint>(rt: &R, fault: ToolFault) {
     };
 }
 
-/// Says a fault in two lines on standard error. What can't be said isn't said.
-pub(crate) fn say<R: Eprint>(rt: &R, options: &LabOptions<'_>, fault: &Fault) {
+/// Prints a fault in two lines on standard error. A failure to print isn't reported.
+pub(crate) fn report<R: Eprint>(rt: &R, options: &LabOptions<'_>, fault: &Fault) {
     let _ = eprintln!(rt; "nfslab: {fault}");
     match fault {
         Fault::File(Some(why)) | Fault::Book(_, Some(why)) => {
@@ -53,6 +53,6 @@ pub(crate) fn say<R: Eprint>(rt: &R, options: &LabOptions<'_>, fault: &Fault) {
         Fault::File(None) | Fault::Book(_, None) | Fault::Hub => {
             let _ = eprintln!(rt; "there is no memory for it");
         }
-        Fault::Failed(fault) => say_failed(rt, *fault),
+        Fault::Failed(fault) => report_failed(rt, *fault),
     }
 }

@@ -1,16 +1,16 @@
 //! `nfslab`: runs a script of commands on an NFS version 4.1 server (RFC 8881) in memory, from
 //! standard input to standard output.
 //!
-//! The status is 0; 2 where the words aren't understood, with `clap`'s text on standard error; and
-//! else 1. It is 1 after a line that was answered `bad line`, `failed N` or `book N`, and after a
-//! fault of the whole, in two lines on standard error.
+//! The status is 0. It is 2 if the words aren't understood, with `clap`'s text on standard error;
+//! and else 1. It is 1 after a line that was answered `bad line`, `failed N` or `book N`, and after
+//! a fault of the whole run, in two lines on standard error.
 #![tactic(auto)]
 
 mod fault;
 
 use anyhow::Result;
 use book_words::explain;
-use fault::{Fault, say};
+use fault::{Fault, report};
 use nfs_hub::Hub;
 use nfs_tool::{Texts, script};
 use nfsc_options::LabOptions;
@@ -49,7 +49,7 @@ fn book<R: Files + Alloc>(rt: &R, alloc: Global, file: Option<&str>) -> Result<B
     }
 }
 
-/// The hub of a root alone, with the owner and the group of the book.
+/// The hub of a root directory alone, with the owner and the group of the book.
 fn hub<R: Files + Alloc>(
     rt: &R,
     alloc: Global,
@@ -60,7 +60,8 @@ fn hub<R: Files + Alloc>(
     Hub::new(alloc, book, hasher).map_err(|_| Fault::Hub)
 }
 
-/// Runs the script on standard input. Whether no line was answered `bad line`, `failed N` or `book N`.
+/// Runs the script on standard input. Returns whether no line was answered `bad line`, `failed N`
+/// or `book N`.
 fn run<R: Files + AllocGlobal + Input + Print>(
     rt: &R,
     alloc: Global,
@@ -80,9 +81,9 @@ fn run<R: Files + AllocGlobal + Input + Print>(
     .map_err(Fault::Failed)
 }
 
-/// Says on standard error what `clap` says of the words. A fault has the program's name in front,
-/// and help stays as it is.
-fn say_words<R: Eprint, E: Display>(rt: &R, alloc: Global, error: &E) -> Result<()> {
+/// Prints on standard error what `clap` reports of the words. A fault begins with the program's
+/// name, and help is unchanged.
+fn report_words<R: Eprint, E: Display>(rt: &R, alloc: Global, error: &E) -> Result<()> {
     let text = format!(in alloc; "{error}")?;
     match text.as_str().strip_prefix("error: ") {
         Some(fault) => eprint!(rt; "nfslab: {fault}")?,
@@ -91,12 +92,12 @@ fn say_words<R: Eprint, E: Display>(rt: &R, alloc: Global, error: &E) -> Result<
     Ok(())
 }
 
-/// Runs a script by the words of the command line. The status of the program.
+/// Runs a script by the words of the command line. Returns the status of the program.
 fn run_words(rt: &HostRuntime, alloc: Global, words: &[String]) -> Result<ExitCode> {
     let options = match LabOptions::read(alloc, words) {
         Ok(options) => options,
         Err(error) => {
-            let _ = say_words(rt, alloc, &error);
+            let _ = report_words(rt, alloc, &error);
             return Ok(ExitCode::from(2));
         }
     };
@@ -104,7 +105,7 @@ fn run_words(rt: &HostRuntime, alloc: Global, words: &[String]) -> Result<ExitCo
         Ok(true) => Ok(ExitCode::SUCCESS),
         Ok(false) => Ok(ExitCode::FAILURE),
         Err(fault) => {
-            say(rt, &options, &fault);
+            report(rt, &options, &fault);
             Ok(ExitCode::FAILURE)
         }
     }

@@ -2,8 +2,8 @@
 use std::io;
 use std::io::Write;
 
-/// Writes a name. Control characters and the backslash are written as `\x` and two hexadecimal
-/// digits, so that a line is one name's.
+/// Writes a name. Control characters and the backslash are written as `\x` and two hexadecimal digits, so that each
+/// line is one name.
 pub(crate) fn write_name<W: Write>(out: &mut W, name: &[u8]) -> io::Result<()> {
     for byte in name {
         let byte = *byte;

@@ -1,4 +1,4 @@
-//! Writing a tree out to a directory of this system.
+//! Exporting a tree to a directory of this system.
 use crate::escaped::write_name;
 use crate::fault::{Fault, Stopped};
 use crate::listing::mode_in;
@@ -18,19 +18,19 @@ use who_book::Book;
 /// The mode of a file before its own is set.
 const OWN_FILE: u32 = 0o600;
 
-/// The bits of a mode that are set on what its owner couldn't be given.
+/// The bits of a mode that are set even if the owner couldn't be set.
 const PLAIN: u32 = 0o777;
 
-/// The tree that is written out, and where.
+/// The exported tree, and its destination.
 #[derive(Drop)]
 struct Export<'a> {
     alloc: Global,
     tree: &'a Tree,
     /// The directory that becomes the root.
     root: &'a str,
-    /// The first path of each object with more names than one.
+    /// The first path of each object with more than one name.
     firsts: BTreeMap<u64, String, Global>,
-    /// The directories, each after the one that it is in.
+    /// The directories, each after its parent.
     directories: Vec<(u64, String)>,
 }
 
@@ -47,8 +47,7 @@ fn bytes_of(
     Ok(bytes)
 }
 
-/// Gives a path the owner, the group and the mode of an object. Bits above 0o777 are set only where
-/// the owner could be given.
+/// Sets the owner, the group and the mode of an object at a path. Bits above 0o777 are set only if the owner was set.
 fn dress<R: Files>(rt: &R, path: &str, node: &Node<Global>) -> Result<(), Fault> {
     let owned = lchown(rt, path, Some(node.owner()), Some(node.group()));
     if node.kind() == Kind::Link {
@@ -104,7 +103,7 @@ impl Export<'_> {
         dress(rt, path, node)
     }
 
-    /// Makes an object, or one more name of it.
+    /// Makes an object, or a further name of it.
     fn make<R: Files<File = File>>(
         &mut self,
         rt: &R,
@@ -132,7 +131,7 @@ impl Export<'_> {
         Ok(())
     }
 
-    /// Gives the directories their owners and modes, the lowest first, since a mode may keep others out.
+    /// Sets the owners and modes of the directories, the lowest first, since a mode may deny access.
     fn dress_directories<R: Files>(&self, rt: &R) -> Result<(), Fault> {
         for (number, path) in self.directories.iter().rev() {
             if let Some(node) = self.tree.object(*number) {
@@ -143,7 +142,8 @@ impl Export<'_> {
     }
 }
 
-/// Writes the list of an object at a path: a line with the path, the entries in words, and an empty line.
+/// Writes the ACL (access control list) of an object at a path: a line with the path, the ACEs in words, and an empty
+/// line.
 fn write_list<W: Write>(
     out: &mut W,
     alloc: Global,
@@ -155,7 +155,7 @@ fn write_list<W: Write>(
     write_name(out, path)?;
     out.write_all(b"\n")?;
     for entry in list.as_slice() {
-        let who = book.spell_who(entry.who);
+        let who = book.spell_ace_principal(entry.who);
         let words = Words {
             kind: entry.kind,
             flags: (entry.flags & 0xFF) as u8,
@@ -170,7 +170,7 @@ fn write_list<W: Write>(
     out.write_all(b"\n").map_err(Fault::System)
 }
 
-/// Writes the lists of all paths to a file that is made.
+/// Writes the ACLs of all paths to a new file.
 fn write_lists<R: Files<File = File>>(
     rt: &R,
     alloc: Global,
@@ -195,7 +195,7 @@ fn write_lists<R: Files<File = File>>(
     out.flush().map_err(Fault::System)
 }
 
-/// Writes the objects of a tree below a directory, which is made.
+/// Writes the objects of a tree below a new directory.
 fn write_objects<R: Files<File = File>>(
     rt: &R,
     alloc: Global,
@@ -224,7 +224,7 @@ fn write_objects<R: Files<File = File>>(
     Ok(export.dress_directories(rt)?)
 }
 
-/// Writes a tree to a directory that is made: its objects below `tree` there, and its lists to `acl.txt`.
+/// Exports a tree to a new directory: its objects below `tree` there, and its ACLs to `acl.txt`.
 pub(crate) fn write_tree<R: Files<File = File>>(
     rt: &R,
     alloc: Global,

@@ -1,20 +1,20 @@
-//! Why nothing more is read in or written out.
+//! Why an import or an export stops.
 use node_tree::RestoreFault;
 use std::alloc::{AllocError, AllocFailed};
 use std::fmt::{Display, Formatter};
 use std::io::ErrorKind;
 use std::{fmt, io};
 
-/// Why nothing more is read in or written out.
+/// Why an import or an export stops.
 #[derive(Debug, Drop)]
 pub(crate) enum Fault {
-    /// The system refuses something.
+    /// A call of the system failed.
     System(io::Error),
-    /// A link's text isn't UTF-8, so this system's path can't be given.
+    /// A link's text isn't UTF-8, so it can't be a path of this system.
     Text,
-    /// What was looked at has changed meanwhile, so that no tree takes it.
+    /// A surveyed object has changed meanwhile, so that a tree can't have it.
     Changed,
-    /// There is no memory.
+    /// An allocation failed.
     Memory,
 }
 
@@ -63,7 +63,7 @@ impl Display for Fault {
 /// Where something stopped, and why.
 #[derive(Debug, Drop)]
 pub(crate) struct Stopped {
-    /// The path of this system, where it is known.
+    /// The path of this system, if it is known.
     pub(crate) path: Option<String>,
     pub(crate) fault: Fault,
 }

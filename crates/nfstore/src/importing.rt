@@ -1,31 +1,38 @@
-//! Making a new store of a directory of this system.
+//! Making a new store from a directory of this system.
 use crate::fault::{Fault, Stopped};
+use crate::looking::{Folder, refused};
 use crate::survey::{Item, Survey};
 use acl_list::{AclList, Kind};
 use acl_shape::set_mode;
-use compound_run::Known;
+use call_store::{MACHINE, Store, StoreFault};
+use compound_run::ClientState;
+use nfs_hub::Hub;
 use node_tree::{Kept, Moment, NewObject, RestoreFault, Restoring, Tree};
+use session_slots::RestoreFault as Unrestored;
 use std::alloc::Global;
 use std::fs;
+use std::hash::RandomState;
 use std::os::unix::fs::MetadataExt;
-use store_files::{StoreFolder, StoreStop};
-use tree_store::{Store, StoreFault, open};
+use store_folder::{StoreFolder, StoreStop};
+use store_journal::{Current, load};
+use store_words::Stop;
+use who_book::Book;
 
-/// The bits of a mode for which no entry of a list stands.
+/// The bits of a mode that no ACE (access control entry) represents.
 const HIGH: u32 = 0o7000;
 
-/// The bits of a mode that make a list.
+/// The bits of a mode that make an ACL (access control list).
 const PERMISSIONS: u32 = 0o777;
 
 /// The cookie of the first name.
 const FIRST_COOKIE: u64 = 3;
 
-/// The number of an object at a place: the root's is 1.
+/// The number of the object at a place in the survey: the root's is 1.
 fn number_of(place: usize) -> u64 {
     (place as u64).saturating_add(1)
 }
 
-/// A moment of this system; the epoch's nanoseconds are below 1,000,000,000.
+/// A moment of this system, with nanoseconds below 1,000,000,000.
 fn moment(seconds: i64, nanoseconds: i64) -> Moment {
     Moment {
         seconds,
@@ -48,15 +55,15 @@ fn bytes_of(rt: &HostRuntime, alloc: Global, item: &Item) -> Result<Vec<u8>, Fau
     }
 }
 
-/// The parts of a new object. Its list is that of its mode.
+/// The parts of a new object. Its ACL is that of its mode.
 fn object_of(rt: &HostRuntime, alloc: Global, item: &Item) -> Result<NewObject<Global>, Fault> {
-    let mode = item.told.mode();
+    let mode = item.metadata.mode();
     let none = AclList::from_vec(Vec::new(alloc));
     Ok(NewObject {
         kind: item.kind,
         bytes: bytes_of(rt, alloc, item)?,
-        owner: item.told.uid(),
-        group: item.told.gid(),
+        owner: item.metadata.uid(),
+        group: item.metadata.gid(),
         list: set_mode(alloc, &none, item.kind, mode & PERMISSIONS)?,
         high: mode & HIGH,
     })
@@ -65,13 +72,13 @@ fn object_of(rt: &HostRuntime, alloc: Global, item: &Item) -> Result<NewObject<G
 fn kept_of(item: &Item, number: u64) -> Kept {
     Kept {
         change: number,
-        time_modify: moment(item.told.mtime(), item.told.mtime_nsec()),
-        time_metadata: moment(item.told.ctime(), item.told.ctime_nsec()),
+        time_modify: moment(item.metadata.mtime(), item.metadata.mtime_nsec()),
+        time_metadata: moment(item.metadata.ctime(), item.metadata.ctime_nsec()),
         stamp: number,
     }
 }
 
-/// Takes an object.
+/// Adds an object to the tree.
 fn take_object(
     rt: &HostRuntime,
     alloc: Global,
@@ -83,7 +90,7 @@ fn take_object(
     Ok(restoring.object(number, new, kept_of(item, number))?)
 }
 
-/// Takes all objects.
+/// Adds all objects to the tree.
 fn take_objects(
     rt: &HostRuntime,
     alloc: Global,
@@ -103,7 +110,7 @@ fn take_objects(
     Ok(restoring)
 }
 
-/// Takes all names.
+/// Adds all names to the tree.
 fn take_names(
     survey: &Survey<'_>,
     begun: Restoring<Global>,
@@ -139,32 +146,58 @@ fn tree_of(rt: &HostRuntime, alloc: Global, survey: &Survey<'_>) -> Result<Tree,
 /// Why a store isn't made.
 #[derive(Debug, Drop)]
 pub(crate) enum Unmade {
-    /// What the directory has isn't taken: this stopped it.
+    /// The directory has something that a tree can't have: this stopped it.
     Stopped(Stopped),
     /// The folder has a store.
     Taken,
-    /// The store isn't written.
-    Store(StoreStop),
+    /// The store can't be written.
+    Store(Stop),
+}
+
+/// A server over a tree, which has no client and no book.
+fn hub_over(alloc: Global, tree: Tree, hasher: RandomState) -> Result<Hub, StoreFault> {
+    let nobody = ClientState::nothing(alloc);
+    match Hub::restored(alloc, tree, nobody, Book::default(alloc), hasher) {
+        Ok(hub) => Ok(hub),
+        Err(Unrestored::Misfit) => Err(StoreFault::Unfit),
+        Err(Unrestored::Memory) => Err(StoreFault::Memory),
+    }
+}
+
+/// CURRENT of the new store of a folder.
+fn new_current(alloc: Global, folder: &mut Folder<'_>) -> Result<Current, Unmade> {
+    let loaded = match load(folder, alloc) {
+        Ok(loaded) => loaded,
+        Err(fault) => return Err(Unmade::Store(refused(alloc, folder, fault))),
+    };
+    match (loaded.current, folder.new_identity()) {
+        (Some(current), _) if current.generation != 0 => Err(Unmade::Taken),
+        (Some(current), _) => Ok(current),
+        (None, Some(identity)) => Ok(Current::new(identity, MACHINE)),
+        (None, None) => Err(Unmade::Store(Stop::Folder(StoreStop::Failed(None)))),
+    }
 }
 
 /// Writes a tree to a new store.
-fn write_store(alloc: Global, folder: &mut StoreFolder, tree: &Tree) -> Result<bool, StoreFault> {
-    let key = folder.key();
-    let (base, found) = open(folder, alloc, key)?;
-    if found.is_some() {
-        return Ok(false);
-    }
-    let nobody = Known::nothing(alloc);
-    let _store = Store::start(folder, alloc, base, tree, nobody.lend())?;
-    Ok(true)
+fn write_store(
+    alloc: Global,
+    folder: &mut Folder<'_>,
+    current: Current,
+    tree: Tree,
+    hasher: RandomState,
+) -> Result<(), StoreFault> {
+    let hub = hub_over(alloc, tree, hasher)?;
+    let _store = Store::begin(folder, alloc, current, hub.server())?;
+    Ok(())
 }
 
-/// Makes a new store of what was looked at.
+/// Makes a new store from the survey.
 pub(crate) fn import(
     rt: &HostRuntime,
     alloc: Global,
     path: &str,
     survey: &Survey<'_>,
+    hasher: RandomState,
 ) -> Result<(), Unmade> {
     let tree = match tree_of(rt, alloc, survey) {
         Ok(tree) => tree,
@@ -172,11 +205,11 @@ pub(crate) fn import(
     };
     let mut folder = match StoreFolder::open(rt, path) {
         Ok(folder) => folder,
-        Err(fault) => return Err(Unmade::Store(StoreStop::from(fault))),
+        Err(fault) => return Err(Unmade::Store(Stop::Folder(StoreStop::from(fault)))),
     };
-    match write_store(alloc, &mut folder, &tree) {
-        Ok(true) => Ok(()),
-        Ok(false) => Err(Unmade::Taken),
-        Err(fault) => Err(Unmade::Store(crate::looking::stop_of(alloc, &mut folder, fault))),
+    let current = new_current(alloc, &mut folder)?;
+    match write_store(alloc, &mut folder, current, tree, hasher) {
+        Ok(()) => Ok(()),
+        Err(fault) => Err(Unmade::Store(Stop::of(alloc, &mut folder, fault))),
     }
 }

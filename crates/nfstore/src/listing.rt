@@ -1,16 +1,16 @@
 //! The paths of a tree, a line each.
 use crate::escaped::write_name;
-use crate::looking::Looked;
 use crate::walk::Walk;
 use acl_list::Kind;
 use acl_shape::mode_of;
 use anyhow::Result;
+use call_store::Looked;
 use node_tree::{Node, Tree};
 use std::alloc::Global;
 use std::io;
 use std::io::{BufWriter, Write};
 
-/// The kind in a word.
+/// The word for a type.
 fn word_of(kind: Kind) -> &'static str {
     match kind {
         Kind::File => "file",
@@ -37,7 +37,7 @@ fn write_line<W: Write>(out: &mut W, tree: &Tree, number: u64, path: &[u8]) -> i
     out.write_all(b"\n")
 }
 
-/// Writes all lines: the root's, and after each directory what is in it.
+/// Writes all lines: the root's, and after each directory its content.
 fn write_all<W: Write>(out: &mut W, alloc: Global, tree: &Tree) -> Result<()> {
     write_line(out, tree, tree.root(), b"/")?;
     let mut walk = Walk::new(alloc, tree)?;
@@ -51,10 +51,10 @@ fn write_all<W: Write>(out: &mut W, alloc: Global, tree: &Tree) -> Result<()> {
 }
 
 /// Prints the paths of a store.
-pub(crate) fn print<R: Print>(rt: &R, alloc: Global, looked: &Looked) -> Result<()> {
+pub(crate) fn print<R: Print>(rt: &R, alloc: Global, looked: &Option<Looked>) -> Result<()> {
     let mut out = BufWriter::new(alloc, io::writer(rt))?;
-    if let Some(found) = &looked.found {
-        write_all(&mut out, alloc, &found.tree)?;
+    if let Some(looked) = looked {
+        write_all(&mut out, alloc, looked.restart.server().tree())?;
     }
     out.flush()?;
     Ok(())

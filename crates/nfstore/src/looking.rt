@@ -1,74 +1,72 @@
-//! Looking at a store.
-use journal::{OpenFault, Slot, choose, load};
+//! Reading a store. Nothing is written.
+use call_store::Looked;
 use std::alloc::Global;
-use std::fs::File;
-use std::rt::Files;
-use store_files::{Standing, StoreFolder, StoreStop, what_stands};
-use tree_store::{Found, StoreFault, open};
+use std::hash::RandomState;
+use store_folder::{StoreFolder, StoreStop};
+use store_journal::{Chosen, Loaded, OpenFault, choose, load};
+use store_words::Stop;
 
-/// A store has this.
-#[derive(Drop)]
-pub(crate) struct Looked {
-    /// The file that counts, and what stands in it; `None`, where nothing is kept yet.
-    pub(crate) counts: Option<Counting>,
-    pub(crate) found: Option<Found<Global>>,
-}
+/// The folder of a store, on the host's file system.
+pub(crate) type Folder<'r> = StoreFolder<&'r HostRuntime>;
 
-/// The file that counts.
-#[derive(Clone, Copy)]
-pub(crate) struct Counting {
-    pub(crate) slot: Slot,
-    pub(crate) standing: Standing,
-    pub(crate) records: usize,
-}
-
-/// The file that counts, if one does. `Err`: there is no memory, or what was found has changed.
-fn what_counts(alloc: Global, folder: &mut StoreFolder) -> Result<Option<Counting>, OpenFault> {
-    let key = folder.key();
-    let (a, b) = load(folder, alloc)?;
-    let chosen = choose(alloc, key, &a, &b)?;
-    if !chosen.is_whole {
-        return Ok(None);
-    }
-    let bytes = match chosen.slot {
-        Slot::A => &a,
-        Slot::B => &b,
-    };
-    Ok(Some(Counting {
-        slot: chosen.slot,
-        standing: what_stands(key, bytes),
-        records: chosen.records.len(),
-    }))
-}
-
-/// Why a store isn't gone on with, by what it says.
-pub(crate) fn stop_of(alloc: Global, folder: &mut StoreFolder, fault: StoreFault) -> StoreStop {
-    match fault {
-        StoreFault::Failed => StoreStop::failed(folder),
-        StoreFault::Version => StoreStop::version(alloc, folder),
-        StoreFault::Damaged => StoreStop::damaged(alloc, folder),
-        StoreFault::Memory => StoreStop::Memory,
+/// Opens the folder of a store to read it.
+fn open_to_read<'r>(rt: &'r HostRuntime, path: &str) -> Result<Folder<'r>, Stop> {
+    match StoreFolder::open_to_read(rt, path) {
+        Ok(folder) => Ok(folder),
+        Err(fault) => Err(Stop::Folder(StoreStop::from(fault))),
     }
 }
 
-/// Looks at the store of a folder.
-pub(crate) fn look<R: Files<File = File> + Alloc>(
-    rt: &R,
+/// Reads the store of a folder. `None`: no checkpoint was finished yet.
+pub(crate) fn look(
+    rt: &HostRuntime,
     alloc: Global,
     path: &str,
-) -> Result<Looked, StoreStop> {
-    let mut folder = match StoreFolder::open_to_read(rt, path) {
-        Ok(folder) => folder,
-        Err(fault) => return Err(StoreStop::from(fault)),
+    hasher: RandomState,
+) -> Result<Option<Looked>, Stop> {
+    let mut folder = open_to_read(rt, path)?;
+    match call_store::look(&mut folder, alloc, alloc, hasher) {
+        Ok(looked) => Ok(looked),
+        Err(fault) => Err(Stop::of(alloc, &mut folder, fault)),
+    }
+}
+
+/// The folder of a store that was loaded.
+#[derive(Drop)]
+pub(crate) struct Opened<'r> {
+    pub(crate) folder: Folder<'r>,
+    pub(crate) loaded: Loaded<Global>,
+}
+
+impl<'r> Opened<'r> {
+    /// Loads the store of a folder.
+    pub(crate) fn load(rt: &'r HostRuntime, alloc: Global, path: &str) -> Result<Self, Stop> {
+        let mut folder = open_to_read(rt, path)?;
+        match load(&mut folder, alloc) {
+            Ok(loaded) => Ok(Opened { folder, loaded }),
+            Err(fault) => Err(refused(alloc, &mut folder, fault)),
+        }
+    }
+}
+
+/// Why a store isn't read, by the fault of its journal.
+pub(crate) fn refused(alloc: Global, folder: &mut Folder<'_>, fault: OpenFault) -> Stop {
+    Stop::Folder(StoreStop::refused(alloc, folder, fault))
+}
+
+/// The content of the active file. `None`: no checkpoint was finished yet.
+pub(crate) fn chosen<'a>(
+    alloc: Global,
+    loaded: &'a Loaded<Global>,
+) -> Result<Option<Chosen<'a, Global>>, OpenFault> {
+    let Some(current) = loaded.current else {
+        return Ok(None);
     };
-    let key = folder.key();
-    let found = match open(&mut folder, alloc, key) {
-        Ok((_, found)) => found,
-        Err(fault) => return Err(stop_of(alloc, &mut folder, fault)),
-    };
-    match what_counts(alloc, &mut folder) {
-        Ok(counts) => Ok(Looked { counts, found }),
-        Err(OpenFault::Failed) => Err(StoreStop::failed(&mut folder)),
-        Err(_) => Err(StoreStop::Memory),
+    if current.generation == 0 {
+        return Ok(None);
+    }
+    match choose(alloc, current, &loaded.bytes) {
+        Ok(chosen) => Ok(Some(chosen)),
+        Err(fault) => Err(fault),
     }
 }

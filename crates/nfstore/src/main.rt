@@ -1,34 +1,42 @@
-//! `nfstore`: says what the store of a server has, writes it out, or makes a new one.
+//! `nfstore`: prints the content of a server's store, exports it, closes it, or makes a new one.
 //!
-//! The status is 0; 2 where the words aren't understood, with `clap`'s text on standard error; and
-//! else 1, with what is wrong and where on standard error.
+//! The status is 0; 2 if the words aren't understood, with `clap`'s text on standard error; and else 1, with what is
+//! wrong and where on standard error.
 #![tactic(auto)]
 
+mod calls;
+mod closing;
 mod escaped;
 mod exporting;
 mod fault;
 mod importing;
 mod listing;
 mod looking;
+mod operations;
 mod options;
+mod paths;
 mod summary;
 mod survey;
 mod walk;
 
 use anyhow::Result;
+use call_store::Looked;
+use calls::Broken;
 use exporting::write_tree;
 use fault::Stopped;
 use importing::{Unmade, import};
-use looking::{Looked, look};
-use options::Options;
+use looking::look;
+use options::{Options, Task};
 use std::alloc::Global;
 use std::env;
 use std::fmt::Display;
+use std::hash::RandomState;
 use std::process::ExitCode;
+use store_words::Stop;
 use survey::look_at;
 
-/// Says where something stopped, and why. The directory is where no other path is known.
-fn say_stopped(rt: &HostRuntime, directory: &str, stopped: &Stopped) -> ExitCode {
+/// Reports where something stopped, and why. If no other path is known it is that of the directory.
+fn report_stopped(rt: &HostRuntime, directory: &str, stopped: &Stopped) -> ExitCode {
     let path = match &stopped.path {
         Some(path) => path.as_str(),
         None => directory,
@@ -38,67 +46,133 @@ fn say_stopped(rt: &HostRuntime, directory: &str, stopped: &Stopped) -> ExitCode
     ExitCode::FAILURE
 }
 
-/// Writes out what a store has.
+/// Reports why a store can't be used.
+fn report_stop(rt: &HostRuntime, folder: &str, stop: &Stop) -> ExitCode {
+    let _ = eprintln!(rt; "nfstore: {folder}{stop}");
+    ExitCode::FAILURE
+}
+
+/// Reports that a store has no checkpoint.
+fn report_nothing(rt: &HostRuntime, folder: &str) -> ExitCode {
+    let _ = eprintln!(rt; "nfstore: {folder}: nothing is kept yet");
+    ExitCode::FAILURE
+}
+
+/// Exports the content of a store.
 fn write_out(
     rt: &HostRuntime,
     alloc: Global,
     folder: &str,
-    looked: &Looked,
+    looked: &Option<Looked>,
     directory: &str,
 ) -> ExitCode {
-    let Some(found) = &looked.found else {
-        let _ = eprintln!(rt; "nfstore: {folder}: nothing is kept yet");
-        return ExitCode::FAILURE;
+    let Some(looked) = looked else {
+        return report_nothing(rt, folder);
     };
-    match write_tree(rt, alloc, &found.tree, directory) {
+    match write_tree(rt, alloc, looked.restart.server().tree(), directory) {
         Ok(()) => ExitCode::SUCCESS,
-        Err(stopped) => say_stopped(rt, directory, &stopped),
+        Err(stopped) => report_stopped(rt, directory, &stopped),
     }
 }
 
-/// Says what a store has, or writes it out.
-fn show(rt: &HostRuntime, alloc: Global, options: &Options<'_>) -> Result<ExitCode> {
-    let folder = options.folder;
-    let looked = match look(rt, alloc, folder) {
-        Ok(looked) => looked,
-        Err(stop) => {
-            let _ = eprintln!(rt; "nfstore: {folder}{stop}");
-            return Ok(ExitCode::FAILURE);
+/// How the content of a store is printed or exported.
+#[derive(Clone, Copy)]
+enum Output<'a> {
+    Summary,
+    Tree,
+    /// It is exported to this directory.
+    Export(&'a str),
+}
+
+/// Prints the content of a store, or exports it.
+fn print_found(
+    rt: &HostRuntime,
+    alloc: Global,
+    folder: &str,
+    looked: &Option<Looked>,
+    output: Output<'_>,
+) -> Result<ExitCode> {
+    match output {
+        Output::Export(directory) => Ok(write_out(rt, alloc, folder, looked, directory)),
+        Output::Tree => {
+            listing::print(rt, alloc, looked)?;
+            Ok(ExitCode::SUCCESS)
         }
-    };
-    if let Some(directory) = options.export {
-        return Ok(write_out(rt, alloc, folder, &looked, directory));
+        Output::Summary => {
+            summary::print(rt, alloc, looked)?;
+            Ok(ExitCode::SUCCESS)
+        }
     }
-    if options.tree {
-        listing::print(rt, alloc, &looked)?;
-    } else {
-        summary::print(rt, alloc, &looked)?;
-    }
-    Ok(ExitCode::SUCCESS)
 }
 
-/// Makes a new store of a directory. What no tree takes is said first, and then nothing is written.
-fn make(rt: &HostRuntime, alloc: Global, folder: &str, directory: &str) -> ExitCode {
+/// Reads a store, and prints its content or exports it.
+fn print_store(
+    rt: &HostRuntime,
+    alloc: Global,
+    folder: &str,
+    hasher: RandomState,
+    output: Output<'_>,
+) -> Result<ExitCode> {
+    match look(rt, alloc, folder, hasher) {
+        Ok(looked) => print_found(rt, alloc, folder, &looked, output),
+        Err(stop) => Ok(report_stop(rt, folder, &stop)),
+    }
+}
+
+/// Prints the entries of a store's log.
+fn print_calls(rt: &HostRuntime, alloc: Global, folder: &str, hasher: RandomState) -> ExitCode {
+    match calls::print(rt, alloc, folder, hasher) {
+        Ok(()) => ExitCode::SUCCESS,
+        Err(Broken::Stop(stop)) => report_stop(rt, folder, &stop),
+        Err(Broken::Store(fault)) => {
+            let _ = eprintln!(rt; "nfstore: {folder}: {fault}");
+            ExitCode::FAILURE
+        }
+        Err(Broken::Output(error)) => {
+            let _ = eprintln!(rt; "nfstore: {error}");
+            ExitCode::FAILURE
+        }
+    }
+}
+
+/// Writes a checkpoint, so that no entry is left after it.
+fn close(rt: &HostRuntime, alloc: Global, folder: &str, hasher: RandomState) -> ExitCode {
+    match closing::close(rt, alloc, folder, hasher) {
+        Ok(true) => ExitCode::SUCCESS,
+        Ok(false) => report_nothing(rt, folder),
+        Err(stop) => report_stop(rt, folder, &stop),
+    }
+}
+
+/// Makes a new store from a directory. What a tree can't have is reported first, and then nothing is written.
+fn make(
+    rt: &HostRuntime,
+    alloc: Global,
+    folder: &str,
+    hasher: RandomState,
+    directory: &str,
+) -> ExitCode {
     let survey = match look_at(rt, alloc, directory) {
         Ok(survey) => survey,
-        Err(stopped) => return say_stopped(rt, directory, &stopped),
+        Err(stopped) => return report_stopped(rt, directory, &stopped),
     };
     if survey.refused > 0 {
         return ExitCode::FAILURE;
     }
-    let said = match import(rt, alloc, folder, &survey) {
-        Ok(()) => return ExitCode::SUCCESS,
-        Err(Unmade::Stopped(stopped)) => return say_stopped(rt, directory, &stopped),
-        Err(Unmade::Taken) => eprintln!(rt; "nfstore: {folder}: it has a store"),
-        Err(Unmade::Store(stop)) => eprintln!(rt; "nfstore: {folder}{stop}"),
-    };
-    let _ = said;
-    ExitCode::FAILURE
+    match import(rt, alloc, folder, &survey, hasher) {
+        Ok(()) => ExitCode::SUCCESS,
+        Err(Unmade::Stopped(stopped)) => report_stopped(rt, directory, &stopped),
+        Err(Unmade::Store(stop)) => report_stop(rt, folder, &stop),
+        Err(Unmade::Taken) => {
+            let _ = eprintln!(rt; "nfstore: {folder}: it has a store");
+            ExitCode::FAILURE
+        }
+    }
 }
 
-/// Says on standard error what `clap` says of the words. A fault has the program's name in front,
-/// and help stays as it is.
-fn say_words<R: Eprint, E: Display>(rt: &R, alloc: Global, error: &E) -> Result<()> {
+/// Prints `clap`'s text about the words on standard error. A fault has the program's name before it, and help is
+/// unchanged.
+fn report_words<R: Eprint, E: Display>(rt: &R, alloc: Global, error: &E) -> Result<()> {
     let text = format!(in alloc; "{error}")?;
     match text.as_str().strip_prefix("error: ") {
         Some(fault) => eprint!(rt; "nfstore: {fault}")?,
@@ -107,22 +181,34 @@ fn say_words<R: Eprint, E: Display>(rt: &R, alloc: Global, error: &E) -> Result<
     Ok(())
 }
 
-/// Does what the words of the command line ask for.
+/// Runs the words of the command line.
 fn run_words(rt: &HostRuntime, alloc: Global, words: &[String]) -> Result<ExitCode> {
     let options = match Options::read(alloc, words) {
         Ok(options) => options,
         Err(error) => {
-            let _ = say_words(rt, alloc, &error);
+            let _ = report_words(rt, alloc, &error);
             return Ok(ExitCode::from(2));
         }
     };
-    match options.import {
-        Some(directory) => Ok(make(rt, alloc, options.folder, directory)),
-        None => show(rt, alloc, &options),
+    let hasher = RandomState::new(rt)?;
+    let folder = options.folder;
+    match options.task {
+        Task::Summary => print_store(rt, alloc, folder, hasher, Output::Summary),
+        Task::Tree => print_store(rt, alloc, folder, hasher, Output::Tree),
+        Task::Export(directory) => print_store(
+            rt,
+            alloc,
+            folder,
+            hasher,
+            Output::Export(directory),
+        ),
+        Task::Calls => Ok(print_calls(rt, alloc, folder, hasher)),
+        Task::Close => Ok(close(rt, alloc, folder, hasher)),
+        Task::Import(directory) => Ok(make(rt, alloc, folder, hasher, directory)),
     }
 }
 
-/// Does what the words ask for that the program was started with.
+/// Runs the words with which the program was started.
 fn run(rt: &HostRuntime) -> Result<ExitCode> {
     let alloc = rt.alloc();
     let words: Vec<String> = env::args(rt)?.collect(alloc)?;

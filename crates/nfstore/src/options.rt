@@ -3,32 +3,51 @@ use clap::error::ErrorKind;
 use clap::{Arg, ArgAction, Command, Error, value_parser};
 use std::alloc::{AllocError, Global};
 
-/// The command does this.
+/// The text of help.
 const ABOUT: &str = "\
 Says what the store in a folder has, which 'nfsd --store FOLDER' keeps, and changes nothing; or,
-with '--import', makes a new one.
+with '--import', makes a new one, and with '--close' writes a checkpoint.
 
-Without an option it says a name and a value on each line: the file that counts, its generation,
-version and frames, the records after its checkpoint, the bytes that a crash tore, the counters, the
-next numbers of clients, sessions and opens, and how many objects and names there are.
+Without an option it says a name and a value on each line: the format, the machine and the profile,
+the file that counts, its generation and frames, the records after its checkpoint and their entries,
+the bytes that a crash tore, the counters, the next numbers of clients, sessions and opens, and how
+many clients, sessions, opens, objects and names there are.
 
 A store that a server has is refused, and a server is refused while this has it.";
 
-/// The words of `nfstore`, where they are taken. At most one of the last three is asked for.
+/// A task for a store.
+#[derive(Clone, Copy, Debug)]
+pub(crate) enum Task<'a> {
+    /// A summary of its content is printed.
+    Summary,
+    /// Its paths are listed.
+    Tree,
+    /// The entries of its log are listed.
+    Calls,
+    /// The tree is exported to this directory.
+    Export(&'a str),
+    /// A new store is made from this directory.
+    Import(&'a str),
+    /// A checkpoint is written, so that no entry is left after it.
+    Close,
+}
+
+/// The words of `nfstore`, if they are valid.
 #[derive(Clone, Copy, Debug)]
 pub(crate) struct Options<'a> {
     /// The folder of the store.
     pub(crate) folder: &'a str,
-    /// Whether the paths are listed.
-    pub(crate) tree: bool,
-    /// The directory to which the tree is written out.
-    pub(crate) export: Option<&'a str>,
-    /// The directory of which a new store is made.
-    pub(crate) import: Option<&'a str>,
+    pub(crate) task: Task<'a>,
 }
 
 const TREE: &str =
     "Lists each path with its object's number, kind, mode, owner, group and size, and the path last";
+
+const CALLS: &str =
+    "Lists each entry of the log: when, who, and which operations, on paths as they were before it";
+
+const CLOSE: &str =
+    "Writes a checkpoint where entries stand after the last one, so that a program of another machine can go on";
 
 const EXPORT: &str =
     "Writes the tree out to this directory, which is made: its objects below 'tree' there, and its lists to 'acl.txt'";
@@ -40,9 +59,11 @@ fn command<'a>(alloc: Global) -> Result<Command<'a>, AllocError> {
     let command = Command::new(alloc, "nfstore")
         .about(ABOUT)
         .arg(folder(alloc))?
-        .arg(tree(alloc))?
+        .arg(flag(alloc, "tree", TREE))?
+        .arg(flag(alloc, "calls", CALLS))?
         .arg(directory(alloc, "export", EXPORT))?
-        .arg(directory(alloc, "import", IMPORT))?;
+        .arg(directory(alloc, "import", IMPORT))?
+        .arg(flag(alloc, "close", CLOSE))?;
     Ok(command)
 }
 
@@ -53,12 +74,13 @@ fn folder<'a>(alloc: Global) -> Arg<'a> {
         .help("The folder of the store")
 }
 
-fn tree<'a>(alloc: Global) -> Arg<'a> {
-    Arg::new(alloc, "tree")
-        .long("tree")
+/// An option without a value.
+fn flag<'a>(alloc: Global, name: &'a str, help: &'a str) -> Arg<'a> {
+    Arg::new(alloc, name)
+        .long(name)
         .value_parser(value_parser!(bool))
         .action(ArgAction::SetTrue)
-        .help(TREE)
+        .help(help)
 }
 
 /// An option that names a directory of this system.
@@ -69,29 +91,47 @@ fn directory<'a>(alloc: Global, name: &'a str, help: &'a str) -> Arg<'a> {
         .help(help)
 }
 
+/// The one task among these, or the summary. `None`: there are several.
+fn only<'a>(asked: &[Option<Task<'a>>]) -> Option<Task<'a>> {
+    let mut only = None;
+    for task in asked {
+        if let Some(task) = task {
+            if only.is_some() {
+                return None;
+            }
+            only = Some(*task);
+        }
+    }
+    Some(only.unwrap_or(Task::Summary))
+}
+
+/// A task that a flag requests.
+fn by_flag<'a>(is_asked: bool, task: Task<'a>) -> Option<Task<'a>> {
+    if is_asked { Some(task) } else { None }
+}
+
 impl<'a> Options<'a> {
-    /// Reads the words, of which the first is the program's name. An error is `clap`'s own, with the text for the user.
+    /// Reads the words, the first of which is the program's name. An error is `clap`'s own, with the text for the
+    /// user.
     pub(crate) fn read(alloc: Global, words: &'a [String]) -> Result<Options<'a>, Error> {
         let matches = command(alloc)?.try_get_matches_from(words)?;
-        let options = Options {
-            folder: matches.get_str("FOLDER").unwrap_or(""),
-            tree: matches.get_flag("tree"),
-            export: matches.get_str("export"),
-            import: matches.get_str("import"),
-        };
-        if options.asks_for_two() {
-            let text = "of '--tree', '--export <DIR>' and '--import <DIR>' only one is taken";
-            return Err(command(alloc)?.error(ErrorKind::ArgumentConflict, text)?);
-        }
-        Ok(options)
-    }
-
-    /// Whether they ask for two things.
-    fn asks_for_two(&self) -> bool {
-        if self.tree {
-            self.export.is_some() || self.import.is_some()
-        } else {
-            self.export.is_some() && self.import.is_some()
+        let asked = [
+            by_flag(matches.get_flag("tree"), Task::Tree),
+            by_flag(matches.get_flag("calls"), Task::Calls),
+            matches.get_str("export").map(Task::Export),
+            matches.get_str("import").map(Task::Import),
+            by_flag(matches.get_flag("close"), Task::Close),
+        ];
+        match only(&asked) {
+            Some(task) => Ok(Options {
+                folder: matches.get_str("FOLDER").unwrap_or(""),
+                task,
+            }),
+            None => {
+                let text =
+                    "of '--tree', '--calls', '--export <DIR>', '--import <DIR>' and '--close' only one is taken";
+                Err(command(alloc)?.error(ErrorKind::ArgumentConflict, text)?)
+            }
         }
     }
 }

@@ -1,12 +1,20 @@
-//! Says what a store has, a name and a value on each line.
-use crate::looking::Looked;
+//! Prints the summary of a store, a name and a value on each line.
 use anyhow::Result;
-use journal::Slot;
+use call_store::Looked;
+use compound_run::Server;
+use log_entries::count_entries;
 use node_tree::Tree;
 use std::alloc::Global;
 use std::io;
 use std::io::{BufWriter, Write};
-use tree_store::Found;
+use store_folder::{FileFrames, frames_of};
+use store_journal::{Chosen, Slot, choose};
+
+/// The version of CURRENT and of frames. A store of another version isn't opened.
+const FORMAT: u64 = 3;
+
+/// The profile of checkpoints. A store of another profile isn't opened.
+const PROFILE: u64 = 0;
 
 /// How many objects a tree has.
 fn objects(tree: &Tree) -> u64 {
@@ -36,50 +44,98 @@ fn names(tree: &Tree) -> u64 {
     count
 }
 
-/// Writes what stands in the file that counts.
-fn write_files<W: Write>(out: &mut W, looked: &Looked) -> io::Result<()> {
-    let Some(counts) = &looked.counts else {
-        return writeln!(out, "file none");
-    };
-    let standing = counts.standing;
-    let file = match counts.slot {
+/// How many entries records have.
+fn entries(records: &[&[u8]]) -> u64 {
+    let mut count = 0u64;
+    for record in records {
+        count = count.saturating_add(count_entries(record).unwrap_or(0) as u64);
+    }
+    count
+}
+
+/// How many bytes a crash tore after the valid frames, up to the last one that isn't 0. It is 0 if the end of the log
+/// follows the frames.
+fn torn(file: &[u8], frames: FileFrames) -> u64 {
+    if frames.is_ended {
+        return 0;
+    }
+    let mut torn = 0u64;
+    let mut seen = 0u64;
+    for byte in file.iter().skip(file.len().saturating_sub(frames.rest)) {
+        seen = seen.saturating_add(1);
+        if *byte != 0 {
+            torn = seen;
+        }
+    }
+    torn
+}
+
+/// Writes the content of the active file.
+fn write_file<W: Write>(
+    out: &mut W,
+    looked: &Looked,
+    chosen: &Chosen<'_, Global>,
+) -> io::Result<()> {
+    let current = looked.current;
+    let file = match current.slot {
         Slot::A => "tree.a",
         Slot::B => "tree.b",
     };
+    let (format, profile) = (FORMAT, PROFILE);
+    let frames = frames_of(current.identity, current.generation, &looked.file);
+    writeln!(out, "format {format}")?;
+    writeln!(out, "machine {}", current.machine)?;
+    writeln!(out, "profile {profile}")?;
     writeln!(out, "file {file}")?;
-    writeln!(out, "generation {}", standing.generation)?;
-    writeln!(out, "version {}", standing.version)?;
-    writeln!(out, "frames {}", standing.frames)?;
-    writeln!(out, "records {}", counts.records)?;
-    writeln!(out, "torn {}", standing.torn)
+    writeln!(out, "generation {}", current.generation)?;
+    writeln!(out, "begun {}", current.begun)?;
+    writeln!(out, "frames {}", frames.frames)?;
+    writeln!(out, "records {}", chosen.records.len())?;
+    writeln!(out, "entries {}", entries(&chosen.records))?;
+    writeln!(out, "torn {}", torn(&looked.file, frames))
 }
 
-/// Writes what was kept.
-fn write_found<W: Write>(out: &mut W, found: &Found<Global>) -> io::Result<()> {
-    let Found { tree, known } = found;
-    let (next_client, next_session) = known.clients.next_numbers();
-    let (clients, sessions) = known.clients.counts();
+/// Writes the counters of the server.
+fn write_server<W: Write>(out: &mut W, server: &Server) -> io::Result<()> {
+    let tree = server.tree();
+    let next = server.next_numbers();
+    let (clients, sessions) = server.clients().counts();
     writeln!(out, "next-number {}", tree.next_number())?;
     writeln!(out, "next-tick {}", tree.next_tick())?;
     writeln!(out, "next-stamp {}", tree.next_stamp())?;
     writeln!(out, "next-cookie {}", tree.next_cookie())?;
-    writeln!(out, "next-client {next_client}")?;
-    writeln!(out, "next-session {next_session}")?;
-    writeln!(out, "next-open {}", known.next_open)?;
+    writeln!(out, "next-client {}", next.client)?;
+    writeln!(out, "next-session {}", next.session)?;
+    writeln!(out, "next-open {}", next.open_file)?;
     writeln!(out, "clients {clients}")?;
     writeln!(out, "sessions {sessions}")?;
-    writeln!(out, "opens {}", known.opens.len())?;
+    writeln!(out, "opens {}", server.opens().len())?;
     writeln!(out, "objects {}", objects(tree))?;
     writeln!(out, "names {}", names(tree))
 }
 
-/// Prints what a store has.
-pub(crate) fn print<R: Print>(rt: &R, alloc: Global, looked: &Looked) -> Result<()> {
-    let mut out = BufWriter::new(alloc, io::writer(rt))?;
-    write_files(&mut out, looked)?;
-    if let Some(found) = &looked.found {
-        write_found(&mut out, found)?;
+/// Writes the summary of a store.
+fn write_all<W: Write>(out: &mut W, alloc: Global, looked: &Looked) -> io::Result<()> {
+    // it was chosen before, so only an allocation can fail
+    let Ok(chosen) = choose(alloc, looked.current, &looked.file) else {
+        return Err(io::ErrorKind::OutOfMemory.into());
+    };
+    write_file(out, looked, &chosen)?;
+    write_server(out, looked.restart.server())
+}
+
+/// Writes the summary of a store, if it has a checkpoint.
+fn write_looked<W: Write>(out: &mut W, alloc: Global, looked: &Option<Looked>) -> io::Result<()> {
+    match looked {
+        Some(looked) => write_all(out, alloc, looked),
+        None => writeln!(out, "file none"),
     }
+}
+
+/// Prints the summary of a store.
+pub(crate) fn print<R: Print>(rt: &R, alloc: Global, looked: &Option<Looked>) -> Result<()> {
+    let mut out = BufWriter::new(alloc, io::writer(rt))?;
+    write_looked(&mut out, alloc, looked)?;
     out.flush()?;
     Ok(())
 }

@@ -1,4 +1,4 @@
-//! Surveys what a directory of this system has, and what of it no tree takes.
+//! Surveys a directory of this system, and reports what a tree can't have.
 use crate::fault::{Fault, Stopped};
 use acl_list::Kind;
 use node_tree::{MAX_BYTES, MAX_LINKS, MAX_NAME, MAX_NAMES, MAX_OBJECTS, MAX_TEXT};
@@ -13,7 +13,7 @@ use std::{fs, io};
 pub(crate) struct Item {
     pub(crate) path: String,
     pub(crate) kind: Kind,
-    pub(crate) told: Metadata,
+    pub(crate) metadata: Metadata,
     links: usize,
 }
 
@@ -25,41 +25,41 @@ pub(crate) struct Named {
     pub(crate) child: usize,
 }
 
-/// A directory of this system has this.
+/// The content of a directory of this system.
 #[derive(Drop)]
 pub(crate) struct Survey<'a> {
     rt: &'a HostRuntime,
     alloc: Global,
-    /// The directory first, and each other one before what is in it.
+    /// The directory first, and each other directory before its content.
     pub(crate) items: Vec<Item>,
     pub(crate) names: Vec<Named>,
-    /// The places of files with more names than one, by their device and number.
+    /// The places of files with more than one name, by their device and number.
     places: BTreeMap<(u64, u64), usize, Global>,
-    /// How many things no tree takes. Each was said.
+    /// The number of things that a tree can't have. Each was reported.
     pub(crate) refused: u64,
 }
 
-/// The kind of an object, if a tree has such.
-fn kind_of(told: &Metadata) -> Option<Kind> {
-    if told.is_dir() {
+/// The type of an object, if a tree can have it.
+fn kind_of(metadata: &Metadata) -> Option<Kind> {
+    if metadata.is_dir() {
         Some(Kind::Directory)
-    } else if told.is_file() {
+    } else if metadata.is_file() {
         Some(Kind::File)
-    } else if told.is_symlink() {
+    } else if metadata.is_symlink() {
         Some(Kind::Link)
     } else {
         None
     }
 }
 
-/// Why no tree takes an object of this kind and length under this name, if none does.
-fn reason(kind: Kind, told: &Metadata, name: &str) -> Option<&'static str> {
+/// Why a tree can't have an object of this type and length under this name. `None`: it can.
+fn reason(kind: Kind, metadata: &Metadata, name: &str) -> Option<&'static str> {
     if name.len() > MAX_NAME {
         return Some("its name has more than 255 bytes");
     }
     match kind {
-        Kind::File if told.len() > MAX_BYTES => Some("it has more than 1048576 bytes"),
-        Kind::Link if told.len() > MAX_TEXT => Some("its text has more than 1024 bytes"),
+        Kind::File if metadata.len() > MAX_BYTES => Some("it has more than 1048576 bytes"),
+        Kind::Link if metadata.len() > MAX_TEXT => Some("its text has more than 1024 bytes"),
         _ => None,
     }
 }
@@ -76,31 +76,31 @@ fn names_in(rt: &HostRuntime, alloc: Global, path: &str) -> Result<Vec<String>, 
 }
 
 impl Survey<'_> {
-    /// Says that something isn't taken.
+    /// Reports what a tree can't have.
     fn refuse(&mut self, path: &str, why: &str) {
         let rt = self.rt;
         self.refused = self.refused.saturating_add(1);
         let _ = eprintln!(rt; "nfstore: {path}: {why}");
     }
 
-    /// Adds an object; its place.
-    fn add(&mut self, path: String, kind: Kind, told: Metadata) -> Result<usize, Fault> {
+    /// Adds an object, and returns its place.
+    fn add(&mut self, path: String, kind: Kind, metadata: Metadata) -> Result<usize, Fault> {
         let place = self.items.len();
-        if kind == Kind::File && told.nlink() > 1 {
-            self.places.insert((told.dev(), told.ino()), place)?;
+        if kind == Kind::File && metadata.nlink() > 1 {
+            self.places.insert((metadata.dev(), metadata.ino()), place)?;
         }
         self.items.push(Item {
             path,
             kind,
-            told,
+            metadata,
             links: 1,
         })?;
         Ok(place)
     }
 
-    /// The place of a file that has come under another name.
-    fn known(&mut self, path: &str, told: &Metadata) -> Option<usize> {
-        let place = *self.places.get(&(told.dev(), told.ino()))?;
+    /// The place of a file that was found under another name.
+    fn known(&mut self, path: &str, metadata: &Metadata) -> Option<usize> {
+        let place = *self.places.get(&(metadata.dev(), metadata.ino()))?;
         let item = self.items.get_mut(place)?;
         item.links = item.links.saturating_add(1);
         if item.links > MAX_LINKS {
@@ -109,21 +109,21 @@ impl Survey<'_> {
         Some(place)
     }
 
-    /// The place of the object of a name; `None`, where no tree takes it.
+    /// The place of the object of a name. `None`: a tree can't have it.
     fn place_of(&mut self, path: String, name: &str) -> Result<Option<usize>, Fault> {
-        let told = fs::symlink_metadata(self.rt, path.as_str())?;
-        let Some(kind) = kind_of(&told) else {
+        let metadata = fs::symlink_metadata(self.rt, path.as_str())?;
+        let Some(kind) = kind_of(&metadata) else {
             self.refuse(path.as_str(), "it is no file, directory or symbolic link");
             return Ok(None);
         };
-        if let Some(why) = reason(kind, &told, name) {
+        if let Some(why) = reason(kind, &metadata, name) {
             self.refuse(path.as_str(), why);
             return Ok(None);
         }
-        if let Some(place) = self.known(path.as_str(), &told) {
+        if let Some(place) = self.known(path.as_str(), &metadata) {
             return Ok(Some(place));
         }
-        Ok(Some(self.add(path, kind, told)?))
+        Ok(Some(self.add(path, kind, metadata)?))
     }
 
     /// Adds a name of a directory.
@@ -139,7 +139,7 @@ impl Survey<'_> {
         Ok(())
     }
 
-    /// Adds what a directory has.
+    /// Adds the content of a directory.
     fn list(&mut self, directory: usize) -> Result<(), Stopped> {
         let Some(item) = self.items.get(directory) else {
             return Ok(());
@@ -163,7 +163,7 @@ impl Survey<'_> {
         Ok(())
     }
 
-    /// Adds what all directories have.
+    /// Adds the content of all directories.
     fn list_all(&mut self) -> Result<(), Stopped> {
         for directory in 0..MAX_OBJECTS {
             self.list(directory)?;
@@ -179,7 +179,7 @@ impl Survey<'_> {
     }
 }
 
-/// Looks at a directory of this system.
+/// Surveys a directory of this system.
 pub(crate) fn look_at<'a>(
     rt: &'a HostRuntime,
     alloc: Global,
@@ -193,13 +193,13 @@ pub(crate) fn look_at<'a>(
         places: BTreeMap::new(alloc),
         refused: 0,
     };
-    let told = match fs::metadata(rt, directory) {
-        Ok(told) if told.is_dir() => told,
+    let metadata = match fs::metadata(rt, directory) {
+        Ok(metadata) if metadata.is_dir() => metadata,
         Ok(_) => return Err(Stopped::from(Fault::System(io::ErrorKind::NotADirectory.into()))),
         Err(error) => return Err(Stopped::from(Fault::System(error))),
     };
     let path = String::from_str(alloc, directory)?;
-    let _top = survey.add(path, Kind::Directory, told)?;
+    let _top = survey.add(path, Kind::Directory, metadata)?;
     survey.list_all()?;
     Ok(survey)
 }

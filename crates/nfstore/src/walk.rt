@@ -2,8 +2,7 @@
 use node_tree::Tree;
 use std::alloc::{AllocError, Global};
 
-/// A directory whose names are being walked: its number, the cookie of the name that came last, and
-/// the length of its path.
+/// A directory in a walk over its names: its number, the cookie of the last name, and the length of its path.
 #[derive(Clone, Copy)]
 struct Level {
     directory: u64,
@@ -11,8 +10,8 @@ struct Level {
     path: usize,
 }
 
-/// A walk over the paths below the root: each directory before what is in it, names in the order in
-/// which they were made.
+/// A walk over the paths below the root: each directory before its content, names in the order in which they were
+/// made.
 #[derive(Drop)]
 pub(crate) struct Walk {
     levels: Vec<Level>,
@@ -20,7 +19,7 @@ pub(crate) struct Walk {
 }
 
 impl Walk {
-    /// A walk that begins.
+    /// A walk at its start.
     pub(crate) fn new(alloc: Global, tree: &Tree) -> Result<Self, AllocError> {
         let mut levels = Vec::new(alloc);
         levels.push(Level {
@@ -34,12 +33,12 @@ impl Walk {
         })
     }
 
-    /// The path of the object that came last.
+    /// The path of the last object.
     pub(crate) fn path(&self) -> &[u8] {
         self.path.as_slice()
     }
 
-    /// The next name of the lowest directory: its object. `None`: it has no more, and is left.
+    /// The object of the next name of the lowest directory. `None`: it has no more names, and is left.
     fn name(&mut self, tree: &Tree) -> Result<Option<u64>, AllocError> {
         let Some(level) = self.levels.last_mut() else {
             return Ok(None);
@@ -55,7 +54,7 @@ impl Walk {
         Ok(Some(name.child()))
     }
 
-    /// Goes into a directory.
+    /// Enters a directory.
     fn enter(&mut self, directory: u64) -> Result<(), AllocError> {
         self.levels.push(Level {
             directory,

@@ -1,4 +1,4 @@
-//! The choice that the words ask for.
+//! The choice of lines by the words of the command line.
 use crate::choice::Choice;
 use crate::fields::operation_of;
 use crate::moment::{MOMENT, read_moment};
@@ -10,7 +10,7 @@ use std::collections::BTreeSet;
 use std::fmt;
 use std::fmt::{Display, Formatter};
 
-/// Why what the words ask for isn't known.
+/// Why the choice isn't known.
 #[derive(Clone, Copy, Debug, PartialEq, Eq)]
 pub(crate) enum Refusal<'a> {
     /// No user has this name in the book.
@@ -19,22 +19,22 @@ pub(crate) enum Refusal<'a> {
     NoNames(&'a str),
     /// The book with the names can't be read.
     Names,
-    /// This is no path.
+    /// The word is no path.
     NotAPath(&'a str),
     /// There is no object at this path.
     NoObject(&'a str),
     /// The tree isn't known.
     Tree,
-    /// This is no moment.
+    /// The word is no moment.
     NoMoment(&'a str),
     /// There is no operation of this name.
     NoOperation(&'a str),
-    /// There is no memory.
+    /// An allocation failed.
     Memory,
 }
 
 impl<'a> Refusal<'a> {
-    /// Whether the words are wrong, and not what they speak of.
+    /// Whether the words are wrong, and not the files that they refer to.
     pub(crate) fn is_of_words(&self) -> bool {
         !matches!(self, Refusal::Names | Refusal::Tree | Refusal::Memory)
     }
@@ -90,10 +90,10 @@ fn user_of<'a>(names: &Names, word: &'a str) -> Result<u32, Refusal<'a>> {
     }
 }
 
-/// Where the rest of a moment's text stands that a day begins with.
+/// The rest of a moment's text that is the start of a day.
 const MIDNIGHT: &[u8] = b"T00:00:00Z ";
 
-/// The moment of a text and an end that belongs to it.
+/// The moment of a text and the end that completes it.
 fn moment_of(text: &str, end: &[u8]) -> Option<u64> {
     let mut moment = [0u8; MOMENT];
     if text.len() + end.len() != MOMENT {
@@ -136,7 +136,7 @@ fn objects_of<'a>(
     }
 }
 
-/// The choice by words that need no book and no tree.
+/// The choice by options that need no book and no tree.
 fn plain_choice<'a>(options: &Options<'a>) -> Result<Choice, Refusal<'a>> {
     let op = match options.op {
         Some(word) => Some(op_of(word)?),
@@ -154,7 +154,7 @@ fn plain_choice<'a>(options: &Options<'a>) -> Result<Choice, Refusal<'a>> {
     })
 }
 
-/// The choice that the words ask for.
+/// The choice by all options.
 pub(crate) fn choice_of<'a>(
     alloc: Global,
     options: &Options<'a>,

@@ -1,4 +1,4 @@
-//! Which lines are asked for.
+//! Which lines match the options.
 ghost use Rattle.std.specs.Prelude.{◌≡◌};
 ghost use Rattle.nfstrail.specs.Choosing as specs;
 
@@ -6,7 +6,7 @@ use crate::notice::{Notice, Stamped};
 use access_guard::Line;
 use std::collections::BTreeSet;
 
-/// The lines that are asked for. `None` asks for nothing in particular.
+/// The lines that match. `None`: any value matches.
 #[derive(Drop)]
 pub(crate) struct Choice {
     /// The user of a line.
@@ -19,7 +19,7 @@ pub(crate) struct Choice {
     pub(crate) objects: Option<BTreeSet<u64>>,
 }
 
-/// Whether a number is the one that is asked for.
+/// Whether a number matches.
 fn fits(asked: Option<u32>, number: u32) -> bool
     ensures { result ≡ specs.fits asked number }
 {
@@ -29,7 +29,7 @@ fn fits(asked: Option<u32>, number: u32) -> bool
     }
 }
 
-/// Whether an object is one of those that are asked for.
+/// Whether an object matches.
 fn is_among(objects: &Option<BTreeSet<u64>>, object: u64) -> bool
     ensures { result ≡ specs.is_among objects.now object }
 {
@@ -39,7 +39,7 @@ fn is_among(objects: &Option<BTreeSet<u64>>, object: u64) -> bool
     }
 }
 
-/// Whether a moment isn't before the first second. One that isn't known may be after it.
+/// Whether a moment isn't before the first second. An unknown one may be after it.
 fn is_since(first: Option<u64>, second: Option<u64>) -> bool
     ensures { result ≡ specs.is_since first second }
 {
@@ -50,7 +50,7 @@ fn is_since(first: Option<u64>, second: Option<u64>) -> bool
 }
 
 impl Choice {
-    /// Whether all lines are asked for, whatever user, operation and object they have.
+    /// Whether all lines match, whatever user, operation and object they have.
     fn takes_all(&self) -> bool
         ensures { result ≡ specs.takes_all self.now }
     {
@@ -63,8 +63,8 @@ impl Choice {
         fits(self.user, line.uid) && fits(self.op, line.op) && is_among(&self.objects, line.object)
     }
 
-    /// Whether a line of the file is asked for. Missing lines may be anybody's, so their number is
-    /// given whoever is asked for; a start is nobody's.
+    /// Whether a line of the file matches. Missing lines may belong to any user, so they always match by user. A
+    /// start belongs to no user.
     pub(crate) fn takes(&self, stamped: &Stamped) -> bool
         ensures { result ≡ specs.takes self.now stamped.now }
     {

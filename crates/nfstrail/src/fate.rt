@@ -1,22 +1,22 @@
-//! The fate of a line of the file.
+//! How a line of the file is handled.
 ghost use Rattle.nfstrail.specs.Fates.{IsFate};
 
 use crate::choice::Choice;
 use crate::notice::Stamped;
 use crate::reading::read_line;
 
-/// The fate of a line of the file that is ended.
+/// How a line of the file that has its newline is handled.
 #[derive(Clone, Copy, Debug, PartialEq, Eq)]
 pub(crate) enum Fate {
-    /// It is no line of a trail's file, and is passed on whatever is asked for.
+    /// It is no line of a trail's file, and is printed whatever options are given.
     Unread,
-    /// It isn't asked for.
+    /// It doesn't match the options.
     LeftOut(Stamped),
-    /// It is asked for.
+    /// It matches the options.
     Chosen(Stamped),
 }
 
-/// The fate of a line, given without its newline. It is left out only where it says that it isn't asked for.
+/// How a line is handled, without its newline. It is left out only if its own content doesn't match.
 pub(crate) fn fate_of(choice: &Choice, text: &[u8]) -> Fate
     ensures { IsFate choice.now text.now result }
 {

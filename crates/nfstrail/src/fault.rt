@@ -7,11 +7,11 @@ use std::{fmt, io};
 /// Why a file of a home isn't read.
 #[derive(Debug, Drop)]
 pub(crate) enum Fault {
-    /// The system refuses it.
+    /// A call of the system failed.
     System(io::Error),
-    /// It is no regular file, such as a pipe: reading it might never end.
+    /// It is no regular file, for example a pipe: reading it might never end.
     Irregular,
-    /// There is no memory for it.
+    /// An allocation failed.
     Memory,
 }
 

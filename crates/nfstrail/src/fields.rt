@@ -1,12 +1,11 @@
-//! The fields of a line of the trail, as they stand in its text. What is read here is compared with
-//! the text as a whole afterwards.
+//! The fields of a line of the trail, in its text. The result is compared with the text as a whole afterwards.
 use access_guard::{Cause, Line, LineKind};
 use nfs_ops::operation_name;
 
 /// The numbers of operations are below this one (RFC 8881, section 18).
 const OPERATIONS: u32 = 64;
 
-/// The words before the number of lines that are missing.
+/// The words before the number of missing lines.
 pub(crate) const LOST: &str = "LOST lines=";
 
 fn kind_of(word: &str) -> Option<LineKind> {
@@ -59,7 +58,7 @@ fn op_of(word: &str) -> Option<u32> {
     }
 }
 
-/// The line of the trail that a text may be, by its fields in their order.
+/// The line of the trail that a text may represent, by its fields in their order.
 pub(crate) fn line_in(text: &str) -> Option<Line> {
     let mut words = text.split(' ');
     let kind = kind_of(words.next()?)?;
@@ -80,7 +79,7 @@ pub(crate) fn line_in(text: &str) -> Option<Line> {
     })
 }
 
-/// The number of lines that a text may say to be missing.
+/// The number of missing lines that a text may represent.
 pub(crate) fn lost_in(text: &str) -> Option<u64> {
     text.strip_prefix(LOST)?.parse::<u64>().ok()
 }

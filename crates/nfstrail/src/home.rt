@@ -13,11 +13,13 @@ pub(crate) enum Part {
     Trail,
     /// The book of names.
     Book,
-    /// The key of the store.
+    /// CURRENT of the store.
+    Current,
+    /// The key of an earlier form of store.
     Key,
     /// The first file of the store.
     A,
-    /// The second one.
+    /// The second file of the store.
     B,
 }
 
@@ -26,6 +28,7 @@ impl Display for Part {
         f.write_str(match self {
             Part::Trail => "trail.txt",
             Part::Book => "book.toml",
+            Part::Current => "store/CURRENT",
             Part::Key => "store/tree.key",
             Part::A => "store/tree.a",
             Part::B => "store/tree.b",
@@ -54,7 +57,7 @@ impl<'a, R: Files<File = File>> Home<'a, R> {
         open_regular(self.rt, path.as_str())
     }
 
-    /// Opens a file to be read, if it is there.
+    /// Opens a file to be read, if it exists.
     pub(crate) fn find(&self, part: Part) -> Result<Option<File>, Fault> {
         match self.open(part) {
             Ok(file) => Ok(Some(file)),
@@ -66,8 +69,8 @@ impl<'a, R: Files<File = File>> Home<'a, R> {
 
 /// Opens a regular file to be read.
 fn open_regular<R: Files<File = File>>(rt: &R, path: &str) -> Result<File, Fault> {
-    let told = fs::metadata(rt, path)?;
-    if !told.is_file() {
+    let metadata = fs::metadata(rt, path)?;
+    if !metadata.is_file() {
         return Err(Fault::Irregular);
     }
     match File::open(rt, path) {

@@ -1,7 +1,7 @@
 //! `nfstrail`: prints the trail of a home for people.
 //!
-//! The status is 0; it is 2 where the words aren't understood, with a text on standard error. Else
-//! it is 1, with what is wrong and where on standard error. Nothing is written but that.
+//! The status is 0; it is 2 if the words aren't understood, with a text on standard error. Else it is 1, with what is
+//! wrong and where on standard error. Nothing else is written.
 #![tactic(auto)]
 
 mod asking;
@@ -31,14 +31,15 @@ use places::Places;
 use printing::{Broken, Printing, print_lines};
 use std::alloc::Global;
 use std::fs::File;
+use std::hash::RandomState;
 use std::io::{BufReader, BufWriter};
 use std::process::ExitCode;
 use std::rt::Files;
 use std::{env, io};
-use store_now::{Unknown, read_tree};
+use store_now::{Unknown, read_server};
 use words::Meanings;
 
-/// The book and the tree of a home, and whether all of both is known.
+/// The book and the tree of a home, and whether both are known completely.
 #[derive(Drop)]
 struct Known {
     names: Names,
@@ -46,7 +47,7 @@ struct Known {
     is_whole: bool,
 }
 
-/// The names of a home. What is wrong with its book is said.
+/// The names of a home. A fault of its book is reported.
 fn known_names<R: Files<File = File> + Eprint>(home: &Home<'_, R>) -> Names {
     match read_names(home) {
         Ok(names) => names,
@@ -59,9 +60,12 @@ fn known_names<R: Files<File = File> + Eprint>(home: &Home<'_, R>) -> Names {
 }
 
 /// The places of a home's tree.
-fn places_of<R: Files<File = File>>(home: &Home<'_, R>) -> Result<Option<Places>, Unknown> {
-    match read_tree(home) {
-        Ok(Some(tree)) => match Places::new(home.alloc, tree) {
+fn places_of<R: Files<File = File>>(
+    home: &Home<'_, R>,
+    hasher: RandomState,
+) -> Result<Option<Places>, Unknown> {
+    match read_server(home, hasher) {
+        Ok(Some(server)) => match Places::new(home.alloc, server) {
             Ok(places) => Ok(Some(places)),
             Err(_) => Err(Unknown::Memory),
         },
@@ -70,11 +74,11 @@ fn places_of<R: Files<File = File>>(home: &Home<'_, R>) -> Result<Option<Places>
     }
 }
 
-/// Reads the book and the tree of a home. On standard error it says which isn't known.
-fn know<R: Files<File = File> + Eprint>(home: &Home<'_, R>) -> Known {
+/// Reads the book and the tree of a home. On standard error it reports which isn't known.
+fn know<R: Files<File = File> + Eprint>(home: &Home<'_, R>, hasher: RandomState) -> Known {
     let names = known_names(home);
     let has_names = !matches!(names, Names::Unknown);
-    match places_of(home) {
+    match places_of(home, hasher) {
         Ok(places) => Known {
             names,
             places,
@@ -92,8 +96,8 @@ fn know<R: Files<File = File> + Eprint>(home: &Home<'_, R>) -> Known {
     }
 }
 
-/// Says why a file of the home can't be read.
-fn say_fault<R: Eprint>(home: &Home<'_, R>, part: Part, fault: &Fault) {
+/// Reports why a file of the home can't be read.
+fn report_fault<R: Eprint>(home: &Home<'_, R>, part: Part, fault: &Fault) {
     let (rt, folder) = (home.rt, home.folder);
     let _ = if fault.is_missing() {
         eprintln!(rt; "nfstrail: {folder} is no home of nfsd: it has no {part}")
@@ -102,8 +106,8 @@ fn say_fault<R: Eprint>(home: &Home<'_, R>, part: Part, fault: &Fault) {
     };
 }
 
-/// Says why the words aren't followed.
-fn say_refusal<R: Eprint>(rt: &R, refusal: &Refusal<'_>) -> ExitCode {
+/// Reports why the words can't be followed.
+fn report_refusal<R: Eprint>(rt: &R, refusal: &Refusal<'_>) -> ExitCode {
     let _ = eprintln!(rt; "nfstrail: {refusal}");
     if refusal.is_of_words() {
         ExitCode::from(2)
@@ -112,8 +116,8 @@ fn say_refusal<R: Eprint>(rt: &R, refusal: &Refusal<'_>) -> ExitCode {
     }
 }
 
-/// Says why printing stopped.
-fn say_broken<R: Eprint>(home: &Home<'_, R>, broken: &Broken) {
+/// Reports why printing stopped.
+fn report_broken<R: Eprint>(home: &Home<'_, R>, broken: &Broken) {
     let (rt, folder, part) = (home.rt, home.folder, Part::Trail);
     let _ = match broken {
         Broken::Reading(error) => eprintln!(rt; "nfstrail: {folder}/{part}: {error}"),
@@ -121,7 +125,7 @@ fn say_broken<R: Eprint>(home: &Home<'_, R>, broken: &Broken) {
     };
 }
 
-/// Prints what is asked for.
+/// Prints the matching lines.
 fn print<R: Print>(rt: &R, printing: &Printing<'_>, trail: File) -> Result<(), Broken> {
     let alloc = printing.meanings.alloc;
     let mut out = match BufWriter::new(alloc, io::writer(rt)) {
@@ -134,7 +138,7 @@ fn print<R: Print>(rt: &R, printing: &Printing<'_>, trail: File) -> Result<(), B
     }
 }
 
-/// Prints what the words ask for of a trail.
+/// Prints the lines of a trail that match the words.
 fn print_asked<R: Files<File = File> + Print + Eprint>(
     home: &Home<'_, R>,
     options: &Options<'_>,
@@ -144,7 +148,7 @@ fn print_asked<R: Files<File = File> + Print + Eprint>(
     let places = known.places.as_ref();
     let choice = match choice_of(home.alloc, options, &known.names, places) {
         Ok(choice) => choice,
-        Err(refusal) => return say_refusal(home.rt, &refusal),
+        Err(refusal) => return report_refusal(home.rt, &refusal),
     };
     let printing = Printing {
         choice: &choice,
@@ -159,35 +163,40 @@ fn print_asked<R: Files<File = File> + Print + Eprint>(
         Ok(()) if known.is_whole => ExitCode::SUCCESS,
         Ok(()) => ExitCode::FAILURE,
         Err(broken) => {
-            say_broken(home, &broken);
+            report_broken(home, &broken);
             ExitCode::FAILURE
         }
     }
 }
 
-/// The trail of a home. `None`: the folder is no home, or its trail can't be read, which is said.
+/// Whether a home has an earlier form of store.
+fn has_earlier<R: Files<File = File>>(home: &Home<'_, R>) -> bool {
+    matches!(home.find(Part::Key), Ok(Some(_)))
+}
+
+/// The trail of a home. `None`: the folder is no home, or its trail can't be read, which is reported.
 fn trail_of<R: Files<File = File> + Eprint>(home: &Home<'_, R>) -> Option<File> {
-    if let Err(fault) = home.open(Part::Key) {
-        if fault.is_missing() {
-            say_fault(home, Part::Key, &fault);
+    if let Err(fault) = home.open(Part::Current) {
+        if fault.is_missing() && !has_earlier(home) {
+            report_fault(home, Part::Current, &fault);
             return None;
         }
     }
     match home.open(Part::Trail) {
         Ok(trail) => Some(trail),
         Err(fault) => {
-            say_fault(home, Part::Trail, &fault);
+            report_fault(home, Part::Trail, &fault);
             None
         }
     }
 }
 
-/// Does what the words of the command line ask for.
-fn run_words(rt: &HostRuntime, alloc: Global, words: &[String]) -> ExitCode {
+/// Runs the words of the command line.
+fn run_words(rt: &HostRuntime, alloc: Global, words: &[String], hasher: RandomState) -> ExitCode {
     let options = match Options::read(alloc, words) {
         Ok(options) => options,
         Err(error) => {
-            // help is said as it is, and a fault has the program's name in front
+            // help is printed unchanged, and a fault has the program's name before it
             if let Ok(text) = format!(in alloc; "{error}") {
                 let _ = match text.as_str().strip_prefix("error: ") {
                     Some(fault) => eprint!(rt; "nfstrail: {fault}"),
@@ -203,7 +212,7 @@ fn run_words(rt: &HostRuntime, alloc: Global, words: &[String]) -> ExitCode {
         folder: options.folder,
     };
     match trail_of(&home) {
-        Some(trail) => print_asked(&home, &options, &know(&home), trail),
+        Some(trail) => print_asked(&home, &options, &know(&home, hasher), trail),
         None => ExitCode::FAILURE,
     }
 }
@@ -211,5 +220,6 @@ fn run_words(rt: &HostRuntime, alloc: Global, words: &[String]) -> ExitCode {
 fn main(rt: HostRuntime) -> io::Result<ExitCode> {
     let alloc = rt.alloc();
     let words: Vec<String> = env::args(&rt)?.collect(alloc)?;
-    Ok(run_words(&rt, alloc, words.as_slice()))
+    let hasher = RandomState::new(&rt)?;
+    Ok(run_words(&rt, alloc, words.as_slice(), hasher))
 }

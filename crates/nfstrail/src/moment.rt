@@ -5,13 +5,13 @@ ghost use Rattle.trail_keeper.specs.Dates.{IsMoment};
 use std::str;
 use trail_keeper::moment_text;
 
-/// The bytes of a moment as it stands before a line, with the space after it.
+/// The bytes of a moment before a line, with the space after it.
 pub(crate) const MOMENT: usize = 21;
 
 /// The last second that has a text, in the year 9994.
 const LAST: u64 = 253_234_079_999;
 
-/// The days of 1 January 1970 from 1 January of the year 1 on.
+/// The days from 1 January of the year 1 to 1 January 1970.
 const EPOCH: u64 = 719_162;
 
 /// The days of a common year before each month.
@@ -26,7 +26,7 @@ fn is_leap(year: u64) -> bool {
     year % 4 == 0 && (year % 100 != 0 || year % 400 == 0)
 }
 
-/// The days from 1970 on before a date.
+/// The days from 1970 to a date.
 fn days_before(year: u64, month: u64, day: u64) -> Option<u64> {
     let past = year.saturating_sub(1);
     let leap_days = (past / 4)
@@ -51,7 +51,7 @@ fn second_in(text: &str) -> Option<u64> {
     Some(hours.saturating_add(minutes).saturating_add(seconds))
 }
 
-/// The second since 1970 that a text may say.
+/// The second since 1970 that a text may represent.
 fn guess(text: &[u8]) -> Option<u64> {
     let text = str::from_utf8(text).ok()?;
     let year = digits(text, 0, 4)?;

@@ -14,7 +14,7 @@ use who_book::{Book, NameKind};
 /// The names of the users of a home.
 #[derive(Drop)]
 pub(crate) enum Names {
-    /// Those of its book.
+    /// The names of its book.
     Book(Book),
     /// It has no book.
     NoBook,
@@ -27,7 +27,7 @@ pub(crate) enum Names {
 pub(crate) enum NoBook {
     /// Its file can't be read.
     Unread(Fault),
-    /// It has a fault, as these words say.
+    /// It has a fault, with these words for it.
     Wrong(String),
 }
 
@@ -90,7 +90,7 @@ impl Names {
         }
     }
 
-    /// Writes a user by its name, or as `uid 1002` where it has none.
+    /// Writes a user by its name, or as `uid 1002` if it has none.
     pub(crate) fn write_user<W: Write>(&self, out: &mut W, uid: u32) -> io::Result<()> {
         if let Names::Book(book) = self {
             if let Some(name) = book.name_of(NameKind::User, uid) {

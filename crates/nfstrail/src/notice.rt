@@ -6,7 +6,7 @@ use access_guard::Line;
 pub(crate) enum Notice {
     /// A server started.
     Start,
-    /// This number of lines of AUDIT and ALARM entries isn't in the file.
+    /// This number of lines of AUDIT and ALARM ACEs (access control entries) is missing in the file.
     Lost(u64),
     /// A line of the trail.
     Kept(Line),
@@ -15,7 +15,7 @@ pub(crate) enum Notice {
 /// A line of the file.
 #[derive(Clone, Copy, Debug, PartialEq, Eq)]
 pub(crate) struct Stamped {
-    /// The moment in seconds since 1970-01-01, where the line has one.
+    /// The moment in seconds since 1970-01-01, if the line has one.
     pub(crate) second: Option<u64>,
     pub(crate) notice: Notice,
 }

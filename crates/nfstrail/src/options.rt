@@ -13,7 +13,7 @@ last line without its end after 'not ended: '.
 
     nfstrail office --user carol --since 2026-11-26";
 
-/// The words of `nfstrail`, where they are taken.
+/// The words of `nfstrail`, if they are valid.
 #[derive(Clone, Copy, Debug)]
 pub(crate) struct Options<'a> {
     /// The home.
@@ -26,7 +26,7 @@ pub(crate) struct Options<'a> {
     pub(crate) since: Option<&'a str>,
     /// The name of an operation.
     pub(crate) op: Option<&'a str>,
-    /// Whether lines are printed as they stand.
+    /// Whether lines are printed unchanged.
     pub(crate) raw: bool,
 }
 
@@ -78,7 +78,8 @@ fn valued<'a>(alloc: Global, name: &'a str, value: &'a str, help: &'a str) -> Ar
 }
 
 impl<'a> Options<'a> {
-    /// Reads the words, of which the first is the program's name. An error is `clap`'s own, with the text for the user.
+    /// Reads the words, the first of which is the program's name. An error is `clap`'s own, with the text for the
+    /// user.
     pub(crate) fn read(alloc: Global, words: &'a [String]) -> Result<Options<'a>, Error> {
         let matches = command(alloc)?.try_get_matches_from(words)?;
         Ok(Options {

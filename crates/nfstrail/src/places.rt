@@ -1,17 +1,18 @@
 //! Where the objects of a tree are.
 use crate::escaped::write_name;
 use acl_list::Kind;
+use nfs_hub::Restart;
 use node_tree::{MAX_OBJECTS, Tree};
 use std::alloc::{AllocError, Global};
 use std::collections::{BTreeMap, BTreeSet};
 use std::io;
 use std::io::Write;
 
-/// A tree, and the first name of each object in it.
+/// The tree of a server, and the first name of each object in it.
 #[derive(Drop)]
 pub(crate) struct Places {
-    tree: Tree,
-    /// The cookie of the name of an object that was made first of those that it has.
+    server: Restart,
+    /// The cookie of each object's oldest name that still exists.
     first: BTreeMap<u64, u64>,
 }
 
@@ -20,13 +21,13 @@ pub(crate) struct Places {
 pub(crate) enum Place {
     /// It is in the tree.
     There(Kind),
-    /// It was there.
-    Gone,
+    /// It was in the tree, and was removed.
+    Missing,
     /// Its number isn't given yet in the tree that was read.
     Later,
 }
 
-/// The first name of each object.
+/// The oldest name of each object.
 fn first_names(alloc: Global, tree: &Tree) -> Result<BTreeMap<u64, u64>, AllocError> {
     let mut first = BTreeMap::new(alloc);
     let mut at = 0;
@@ -42,7 +43,7 @@ fn first_names(alloc: Global, tree: &Tree) -> Result<BTreeMap<u64, u64>, AllocEr
     Ok(first)
 }
 
-/// The object at a path below the root, which is `/`, or names each with `/` in front.
+/// The object at a path below the root, which is `/`, or names each with `/` before it.
 fn object_at(tree: &Tree, path: &str) -> Option<u64> {
     if path == "/" {
         return Some(tree.root());
@@ -78,7 +79,7 @@ fn put_names(
     Ok(())
 }
 
-/// An object, and those below it.
+/// An object, and all objects below it.
 fn objects_from(alloc: Global, tree: &Tree, top: u64) -> Result<BTreeSet<u64>, AllocError> {
     let mut objects = BTreeSet::new(alloc);
     objects.insert(top)?;
@@ -94,47 +95,52 @@ fn objects_from(alloc: Global, tree: &Tree, top: u64) -> Result<BTreeSet<u64>, A
 }
 
 impl Places {
-    /// The places of a tree.
-    pub(crate) fn new(alloc: Global, tree: Tree) -> Result<Self, AllocError> {
-        match first_names(alloc, &tree) {
-            Ok(first) => Ok(Places { tree, first }),
+    /// The places of a server's tree.
+    pub(crate) fn new(alloc: Global, server: Restart) -> Result<Self, AllocError> {
+        match first_names(alloc, server.server().tree()) {
+            Ok(first) => Ok(Places { server, first }),
             Err(error) => Err(error),
         }
     }
 
-    /// The object at a path, and those below it. `None`: there is none at this path.
+    fn tree(&self) -> &Tree {
+        self.server.server().tree()
+    }
+
+    /// The object at a path, and all objects below it. `None`: the path doesn't exist.
     pub(crate) fn below(
         &self,
         alloc: Global,
         path: &str,
     ) -> Result<Option<BTreeSet<u64>>, AllocError> {
-        match object_at(&self.tree, path) {
-            Some(top) => Ok(Some(objects_from(alloc, &self.tree, top)?)),
+        match object_at(self.tree(), path) {
+            Some(top) => Ok(Some(objects_from(alloc, self.tree(), top)?)),
             None => Ok(None),
         }
     }
 
-    /// Whether an object is there.
+    /// Whether an object exists.
     pub(crate) fn place_of(&self, number: u64) -> Place {
-        match self.tree.object(number) {
+        match self.tree().object(number) {
             Some(node) => Place::There(node.kind()),
-            None if number < self.tree.next_number() => Place::Gone,
+            None if number < self.tree().next_number() => Place::Missing,
             None => Place::Later,
         }
     }
 
-    /// The cookies of the names that lead to an object from the root, the last name first. `None`: no name leads to it.
+    /// The cookies of the names on an object's path from the root, the last name first. `None`: the object has no
+    /// path.
     fn way_up(&self, alloc: Global, number: u64) -> Result<Option<Vec<u64>>, AllocError> {
         let mut way = Vec::new(alloc);
         let mut here = number;
         for _step in 0..=MAX_OBJECTS {
-            if here == self.tree.root() {
+            if here == self.tree().root() {
                 return Ok(Some(way));
             }
             let Some(cookie) = self.first.get(&here) else {
                 break;
             };
-            let Some(name) = self.tree.any_after(cookie.saturating_sub(1)) else {
+            let Some(name) = self.tree().any_after(cookie.saturating_sub(1)) else {
                 break;
             };
             here = name.directory();
@@ -149,7 +155,7 @@ impl Places {
             return out.write_all(b"/");
         }
         for cookie in way.iter().rev() {
-            if let Some(name) = self.tree.any_after(cookie.saturating_sub(1)) {
+            if let Some(name) = self.tree().any_after(cookie.saturating_sub(1)) {
                 out.write_all(b"/")?;
                 write_name(out, name.name())?;
             }
@@ -157,7 +163,7 @@ impl Places {
         Ok(())
     }
 
-    /// Writes the path of an object. `false`: no name leads to it.
+    /// Writes the path of an object. `false`: it has no path.
     pub(crate) fn write_path<W: Write>(
         &self,
         out: &mut W,

@@ -13,12 +13,12 @@ use std::fs::File;
 use std::io;
 use std::io::{BufRead, BufReader, Write};
 
-/// The lines that are printed, and how.
+/// Which lines are printed, and how.
 #[derive(Clone, Copy)]
 pub(crate) struct Printing<'a> {
     pub(crate) choice: &'a Choice,
     pub(crate) meanings: Meanings<'a>,
-    /// Whether lines are printed as they stand.
+    /// Whether lines are printed unchanged.
     pub(crate) raw: bool,
 }
 
@@ -30,7 +30,7 @@ fn write_ended<W: Write>(out: &mut W, text: &[u8]) -> io::Result<()>
     out.write_all(b"\n")
 }
 
-/// Writes a line that isn't understood, after these words; as it stands, without them.
+/// Writes a line that isn't understood: after these words, or unchanged without them.
 fn write_marked<W: Write>(out: &mut W, raw: bool, words: &str, text: &[u8]) -> io::Result<()>
     ensures { OnOk result (Appends (W.contents out.old) (W.contents out.new)
         (marked raw words.now text.now ++ 10 ∷ [])) }
@@ -41,7 +41,7 @@ fn write_marked<W: Write>(out: &mut W, raw: bool, words: &str, text: &[u8]) -> i
     write_ended(out, text)
 }
 
-/// Writes the bytes after the last newline, which are no line; as they stand, without a newline.
+/// Writes the bytes after the last newline, which are no line: after words, or unchanged without a newline.
 fn write_torn<W: Write>(out: &mut W, raw: bool, text: &[u8]) -> io::Result<()>
     ensures { OnOk result (Appends (W.contents out.old) (W.contents out.new) (torn raw text.now)) }
 {
@@ -52,7 +52,7 @@ fn write_torn<W: Write>(out: &mut W, raw: bool, text: &[u8]) -> io::Result<()>
 }
 
 impl<'a> Printing<'a> {
-    /// Writes a line that is asked for: as it stands, or what it says in words.
+    /// Writes a matching line: unchanged, or in words.
     fn write_chosen<W: Write>(&self, out: &mut W, text: &[u8], stamped: &Stamped) -> io::Result<()>
         ensures { OnTrue self.now.raw (OnOk result
             (Appends (W.contents out.old) (W.contents out.new) (text.now ++ 10 ∷ []))) }
@@ -64,7 +64,7 @@ impl<'a> Printing<'a> {
         }
     }
 
-    /// Writes a line that is ended, given without its newline, if it is to be printed.
+    /// Writes a line that has a newline, passed without it, if it is to be printed.
     fn print_ended<W: Write>(&self, out: &mut W, text: &[u8]) -> io::Result<()>
         ensures { OnOk result (IsPrinted self.now.raw self.now.choice.now text.now (W.contents out.old)
             (W.contents out.new)) }

@@ -1,4 +1,4 @@
-//! Reading a line of a trail's file. A text is read only as what its text is, to the byte.
+//! Reading a line of a trail's file. A text is read as a value only if it is the text of that value, to the byte.
 ghost use Rattle.std.specs.Prelude.{◌≡◌, IfSome, Some, codes};
 ghost use Rattle.std.specs.Bool.{OnTrue};
 ghost use Rattle.nfstrail.specs.Reading.{IsTextOf, notice_text};
@@ -11,7 +11,7 @@ use access_guard::{Line, write_line};
 use itoa::Buffer;
 use std::str;
 
-/// Whether a text is that of this number of missing lines.
+/// Whether a text is that of `count` missing lines.
 fn is_lost(count: u64, text: &[u8]) -> bool
     ensures { OnTrue result (notice_text (Lost count) ≡ text.now) }
 {
@@ -21,7 +21,7 @@ fn is_lost(count: u64, text: &[u8]) -> bool
     }
 }
 
-/// The number of missing lines that a text says.
+/// The number of missing lines that a text represents.
 fn read_lost(text: &[u8]) -> Option<u64>
     ensures { IfSome result (λ count. notice_text (Lost count) ≡ text.now) }
 {
@@ -33,7 +33,7 @@ fn read_lost(text: &[u8]) -> Option<u64>
     }
 }
 
-/// The line of the trail that a text is.
+/// The line of the trail that a text represents.
 fn read_kept(text: &[u8]) -> Option<Line>
     ensures { IfSome result (λ line. notice_text (Kept line) ≡ text.now) }
 {
@@ -45,7 +45,7 @@ fn read_kept(text: &[u8]) -> Option<Line>
     }
 }
 
-/// The notice of a text. `None`: it isn't the text of anything that a trail's file has.
+/// The notice of a text. `None`: it isn't the text of a notice of a trail's file.
 pub(crate) fn read_notice(text: &[u8]) -> Option<Notice>
     ensures read { IfSome result (λ notice. notice_text notice ≡ text.now) }
     ensures start { text.now ≡ codes "START" → result ≡ Some Start }
@@ -62,13 +62,13 @@ pub(crate) fn read_notice(text: &[u8]) -> Option<Notice>
     }
 }
 
-/// Reads a line of the file, given without its newline. `None`: it is no line of a trail's file.
+/// Reads a line of the file, without its newline. `None`: it is no line of a trail's file.
 pub(crate) fn read_line(text: &[u8]) -> Option<Stamped>
     ensures { IfSome result (λ stamped. IsTextOf stamped text.now) }
 {
     if text.len() >= MOMENT {
-        let (front, rest) = text.split_at(MOMENT);
-        if let Some(second) = read_moment(front) {
+        let (prefix, rest) = text.split_at(MOMENT);
+        if let Some(second) = read_moment(prefix) {
             let notice = read_notice(rest)?;
             return Some(Stamped {
                 second: Some(second),

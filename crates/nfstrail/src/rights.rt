@@ -1,11 +1,11 @@
-//! The rights of a mask in words.
+//! The permissions of a mask in words.
 use acl_list::Kind;
 use acl_words::{RIGHTS, right_name};
 use std::io;
 use std::io::Write;
 
-/// Writes the name of a right on an object of this kind; where the kind isn't known, both names. What has no name is
-/// written in digits.
+/// Writes the name of a permission on an object of this type; if the type isn't known, both names. A bit without a
+/// name is written in digits.
 pub(crate) fn write_right<W: Write>(out: &mut W, right: u32, kind: Option<Kind>) -> io::Result<()> {
     let on_other = right_name(kind.unwrap_or(Kind::File), right);
     let on_directory = right_name(kind.unwrap_or(Kind::Directory), right);
@@ -16,7 +16,7 @@ pub(crate) fn write_right<W: Write>(out: &mut W, right: u32, kind: Option<Kind>)
     }
 }
 
-/// The text before a right of a mask, by whether it is the first or the last one.
+/// The text before a permission of a mask, by whether it is the first or the last one.
 fn joint(is_first: bool, is_last: bool) -> &'static str {
     if is_first {
         ""
@@ -27,7 +27,7 @@ fn joint(is_first: bool, is_last: bool) -> &'static str {
     }
 }
 
-/// Writes the rights of a mask, the lowest first; those without a name together at the end.
+/// Writes the permissions of a mask, the lowest bit first; those without a name together at the end.
 pub(crate) fn write_rights<W: Write>(
     out: &mut W,
     rights: u32,

@@ -1,53 +1,47 @@
-//! The tree of a store as it is now, read while a server may write it. No lock is taken and nothing
-//! is synced, so no server is kept from it.
+//! The tree of a store as it is now, read while a server may write it. No lock is taken and nothing is written or
+//! synced, so no server is hindered.
 //!
-//! The first file is read before the second one, and its front again after that. Where the front is
-//! another one, or the two files don't make a tree, a checkpoint was written meanwhile, and they
-//! are read again.
+//! CURRENT is read before the file that it names, and again after that. If it is another one by then, or something
+//! isn't valid, a checkpoint was written meanwhile, and everything is read again.
 use crate::fault::Fault;
 use crate::home::{Home, Part};
-use journal::{Disk, LoadFault, Slot};
-use node_tree::Tree;
-use std::alloc::{AllocError, Allocator, Global};
+use call_store::{StoreFault, look};
+use nfs_hub::Restart;
+use std::alloc::{Allocator, Global};
+use std::fmt;
 use std::fmt::{Display, Formatter};
 use std::fs::File;
-use std::io::{ErrorKind, Read, Seek, SeekFrom};
+use std::hash::RandomState;
+use std::io::Read;
 use std::rt::Files;
-use std::{fmt, io};
-use tree_store::{StoreFault, open};
+use store_journal::{Disk, LoadFault, Slot};
 
-/// How often a store is read that a server changes meanwhile.
+/// How many times a store is read while a server changes it.
 const TRIES: u32 = 16;
 
-/// The bytes at the front of a file that say its generation: the head of its first frame.
-const FRONT: u64 = 56;
+/// More bytes than CURRENT has.
+const MOST_OF_CURRENT: u64 = 4096;
 
 /// Why the tree isn't known.
 #[derive(Debug, Drop)]
 pub(crate) enum Unknown {
     /// A file can't be read.
     Unread(Part, Fault),
-    /// The key's file has no key.
-    Key,
-    /// The store has a version that isn't known.
+    /// It is an earlier form of store.
+    Earlier,
+    /// It has an unknown format, machine or profile.
     Version,
-    /// It is damaged, or a server has changed it each time.
+    /// It is corrupt, or a server has changed it each time.
     Changing,
-    /// There is no memory for it.
+    /// An allocation failed.
     Memory,
-}
-
-impl From<AllocError> for Unknown {
-    fn from(_: AllocError) -> Self {
-        Unknown::Memory
-    }
 }
 
 impl Display for Unknown {
     fn fmt<W: fmt::Write>(&self, f: &mut Formatter<W>) -> fmt::Result {
         match self {
             Unknown::Unread(part, fault) => write!(f, "{part}: {fault}"),
-            Unknown::Key => write!(f, "{}: it is no key", Part::Key),
+            Unknown::Earlier => f.write_str("store: it was written by an earlier nfsd"),
             Unknown::Version => f.write_str("store: it has a version that isn't known"),
             Unknown::Changing => f.write_str("store: it is damaged, or changes all the while"),
             Unknown::Memory => f.write_str("store: there is no memory for it"),
@@ -55,42 +49,63 @@ impl Display for Unknown {
     }
 }
 
-/// The two files of a store, only to be read.
-#[derive(Drop)]
-struct Copies {
-    a: Option<File>,
-    b: Option<File>,
-}
-
-/// Appends what a file has from its beginning on, at most this number of bytes.
-fn read_all<A: Allocator>(
-    file: &mut Option<File>,
+/// Appends a part of a home, at most `most` bytes. `false`: the part is missing.
+fn read_part<R: Files<File = File>, A: Allocator>(
+    home: &Home<'_, R>,
+    part: Part,
     most: u64,
     bytes: &mut Vec<u8, A>,
-) -> io::Result<()> {
-    let Some(file) = file else {
-        return Ok(());
+) -> Result<bool, Fault> {
+    let Some(file) = home.find(part)? else {
+        return Ok(false);
     };
-    file.seek(SeekFrom::Start(0))?;
-    file.by_ref().take(most).read_to_end(bytes)?;
-    Ok(())
+    file.take(most).read_to_end(bytes)?;
+    Ok(true)
 }
 
-impl Disk for Copies {
-    fn load<A: Allocator>(&mut self, alloc: A, slot: Slot) -> Result<Vec<u8, A>, LoadFault> {
-        let file = match slot {
-            Slot::A => &mut self.a,
-            Slot::B => &mut self.b,
+/// The files of a home's store, only to be read.
+#[derive(Drop)]
+struct Copies<'a, 'h, R> {
+    home: &'a Home<'h, R>,
+    /// Why a file wasn't read.
+    unread: Option<(Part, Fault)>,
+}
+
+impl<R> Copies<'_, '_, R> {
+    /// Notes that a part isn't read.
+    fn miss(&mut self, part: Part, fault: Fault) -> LoadFault {
+        let why = match fault {
+            Fault::Memory => LoadFault::Memory,
+            _ => LoadFault::Failed,
         };
+        self.unread = Some((part, fault));
+        why
+    }
+}
+
+impl<R: Files<File = File>> Disk for Copies<'_, '_, R> {
+    fn load_current<A: Allocator>(&mut self, alloc: A) -> Result<Option<Vec<u8, A>>, LoadFault> {
         let mut bytes = Vec::new(alloc);
-        match read_all(file, u64::MAX, &mut bytes) {
-            Ok(()) => Ok(bytes),
-            Err(error) if error.kind() == ErrorKind::OutOfMemory => Err(LoadFault::Memory),
-            Err(_) => Err(LoadFault::Failed),
+        match read_part(self.home, Part::Current, MOST_OF_CURRENT, &mut bytes) {
+            Ok(true) => Ok(Some(bytes)),
+            Ok(false) => Ok(None),
+            Err(fault) => Err(self.miss(Part::Current, fault)),
         }
     }
 
-    fn append(&mut self, _slot: Slot, _bytes: &[u8]) -> bool {
+    fn load<A: Allocator>(&mut self, alloc: A, slot: Slot) -> Result<Vec<u8, A>, LoadFault> {
+        let part = match slot {
+            Slot::A => Part::A,
+            Slot::B => Part::B,
+        };
+        let mut bytes = Vec::new(alloc);
+        match read_part(self.home, part, u64::MAX, &mut bytes) {
+            Ok(_) => Ok(bytes),
+            Err(fault) => Err(self.miss(part, fault)),
+        }
+    }
+
+    fn write(&mut self, _slot: Slot, _at: u64, _prefix: &[u8], _body: &[u8], _back: &[u8]) -> bool {
         false
     }
 
@@ -98,89 +113,77 @@ impl Disk for Copies {
         false
     }
 
-    fn empty(&mut self, _slot: Slot) -> bool {
+    fn turn(&mut self, _bytes: &[u8]) -> bool {
         false
     }
 }
 
-/// Opens a file of the store; one that isn't there has no bytes.
-fn open_part<R: Files<File = File>>(
+/// The server of the store. `None`: no checkpoint was finished yet.
+fn server_of<R: Files<File = File>>(
     home: &Home<'_, R>,
-    part: Part,
-) -> Result<Option<File>, Unknown> {
-    match home.find(part) {
-        Ok(file) => Ok(file),
-        Err(fault) => Err(Unknown::Unread(part, fault)),
-    }
-}
-
-/// The front of the first file.
-fn front_of(alloc: Global, copies: &mut Copies) -> Result<Vec<u8>, Unknown> {
-    let mut front = Vec::new(alloc);
-    match read_all(&mut copies.a, FRONT, &mut front) {
-        Ok(()) => Ok(front),
-        Err(error) => Err(Unknown::Unread(Part::A, Fault::from(error))),
-    }
-}
-
-/// The tree of both files. `None`: nothing is kept yet.
-fn tree_of(alloc: Global, copies: &mut Copies, key: u64) -> Result<Option<Tree>, Unknown> {
-    match open(copies, alloc, key) {
-        Ok((_, Some(found))) => Ok(Some(found.tree)),
-        Ok((_, None)) => Ok(None),
+    hasher: RandomState,
+) -> Result<Option<Restart>, Unknown> {
+    let mut copies = Copies { home, unread: None };
+    match look(&mut copies, home.alloc, home.alloc, hasher) {
+        Ok(Some(found)) => Ok(Some(found.restart)),
+        Ok(None) => Ok(None),
         Err(StoreFault::Version) => Err(Unknown::Version),
-        Err(StoreFault::Failed | StoreFault::Damaged) => Err(Unknown::Changing),
         Err(StoreFault::Memory) => Err(Unknown::Memory),
+        Err(_) => match copies.unread {
+            Some((part, fault)) => Err(Unknown::Unread(part, fault)),
+            None => Err(Unknown::Changing),
+        },
     }
 }
 
-/// The tree of both files, where the first one wasn't begun anew meanwhile.
-fn tree_between(alloc: Global, copies: &mut Copies, key: u64) -> Result<Option<Tree>, Unknown> {
-    let before = front_of(alloc, copies)?;
-    let tree = tree_of(alloc, copies, key);
-    let after = front_of(alloc, copies)?;
-    if before.as_slice() == after.as_slice() {
-        tree
+/// The bytes of CURRENT. `None`: it is missing.
+fn current_of<R: Files<File = File>>(home: &Home<'_, R>) -> Result<Option<Vec<u8>>, Unknown> {
+    let mut bytes = Vec::new(home.alloc);
+    match read_part(home, Part::Current, MOST_OF_CURRENT, &mut bytes) {
+        Ok(true) => Ok(Some(bytes)),
+        Ok(false) => Ok(None),
+        Err(fault) => Err(Unknown::Unread(Part::Current, fault)),
+    }
+}
+
+/// Whether CURRENT is the same.
+fn is_same(before: &Option<Vec<u8>>, after: &Option<Vec<u8>>) -> bool {
+    match (before, after) {
+        (Some(before), Some(after)) => before.as_slice() == after.as_slice(),
+        (None, None) => true,
+        _ => false,
+    }
+}
+
+/// The server of the store, if CURRENT isn't replaced meanwhile.
+fn read_once<R: Files<File = File>>(
+    home: &Home<'_, R>,
+    hasher: RandomState,
+) -> Result<Option<Restart>, Unknown> {
+    let before = current_of(home)?;
+    let found = server_of(home, hasher);
+    let after = current_of(home)?;
+    if is_same(&before, &after) {
+        found
     } else {
         Err(Unknown::Changing)
     }
 }
 
-/// The key that the bytes of a key's file have: the key and its complement.
-fn key_in(bytes: &[u8]) -> Option<u64> {
-    let bytes: [u8; 16] = bytes.try_into().ok()?;
-    let both = u128::from_be_bytes(bytes);
-    let (key, complement) = ((both >> 64) as u64, (both & u128::from(u64::MAX)) as u64);
-    if complement == !key { Some(key) } else { None }
-}
-
-/// The key of the digests.
-fn read_key<R: Files<File = File>>(home: &Home<'_, R>) -> Result<u64, Unknown> {
-    let mut file = open_part(home, Part::Key)?;
-    let mut bytes = Vec::new(home.alloc);
-    match read_all(&mut file, FRONT, &mut bytes) {
-        Ok(()) => key_in(bytes.as_slice()).ok_or(Unknown::Key),
-        Err(error) => Err(Unknown::Unread(Part::Key, Fault::from(error))),
-    }
-}
-
-fn read_once<R: Files<File = File>>(home: &Home<'_, R>) -> Result<Option<Tree>, Unknown> {
-    let key = read_key(home)?;
-    let a = open_part(home, Part::A)?;
-    let b = open_part(home, Part::B)?;
-    let mut copies = Copies { a, b };
-    tree_between(home.alloc, &mut copies, key)
-}
-
-/// The tree of a home's store as it is now, which a server may change meanwhile. `None`: nothing is kept yet.
-pub(crate) fn read_tree<R: Files<File = File>>(
+/// The server of a home's store as it is now, which a server may change meanwhile. `None`: no checkpoint was finished
+/// yet.
+pub(crate) fn read_server<R: Files<File = File>>(
     home: &Home<'_, R>,
-) -> Result<Option<Tree>, Unknown> {
+    hasher: RandomState,
+) -> Result<Option<Restart>, Unknown> {
+    if let Ok(Some(_)) = home.find(Part::Key) {
+        return Err(Unknown::Earlier);
+    }
     for _try in 1..TRIES {
-        match read_once(home) {
-            Err(Unknown::Changing | Unknown::Key) => {}
+        match read_once(home, hasher) {
+            Err(Unknown::Changing) => {}
             settled => return settled,
         }
     }
-    read_once(home)
+    read_once(home, hasher)
 }

@@ -11,7 +11,7 @@ use std::io;
 use std::io::Write;
 use trail_keeper::moment_text;
 
-/// The rights on a directory that are about the names in it.
+/// The permissions on a directory that concern the names in it.
 const ABOUT_NAMES: u32 = mask::ADD_FILE
     | mask::ADD_SUBDIRECTORY
     | mask::EXECUTE
@@ -22,11 +22,11 @@ const ABOUT_NAMES: u32 = mask::ADD_FILE
 pub(crate) struct Meanings<'a> {
     pub(crate) alloc: Global,
     pub(crate) names: &'a Names,
-    /// The store's tree, where it is known.
+    /// The store's tree, if it is known.
     pub(crate) places: Option<&'a Places>,
 }
 
-/// The kind of an object, where it is known.
+/// The type of an object, if it is known.
 fn kind_at(place: Option<Place>) -> Option<Kind> {
     match place {
         Some(Place::There(kind)) => Some(kind),
@@ -34,7 +34,7 @@ fn kind_at(place: Option<Place>) -> Option<Kind> {
     }
 }
 
-/// The word before the object: what is asked of a directory may be about the names in it.
+/// The word before the object: permissions on a directory may concern the names in it.
 fn preposition(kind: Option<Kind>, rights: u32) -> &'static str {
     if kind == Some(Kind::Directory) && rights & ABOUT_NAMES != 0 {
         " in "
@@ -43,7 +43,7 @@ fn preposition(kind: Option<Kind>, rights: u32) -> &'static str {
     }
 }
 
-/// Writes an operation by its name, or its number where it has none.
+/// Writes an operation by its name, or its number if it has none.
 fn write_operation<W: Write>(out: &mut W, op: u32) -> io::Result<()> {
     match operation_name(op) {
         Some(name) => out.write_all(name),
@@ -51,7 +51,7 @@ fn write_operation<W: Write>(out: &mut W, op: u32) -> io::Result<()> {
     }
 }
 
-/// Writes which entry it was, counted from 1, or that there was none.
+/// Writes which ACE (access control entry) it was, counted from 1, or that there was none.
 fn write_denial<W: Write>(out: &mut W, line: &Line, kind: Option<Kind>) -> io::Result<()> {
     let is_one = line.mask.count_ones() == 1;
     match line.cause {
@@ -70,7 +70,7 @@ fn write_denial<W: Write>(out: &mut W, line: &Line, kind: Option<Kind>) -> io::R
     }
 }
 
-/// Writes which entry watches, counted from 1.
+/// Writes which ACE audits or alarms, counted from 1.
 fn write_watch<W: Write>(out: &mut W, line: &Line) -> io::Result<()> {
     match line.cause {
         Cause::ByEntry(index) => {
@@ -81,7 +81,7 @@ fn write_watch<W: Write>(out: &mut W, line: &Line) -> io::Result<()> {
     }
 }
 
-/// Writes why there is the line.
+/// Writes the reason for the line.
 fn write_cause<W: Write>(out: &mut W, line: &Line, kind: Option<Kind>) -> io::Result<()> {
     match line.kind {
         LineKind::Deny => write_denial(out, line, kind),
@@ -89,7 +89,7 @@ fn write_cause<W: Write>(out: &mut W, line: &Line, kind: Option<Kind>) -> io::Re
     }
 }
 
-/// Writes how many lines are missing.
+/// Writes the number of missing lines.
 fn write_lost<W: Write>(out: &mut W, count: u64) -> io::Result<()> {
     let (lines, are) = if count == 1 {
         ("line", "is")
@@ -102,7 +102,7 @@ fn write_lost<W: Write>(out: &mut W, count: u64) -> io::Result<()> {
     )
 }
 
-/// The word before a line that an entry asks for.
+/// The word before a line that an ACE requests.
 fn kind_word(kind: LineKind) -> &'static str {
     match kind {
         LineKind::Deny => "",
@@ -135,11 +135,11 @@ impl<'a> Meanings<'a> {
         match self.place_of(number) {
             None => write!(out, "object {number}"),
             Some(Place::Later) => write!(out, "object {number}, not in the store yet"),
-            Some(Place::Gone | Place::There(_)) => write!(out, "object {number}, gone"),
+            Some(Place::Missing | Place::There(_)) => write!(out, "object {number}, gone"),
         }
     }
 
-    /// Writes who did what to which object.
+    /// Writes the user, the operation and the object of a line.
     fn write_deed<W: Write>(&self, out: &mut W, line: &Line, kind: Option<Kind>) -> io::Result<()> {
         self.names.write_user(out, line.uid)?;
         let how = if line.granted {
@@ -171,7 +171,7 @@ impl<'a> Meanings<'a> {
         }
     }
 
-    /// Writes what a line of the file says, with a newline.
+    /// Writes a line of the file in words, with a newline.
     pub(crate) fn write_words<W: Write>(&self, out: &mut W, stamped: &Stamped) -> io::Result<()> {
         if let Some(second) = stamped.second {
             out.write_all(&moment_text(i64::try_from(second).unwrap_or(i64::MAX)))?;

@@ -1,4 +1,4 @@
--- A sound world stays sound where an object gets a name: a new object, or an object that is no directory.
+-- A sound world stays sound when an object gets a name: a new object, or an object that isn't a directory.
 use Rattle.std.proofs.Common.{◌≡◌, ◌≢◌, ℕ, ◌+◌, ◌<◌, ◌≤◌, ◌^◌, Bool, true, false, cond, List, length, refl, ap, sym, ◌∙◌, subst, arith, Some, None}
 use Rattle.std.specs.Prelude.{Option, IsSome, is_some, ◌==◌, ◌&&◌, not, nat_lt}
 use Rattle.std.specs.Ordering.{nat_cmp}
@@ -36,7 +36,7 @@ joins_new read es number directory o at touching = record {
     seen : (k : ℕ) → option_map read (lookup (is_at (nat_cmp k)) (changed directory (touched at) (insert_entry nat_cmp es number o))) ≡ option_map read (cond (is_at (nat_cmp k) number) (Some o) (lookup (is_at (nat_cmp k)) es))
     seen k = option_map-changed read directory (touched at) (insert_entry nat_cmp es number o) touching k ∙ ap (option_map read) (lookup-inserted number k o es)
 
--- the next number is no object's
+-- no object has the next number
 fresh_number : (w : World) → IsSound w → (k : ℕ) → IsSome (kind_of w k) → w.next_number ≢ k
 fresh_number w sound k h = there (object w k) refl h
   where
@@ -52,7 +52,7 @@ IsSound-with_new w sound directory name o at tick live none short fit stamped ro
     let due : at.tick < at.tick + 1 = omega arith in
     let held = IsHeld-touched directory at _ (w.next_number + 1) (at.tick + 1) due
     (IsHeld-inserted w.objects w.next_number (at.tick + 1) o fit few (IsHeld-later w.objects w.next_number w.next_tick (at.tick + 1) tick.fresh (held_in w sound))) in
-    let no_links : link_count w.names w.next_number ≡ 0 = count_by-none (λ n. n.child == w.next_number) w.names (λ n stands is. fresh_number w sound n.child (sound.rooted.ends n stands).1 (sym ((Decides-eqb n.child w.next_number).0 is))) in
+    let no_links : link_count w.names w.next_number ≡ 0 = count_by-none (λ n. n.child == w.next_number) w.names (λ n present is. fresh_number w sound n.child (sound.rooted.ends n present).1 (sym ((Decides-eqb n.child w.next_number).0 is))) in
     record {
       rooted = IsRooted-joined (kind_of w) _ w.names w.next_number w.next_cookie directory name o.kind sound.rooted (joins_new (λ o. o.kind) w.objects w.next_number directory o at (λ o. refl)) (fresh_number w sound) live (child_sought w.names directory name ∙ none);
       stamped = IsStamped-joined (stamp_of w) _ w.next_number w.next_stamp sound.stamped
@@ -81,7 +81,7 @@ KeepsJudged-with_new w directory name o at stamped =
           (λ apart. sym (joins.elsewhere k apart) ∙ is);
     }
 
--- ---- a further name
+-- ---- another name
 
 read_linked : {X : Type 0} (read : Object → X) (directory number : ℕ) (at : At) (es : List (ℕ × Object)) → ((o : Object) → read (touched at o) ≡ read o) → ((o : Object) → read (retold at o) ≡ read o)
     → (k : ℕ) → option_map read (lookup (is_at (nat_cmp k)) (changed directory (touched at) (changed number (retold at) es))) ≡ option_map read (lookup (is_at (nat_cmp k)) es)
@@ -124,7 +124,7 @@ KeepsJudged-with_link w directory name number at = record {
   same = λ k j is _. sym (read_linked judged directory number at w.objects (λ o. refl) (λ o. refl) k) ∙ is;
 }
 
--- ---- where no change is refused
+-- ---- changes that aren't refused
 
 absent : {X : Type 0} (o : Option X) → is_some o ≡ false → o ≡ None
 absent None h = refl
@@ -137,7 +137,7 @@ both false b h = cc
 below : (a b : ℕ) → nat_lt a b ≡ true → a < b
 below a b is = (Decides-ltb a b).0 is
 
--- the last test passed
+-- no refusal after the last test means that the test passed
 passed : (may : Bool) → None ≡ cond may None (Some NoSpc) → may ≡ true
 passed true h = refl
 passed false h = cc
@@ -155,7 +155,7 @@ unrefused_add w directory name none =
     let may = may_add (name_count w.names directory) (length w.objects) w.next_number w.next_stamp w.next_cookie in
     elim (is_some (child_named w directory name)) as (λ b. is_some (child_named w directory name) ≡ b → None ≡ cond b (Some Exist) (cond may None (Some NoSpc)) → MayAdd w directory name) [
       | true ↦ λ _ h. cc
-      | false ↦ λ gone h.
+      | false ↦ λ removed h.
           let a1 = has_room (name_count w.names directory) in
           let a2 = has_object_room (length w.objects) in
           let a3 = has_left w.next_number in
@@ -165,7 +165,7 @@ unrefused_add w directory name none =
           let b3 = both (a1 && a2) a3 b4.0 in
           let b2 = both a1 a2 b3.0 in
           record {
-            none = absent (child_named w directory name) gone;
+            none = absent (child_named w directory name) removed;
             room = below (name_count w.names directory) MAX_NAMES b2.0;
             few = below (length w.objects) MAX_OBJECTS b2.1;
             number = below w.next_number (2 ^ 63) b3.1;
@@ -185,9 +185,9 @@ unrefused_link w directory name number none =
     let may = may_name (name_count w.names directory) w.next_cookie in
     elim (is_some (child_named w directory name)) as (λ b. is_some (child_named w directory name) ≡ b → None ≡ cond b (Some Exist) (cond (not (may_link (link_count w.names number))) (Some MLink) (cond may None (Some NoSpc))) → MayLink w directory name number) [
       | true ↦ λ _ h. cc
-      | false ↦ λ gone. elim (may_link (link_count w.names number)) as (λ b. may_link (link_count w.names number) ≡ b → None ≡ cond (not b) (Some MLink) (cond may None (Some NoSpc)) → MayLink w directory name number) [
+      | false ↦ λ removed. elim (may_link (link_count w.names number)) as (λ b. may_link (link_count w.names number) ≡ b → None ≡ cond (not b) (Some MLink) (cond may None (Some NoSpc)) → MayLink w directory name number) [
         | false ↦ λ _ h. cc
         | true ↦ λ links h. let b = both (has_room (name_count w.names directory)) (has_left w.next_cookie) (passed may h) in
-            record { none = absent (child_named w directory name) gone; links = below (link_count w.names number) MAX_LINKS links; room = below (name_count w.names directory) MAX_NAMES b.0; cookie = below w.next_cookie (2 ^ 63) b.1 }
+            record { none = absent (child_named w directory name) removed; links = below (link_count w.names number) MAX_LINKS links; room = below (name_count w.names directory) MAX_NAMES b.0; cookie = below w.next_cookie (2 ^ 63) b.1 }
       ] refl
     ] refl none

@@ -1,4 +1,4 @@
--- The number of names of a kind, after a change of the names.
+-- The number of names that pass a test, after a change of the names.
 use Rattle.std.proofs.Common.{◌≡◌, ℕ, ◌+◌, ◌<◌, ◌≤◌, Bool, true, false, not, cond, List, [], ◌∷◌, ◌++◌, refl, ap, ◌∙◌, subst, arith, Some, None, add_comm}
 use Rattle.std.specs.Prelude.{find, filter, count_by, nat_lt, ◌||◌}
 use Rattle.std.specs.List.{list_any}
@@ -20,7 +20,7 @@ counted_push q (m ∷ names) n =
     let more : count_by q (m ∷ (names ++ n ∷ [])) ≡ cond (q m) 1 0 + count_by q (names ++ n ∷ []) = step q m (names ++ n ∷ []) in
     let goal : count_by q (m ∷ (names ++ n ∷ [])) ≡ count_by q (m ∷ names) + cond (q n) 1 0 = omega arith in goal
 
--- no name passes where none is counted
+-- if no name is counted, none passes
 pub stays : (p : Name → Bool) (names : List Name) → count_by p names ≡ 0 → filter (λ n. not (p n)) names ≡ names
 stays p [] none = refl
 stays p (m ∷ names) none =
@@ -29,7 +29,7 @@ stays p (m ∷ names) none =
       | false ↦ λ e. ap (λ l. m ∷ l) (stays p names (omega (arith, e, none)))
     ] (step p m names)
 
--- a name that isn't there is counted 0 times
+-- a name that doesn't exist is counted 0 times
 pub absent_counted : (names : List Name) (d : ℕ) (t : List ℕ) → cookie names d t ≡ None → count_by (is_named d t) names ≡ 0
 absent_counted [] d t none = refl
 absent_counted (m ∷ names) d t none =
@@ -41,7 +41,7 @@ absent_counted (m ∷ names) d t none =
 pub absent_stays : (names : List Name) (d : ℕ) (t : List ℕ) → cookie names d t ≡ None → other_names d t names ≡ names
 absent_stays names d t none = stays (is_named d t) names (absent_counted names d t none)
 
--- no name comes to be there twice
+-- a filter never raises a count
 counted_filter : (q p : Name → Bool) (names : List Name) → count_by q (filter p names) ≤ count_by q names
 counted_filter q p [] = omega arith
 counted_filter q p (m ∷ names) =

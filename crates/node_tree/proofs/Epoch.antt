@@ -1,4 +1,4 @@
--- The moment of the objects that were there from the start.
+-- The moment of the initial objects.
 use Rattle.std.proofs.Common.{◌≡◌, ◌<◌, ap, lit<}
 use Rattle.std.specs.Prelude.{pos}
 use Rattle.std.proofs.Math.Bridge.{le_prop}

@@ -1,4 +1,4 @@
--- Objects with rising numbers, few and within the limits, stay so.
+-- Objects keep their properties: rising numbers, a bounded count, and the limits.
 use Rattle.std.proofs.Common.{◌≡◌, ℕ, suc, ◌+◌, ◌<◌, ◌≤◌, Bool, true, false, not, cond, List, [], ◌∷◌, ◌++◌, length, refl, ap, sym, ◌∙◌, subst, arith, Some, None, length-append}
 use Rattle.std.specs.Prelude.{Option}
 use Rattle.std.specs.Ordering.{nat_cmp}
@@ -29,8 +29,8 @@ IsHeld-changed number f es n t fits held = record {
   numbered = Rises-changed number f 1 n es held.numbered;
   few = rw (length-changed number f es) held.few;
   fit = λ k o is. ⊎_elim
-      (λ (c : Changed number f es k o). subst (IsFit t) (sym c.new) (fits c.old (subst (λ k. lookup (is_at (nat_cmp k)) es ≡ Some c.old) (sym c.here) c.stood) (held.fit k c.old c.stood)))
-      (λ (c : Kept number es k o). held.fit k o c.stood)
+      (λ (c : Changed number f es k o). subst (IsFit t) (sym c.new) (fits c.old (subst (λ k. lookup (is_at (nat_cmp k)) es ≡ Some c.old) (sym c.here) c.was_present) (held.fit k c.old c.was_present)))
+      (λ (c : Kept number es k o). held.fit k o c.was_present)
       (changed_cases number f es k o is);
 }
 
@@ -80,5 +80,5 @@ IsHeld-inserted es n t o fit room held = record {
     last = inserted_last 1 n es o held.numbered
 
     there : (b : Bool) (found : Option Object) (k : ℕ) (p : Object) → lookup (is_at (nat_cmp k)) es ≡ found → cond b (Some o) found ≡ Some p → IsFit t p
-    there true found k p stood is = let same : o ≡ p = cc in subst (IsFit t) same fit
-    there false found k p stood is = held.fit k p (stood ∙ is)
+    there true found k p was_present is = let same : o ≡ p = cc in subst (IsFit t) same fit
+    there false found k p was_present is = held.fit k p (was_present ∙ is)

@@ -11,7 +11,7 @@ use Rattle.node_tree.specs.Changes.{other_names}
 abbrev pub cookie : List Name → ℕ → List ℕ → Option ℕ
 cookie names d t = option_map (λ (n : Name). n.cookie) (find (is_named d t) names)
 
--- whether two names are the same
+-- whether two names are equal
 abbrev pub hit : ℕ → List ℕ → ℕ → List ℕ → Bool
 hit d t directory name = (d == directory) && pointwise nat_eq t name
 
@@ -25,7 +25,7 @@ hit_is d e t s h = let b = both (d == e) (pointwise nat_eq t s) h in ((Decides-e
 pub is_hit : (d e : ℕ) (t s : List ℕ) → d ≡ e → t ≡ s → hit d t e s ≡ true
 is_hit d e t s a b = rw ((Decides-eqb d e).1 a) ((bytes_decides t s).1 b)
 
--- whether two names are the same doesn't depend on their order
+-- equality of names is symmetric
 pub turned : (d e : ℕ) (t s : List ℕ) → hit d t e s ≡ hit e s d t
 turned d e t s = elim (hit d t e s) as (λ b. hit d t e s ≡ b → b ≡ hit e s d t) [
   | true ↦ λ h. let p = hit_is d e t s h in sym (is_hit e d s t (sym p.0) (sym p.1))
@@ -40,16 +40,16 @@ pub cookie-others : (directory : ℕ) (name : List ℕ) (names : List Name) (d :
 cookie-others directory name [] d t = elim (hit d t directory name) as (λ b. None ≡ cond {A = Option ℕ} b None None) [ true ↦ refl | false ↦ refl ]
 cookie-others directory name (n ∷ names) d t =
     elim (is_named directory name n) as (λ b. is_named directory name n ≡ b → option_map (λ (n : Name). n.cookie) (find (is_named d t) (cond (not b) (n ∷ other_names directory name names) (other_names directory name names))) ≡ cond (hit d t directory name) None (option_map (λ (n : Name). n.cookie) (cond (is_named d t n) (Some n) (find (is_named d t) names)))) [
-      | true ↦ λ is. cookie-others directory name names d t ∙ gone is
+      | true ↦ λ is. cookie-others directory name names d t ∙ removed is
       | false ↦ λ is. elim (is_named d t n) as (λ b. is_named d t n ≡ b → option_map (λ (n : Name). n.cookie) (cond b (Some n) (find (is_named d t) (other_names directory name names))) ≡ cond (hit d t directory name) None (option_map (λ (n : Name). n.cookie) (cond b (Some n) (find (is_named d t) names)))) [
         | true ↦ λ it. ap (λ b. cond {A = Option ℕ} b None (Some n.cookie)) (sym (unlike is it))
         | false ↦ λ _. cookie-others directory name names d t
       ] refl
     ] refl
   where
-    -- the name that goes is no other name
-    gone : is_named directory name n ≡ true → cond (hit d t directory name) None (cookie names d t) ≡ cond (hit d t directory name) None (option_map (λ (n : Name). n.cookie) (cond (is_named d t n) (Some n) (find (is_named d t) names)))
-    gone is = elim (hit d t directory name) as (λ b. hit d t directory name ≡ b → cond b None (cookie names d t) ≡ cond b None (option_map (λ (n : Name). n.cookie) (cond (is_named d t n) (Some n) (find (is_named d t) names)))) [
+    -- the removed name isn't one of the others
+    removed : is_named directory name n ≡ true → cond (hit d t directory name) None (cookie names d t) ≡ cond (hit d t directory name) None (option_map (λ (n : Name). n.cookie) (cond (is_named d t n) (Some n) (find (is_named d t) names)))
+    removed is = elim (hit d t directory name) as (λ b. hit d t directory name ≡ b → cond b None (cookie names d t) ≡ cond b None (option_map (λ (n : Name). n.cookie) (cond (is_named d t n) (Some n) (find (is_named d t) names)))) [
       | true ↦ λ _. refl
       | false ↦ λ missed. let p = hit_is n.directory directory n.name name is in
           let other : is_named d t n ≡ false = sym (turned d n.directory t n.name) ∙ subst (λ (s : List ℕ). hit d t n.directory s ≡ false) (sym p.1) (subst (λ (e : ℕ). hit d t e name ≡ false) (sym p.0) missed) in
@@ -60,7 +60,7 @@ cookie-others directory name (n ∷ names) d t =
     unlike is it = let p = hit_is n.directory d n.name t it in
         subst (λ (s : List ℕ). hit d s directory name ≡ false) p.1 (subst (λ (e : ℕ). hit e n.name directory name ≡ false) p.0 is)
 
--- the cookies with one more name, which isn't there
+-- the cookies with one more name, which didn't exist
 pub cookie-push : (names : List Name) (n : Name) (d : ℕ) (t : List ℕ) → cookie names n.directory n.name ≡ None → cookie (names ++ n ∷ []) d t ≡ cond (hit d t n.directory n.name) (Some n.cookie) (cookie names d t)
 cookie-push [] n d t none = ap (λ b. option_map (λ (n : Name). n.cookie) (cond b (Some n) None)) (turned n.directory d n.name t) ∙ same (hit d t n.directory n.name)
   where
@@ -119,7 +119,7 @@ passed_by (m ∷ names) d t none =
       | false ↦ λ h. ap (λ l. m ∷ l) (passed_by names d t h)
     ] none
 
--- the last name is taken back
+-- the last name is removed again
 pub taken_back : (names now : List Name) (n : Name) (d : ℕ) (t : List ℕ) → n.directory ≡ d → n.name ≡ t → cookie names d t ≡ None → now ≡ names ++ n ∷ [] → other_names d t now ≡ names
 taken_back names now n d t here same none is = ap (other_names d t) is ∙ back names ∙ passed_by names d t none
   where

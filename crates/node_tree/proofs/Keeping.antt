@@ -14,7 +14,7 @@ use Rattle.node_tree.proofs.Indexing.{cookie, cookie-others, hit, hit_is, is_hit
 use Rattle.node_tree.proofs.Counting.{absent_stays, one_out, one_push, step, stays}
 use Rattle.node_tree.proofs.Listed.{but, apart, all_later, cookie_above, rises-push}
 
--- ---- the name of a cookie goes
+-- ---- the name of a cookie is removed
 
 cookie_below : (p : Name → Bool) (low high : ℕ) (names : List Name) (k : ℕ) → Rises (λ n. n.cookie) low names high → option_map (λ (n : Name). n.cookie) (find p names) ≡ Some k → k < high
 cookie_below p low high [] k rises is = cc
@@ -38,7 +38,7 @@ but_named low high (m ∷ names) d t k rises one is =
           ap (λ b. cond (not b) (m ∷ but k names) (but k names)) (apart m.cookie k (omega arith)) ∙ ap (λ l. m ∷ l) (but_named (m.cookie + 1) high names d t k rises.1 (omega (arith, e, one)) h)
     ] (step (is_named d t) m names) is
 
--- the names without the name of a cookie that may be there
+-- the names without the name of a cookie, if there is one
 abbrev pub dropped : Option ℕ → List Name → List Name
 dropped k names = option_map_or (λ k. but k names) k names
 
@@ -79,13 +79,13 @@ dropped_both names n from old moved target rises once was there =
 
 -- ---- the table
 
--- a refusal leaves the table as it was
+-- a refusal leaves the table unchanged
 pub kept_as_it_was : {A : Type 0} (index again : BTreeMap ℕ (BTreeMap (Vec ℕ A) ℕ A) A) (names now : List Name) → IsKept index names → now ≡ names → ((d : ℕ) (t : List ℕ) → cookie_at again d t ≡ cookie_at index d t) → AreNamed again → IsKept again now
 kept_as_it_was {A} index again names now kept is found named = subst (IsKept again) (sym is) (record { next = kept.next; rises = kept.rises; found = λ d t. found d t ∙ kept.found d t; once = kept.once; named = named })
 
-pub kept_push : {A : Type 0} (index told : BTreeMap ℕ (BTreeMap (Vec ℕ A) ℕ A) A) (names now : List Name) (n : Name) → IsKept index names → Rises (λ n. n.cookie) 3 names n.cookie → now ≡ names ++ n ∷ []
-    → cookie names n.directory n.name ≡ None → ((d : ℕ) (t : List ℕ) → cookie_at told d t ≡ cookie now d t) → AreNamed told → IsKept told now
-kept_push {A} index told names now n kept rises is none found named = record {
+pub kept_push : {A : Type 0} (index indexed : BTreeMap ℕ (BTreeMap (Vec ℕ A) ℕ A) A) (names now : List Name) (n : Name) → IsKept index names → Rises (λ n. n.cookie) 3 names n.cookie → now ≡ names ++ n ∷ []
+    → cookie names n.directory n.name ≡ None → ((d : ℕ) (t : List ℕ) → cookie_at indexed d t ≡ cookie now d t) → AreNamed indexed → IsKept indexed now
+kept_push {A} index indexed names now n kept rises is none found named = record {
   next = n.cookie + 1;
   rises = subst (λ names. Rises (λ n. n.cookie) 3 names (n.cookie + 1)) (sym is) (rises-push 3 names n rises);
   found = found;
@@ -93,9 +93,9 @@ kept_push {A} index told names now n kept rises is none found named = record {
   once = λ d t. subst (λ names. count_by (is_named d t) names ≤ 1) (sym is) (one_push names n d t none (kept.once d t));
 }
 
-pub kept_remove : {A : Type 0} (index told : BTreeMap ℕ (BTreeMap (Vec ℕ A) ℕ A) A) (names now : List Name) (d : ℕ) (t : List ℕ) → IsKept index names → now ≡ other_names d t names
-    → ((d : ℕ) (t : List ℕ) → cookie_at told d t ≡ cookie now d t) → AreNamed told → IsKept told now
-kept_remove {A} index told names now d t kept is found named = record {
+pub kept_remove : {A : Type 0} (index indexed : BTreeMap ℕ (BTreeMap (Vec ℕ A) ℕ A) A) (names now : List Name) (d : ℕ) (t : List ℕ) → IsKept index names → now ≡ other_names d t names
+    → ((d : ℕ) (t : List ℕ) → cookie_at indexed d t ≡ cookie now d t) → AreNamed indexed → IsKept indexed now
+kept_remove {A} index indexed names now d t kept is found named = record {
   next = kept.next;
   rises = subst (λ names. Rises (λ n. n.cookie) 3 names kept.next) (sym is) (Rises-filter (λ n. n.cookie) (λ m. not (is_named d t m)) 3 kept.next names kept.rises);
   found = found;
@@ -103,14 +103,14 @@ kept_remove {A} index told names now d t kept is found named = record {
   once = λ e s. subst (λ names. count_by (is_named e s) names ≤ 1) (sym is) (one_out names d t e s (kept.once e s));
 }
 
-pub kept_replace : {A : Type 0} (index told : BTreeMap ℕ (BTreeMap (Vec ℕ A) ℕ A) A) (names now : List Name) (from : ℕ) (old : List ℕ) (n : Name) → IsKept index names → Rises (λ n. n.cookie) 3 names n.cookie
-    → now ≡ other_names n.directory n.name (other_names from old names) ++ n ∷ [] → ((d : ℕ) (t : List ℕ) → cookie_at told d t ≡ cookie now d t) → AreNamed told → IsKept told now
-kept_replace {A} index told names now from old n kept rises is found named = record {
+pub kept_replace : {A : Type 0} (index indexed : BTreeMap ℕ (BTreeMap (Vec ℕ A) ℕ A) A) (names now : List Name) (from : ℕ) (old : List ℕ) (n : Name) → IsKept index names → Rises (λ n. n.cookie) 3 names n.cookie
+    → now ≡ other_names n.directory n.name (other_names from old names) ++ n ∷ [] → ((d : ℕ) (t : List ℕ) → cookie_at indexed d t ≡ cookie now d t) → AreNamed indexed → IsKept indexed now
+kept_replace {A} index indexed names now from old n kept rises is found named = record {
   next = n.cookie + 1;
   rises = subst (λ names. Rises (λ n. n.cookie) 3 names (n.cookie + 1)) (sym is) (rises-push 3 rest n (Rises-filter (λ n. n.cookie) (λ m. not (is_named n.directory n.name m)) 3 n.cookie left (Rises-filter (λ n. n.cookie) (λ m. not (is_named from old m)) 3 n.cookie names rises)));
   found = found;
   named = named;
-  once = λ d t. subst (λ names. count_by (is_named d t) names ≤ 1) (sym is) (one_push rest n d t gone (one_out left n.directory n.name d t (one_out names from old d t (kept.once d t))));
+  once = λ d t. subst (λ names. count_by (is_named d t) names ≤ 1) (sym is) (one_push rest n d t removed (one_out left n.directory n.name d t (one_out names from old d t (kept.once d t))));
 }
   where
     left : List Name
@@ -119,9 +119,9 @@ kept_replace {A} index told names now from old n kept rises is found named = rec
     rest : List Name
     rest = other_names n.directory n.name left
 
-    gone : cookie rest n.directory n.name ≡ None
-    gone = cookie-others n.directory n.name left n.directory n.name ∙ ap (λ b. cond b None (cookie left n.directory n.name)) (is_hit n.directory n.directory n.name n.name refl refl)
+    removed : cookie rest n.directory n.name ≡ None
+    removed = cookie-others n.directory n.name left n.directory n.name ∙ ap (λ b. cond b None (cookie left n.directory n.name)) (is_hit n.directory n.directory n.name n.name refl refl)
 
--- a name that has no child isn't there
+-- a name without a child doesn't exist
 pub absent : (names : List Name) (d : ℕ) (t : List ℕ) → option_map (λ (n : Name). n.child) (find (is_named d t) names) ≡ None → cookie names d t ≡ None
 absent names d t = elim (find (is_named d t) names) as (λ o. option_map (λ (n : Name). n.child) o ≡ None → option_map (λ (n : Name). n.cookie) o ≡ None) [ None ↦ λ h. refl | Some n ↦ λ h. cc ]

@@ -21,7 +21,7 @@ is_name t s h = (bytes_decides t s).0 (sym (same_test t s) ∙ h)
 name_is : (t s : List ℕ) → t ≡ s → is_eq (slice_cmp nat_cmp t s) ≡ true
 name_is t s h = same_test t s ∙ (bytes_decides t s).1 h
 
--- the value at a name after a value is put in its place
+-- the value at a name after a value is inserted there
 pub lookup_put : {A : Type 0} (t : List ℕ) (k : Vec ℕ A) (v : ℕ) (es : List (Vec ℕ A × ℕ))
     → lookup (is_at (λ (k : Vec ℕ A). slice_cmp nat_cmp t k.items)) (insert_entry (λ (x y : Vec ℕ A). slice_cmp nat_cmp x.items y.items) es k v)
     ≡ cond (pointwise nat_eq t k.items) (Some v) (lookup (is_at (λ (k : Vec ℕ A). slice_cmp nat_cmp t k.items)) es)
@@ -58,7 +58,7 @@ lookup_put {A} t k v es = put es ∙ ap (λ b. cond b (Some v) (lookup (is_at (�
               ∙ swapped (is_eq (slice_cmp nat_cmp t e.0.items)) (is_eq (slice_cmp nat_cmp t k.items)) (Some e.1) (Some v) rest (λ a b. apart e.0.items is (is_name t k.items b) (is_name t e.0.items a))
         ] refl
 
--- the value at a name after another name is taken away
+-- the value at a name after another name is removed
 others : {A : Type 0} (t s : List ℕ) (es : List (Vec ℕ A × ℕ)) → pointwise nat_eq t s ≡ false
     → lookup (is_at (λ (k : Vec ℕ A). slice_cmp nat_cmp t k.items)) (remove_entry (is_at (λ (k : Vec ℕ A). slice_cmp nat_cmp s k.items)) es)
     ≡ lookup (is_at (λ (k : Vec ℕ A). slice_cmp nat_cmp t k.items)) es
@@ -76,8 +76,8 @@ others {A} t s (e ∷ es) unlike =
 pub lookup_taken : {A : Type 0} (t s : List ℕ) (es : List (Vec ℕ A × ℕ)) → lookup (is_at (λ (k : Vec ℕ A). slice_cmp nat_cmp s k.items)) (remove_entry (is_at (λ (k : Vec ℕ A). slice_cmp nat_cmp s k.items)) es) ≡ None
     → lookup (is_at (λ (k : Vec ℕ A). slice_cmp nat_cmp t k.items)) (remove_entry (is_at (λ (k : Vec ℕ A). slice_cmp nat_cmp s k.items)) es)
     ≡ cond (pointwise nat_eq t s) None (lookup (is_at (λ (k : Vec ℕ A). slice_cmp nat_cmp t k.items)) es)
-lookup_taken {A} t s es gone =
+lookup_taken {A} t s es removed =
     elim (pointwise nat_eq t s) as (λ b. pointwise nat_eq t s ≡ b → lookup (is_at (λ (k : Vec ℕ A). slice_cmp nat_cmp t k.items)) (remove_entry (is_at (λ (k : Vec ℕ A). slice_cmp nat_cmp s k.items)) es) ≡ cond b None (lookup (is_at (λ (k : Vec ℕ A). slice_cmp nat_cmp t k.items)) es)) [
-      | true ↦ λ is. subst (λ (x : List ℕ). lookup (is_at (λ (k : Vec ℕ A). slice_cmp nat_cmp x k.items)) (remove_entry (is_at (λ (k : Vec ℕ A). slice_cmp nat_cmp s k.items)) es) ≡ None) (sym ((bytes_decides t s).0 is)) gone
+      | true ↦ λ is. subst (λ (x : List ℕ). lookup (is_at (λ (k : Vec ℕ A). slice_cmp nat_cmp x k.items)) (remove_entry (is_at (λ (k : Vec ℕ A). slice_cmp nat_cmp s k.items)) es) ≡ None) (sym ((bytes_decides t s).0 is)) removed
       | false ↦ λ is. others t s es is
     ] refl

@@ -22,9 +22,6 @@ pub mod Counting
 pub mod Listed
 pub mod Keeping
 pub mod Places
-pub mod Saying
-pub mod Ranging
+pub mod Restorable
 pub mod Reading
-pub mod Quiet
-pub mod Allowing
 pub mod Planning

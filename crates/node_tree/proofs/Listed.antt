@@ -20,20 +20,20 @@ use Rattle.node_tree.proofs.Rising.{Rises-filter}
 
 -- ---- the cookies after a cookie
 
-behind : (c k : ℕ) → is_lt (nat_cmp c k) ≡ nat_lt c k
-behind c k = elim (nat_lt c k) as (λ b. is_lt (cond b Less (cond (c == k) Equal Greater)) ≡ b) [
+cookie_after : (c k : ℕ) → is_lt (nat_cmp c k) ≡ nat_lt c k
+cookie_after c k = elim (nat_lt c k) as (λ b. is_lt (cond b Less (cond (c == k) Equal Greater)) ≡ b) [
   | true ↦ refl
   | false ↦ elim (c == k) as (λ b. is_lt (cond b Equal Greater) ≡ false) [ true ↦ refl | false ↦ refl ]
 ]
 
 -- the first cookie of a range is the first after its beginning
-pub first_behind : (c : ℕ) (keys : List ℕ) → slice_get (filter (range_contains nat_cmp (Excluded c) Unbounded) keys) 0 ≡ find (nat_lt c) keys
-first_behind c [] = refl
-first_behind c (k ∷ keys) =
-    ap (λ b. slice_get (cond (b && true) (k ∷ filter (range_contains nat_cmp (Excluded c) Unbounded) keys) (filter (range_contains nat_cmp (Excluded c) Unbounded) keys)) 0) (behind c k)
+pub first_after : (c : ℕ) (keys : List ℕ) → slice_get (filter (range_contains nat_cmp (Excluded c) Unbounded) keys) 0 ≡ find (nat_lt c) keys
+first_after c [] = refl
+first_after c (k ∷ keys) =
+    ap (λ b. slice_get (cond (b && true) (k ∷ filter (range_contains nat_cmp (Excluded c) Unbounded) keys) (filter (range_contains nat_cmp (Excluded c) Unbounded) keys)) 0) (cookie_after c k)
     ∙ elim (nat_lt c k) as (λ b. slice_get (cond (b && true) (k ∷ filter (range_contains nat_cmp (Excluded c) Unbounded) keys) (filter (range_contains nat_cmp (Excluded c) Unbounded) keys)) 0 ≡ cond b (Some k) (find (nat_lt c) keys)) [
       | true ↦ refl
-      | false ↦ first_behind c keys
+      | false ↦ first_after c keys
     ]
 
 -- ---- numbers
@@ -74,7 +74,7 @@ cookie_above p low high (m ∷ names) k rises is =
       | false ↦ λ h. let a : m.cookie + 1 ≤ k = cookie_above p (m.cookie + 1) high names k rises.1 h in let b : low ≤ m.cookie = rises.0 in omega arith
     ] is
 
--- the name of the cookie of a name that was found
+-- the name with the cookie of a name that was found
 pub found_by : (p : Name → Bool) (low high : ℕ) (names : List Name) (k : ℕ) → Rises (λ n. n.cookie) low names high → option_map (λ (n : Name). n.cookie) (find p names) ≡ Some k → find (λ n. n.cookie == k) names ≡ find p names
 found_by p low high [] k rises is = refl
 found_by p low high (m ∷ names) k rises is =
@@ -125,7 +125,7 @@ lower low high least (m ∷ names) le rises = (let r : low ≤ m.cookie = rises.
 is_above : (k c : ℕ) → c < k → Greater ≡ nat_cmp k c
 is_above k c less = nat_cmp_is k c Greater less
 
--- the highest cookie goes after all
+-- the highest cookie is inserted at the end
 insert_last : (k : ℕ) (p : Name → Bool) (low : ℕ) (names : List Name) → Rises (λ n. n.cookie) low names k → insert_key nat_cmp (cookies_of p names) k ≡ cookies_of p names ++ k ∷ []
 insert_last k p low [] rises = refl
 insert_last k p low (m ∷ names) rises =
@@ -135,7 +135,7 @@ insert_last k p low (m ∷ names) rises =
       | false ↦ insert_last k p (m.cookie + 1) names rises.1
     ]
 
--- the highest cookie is taken from the end
+-- the highest cookie is removed from the end
 remove_last : (k : ℕ) (p : Name → Bool) (low : ℕ) (names : List Name) → Rises (λ n. n.cookie) low names k → remove_key (is_at (nat_cmp k)) (cookies_of p names ++ k ∷ []) ≡ cookies_of p names
 remove_last k p low [] rises = ap (λ b. cond {A = List ℕ} b [] (k ∷ [])) (tied k k ∙ itself k)
 remove_last k p low (m ∷ names) rises =
@@ -162,7 +162,7 @@ grouped_push read names n before after q low rises was put =
     ∙ ap (λ b. cond b (cookies_of (λ n. read n == q) names ++ n.cookie ∷ []) (cookies_of (λ n. read n == q) names)) (eq_turned q (read n))
     ∙ sym (cookies_of-push (λ n. read n == q) names n)
 
--- a set of cookies from which the last name is taken back
+-- a set of cookies from which the last name is removed again
 pub grouped_back : (p : Name → Bool) (names : List Name) (k q d low : ℕ) (before between after : List ℕ) → Rises (λ n. n.cookie) low names k → before ≡ cookies_of p names
     → between ≡ cond (q == d) (insert_key nat_cmp before k) before → after ≡ cond (q == d) (remove_key (is_at (nat_cmp k)) between) between → after ≡ cookies_of p names
 grouped_back p names k q d low before between after rises was put took =
@@ -247,7 +247,7 @@ grouped_but read k q low high (m ∷ names) n rises is =
 
 -- ---- the list
 
--- the next name of all, where it lies in the directory, is the next name of the directory
+-- the next name of all is the next name of the directory, if it is in the directory
 pub next_beside : (directory c : ℕ) (names : List Name) (n : Name) → find (λ n. nat_lt c n.cookie) names ≡ Some n → n.directory ≡ directory
     → find (λ n. (n.directory == directory) && nat_lt c n.cookie) names ≡ Some n
 next_beside directory c [] n found here = cc
@@ -272,7 +272,7 @@ filled_none groups none q there = let no : IsSome {T = BTreeSet ℕ} None = subs
 pub listed_none : (entries : List (ℕ × Name)) (by_directory by_child : BTreeMap ℕ (BTreeSet ℕ)) → entries ≡ [] → by_directory.entries ≡ [] → by_child.entries ≡ [] → IsListed entries by_directory by_child (values_of entries)
 listed_none entries by_directory by_child none no_directory no_child = subst (λ es. IsListed es by_directory by_child (values_of es)) (sym none) (record {
   next = 3;
-  keyed_so = refl;
+  keyed_names = refl;
   rises = let goal : 3 ≤ 3 = omega arith in goal;
   directories = λ q. ap (λ es. option_map_or (λ (s : BTreeSet ℕ). s.keys) (lookup (is_at (nat_cmp q)) es) []) no_directory;
   children = λ q. ap (λ es. option_map_or (λ (s : BTreeSet ℕ). s.keys) (lookup (is_at (nat_cmp q)) es) []) no_child;
@@ -280,32 +280,32 @@ listed_none entries by_directory by_child none no_directory no_child = subst (λ
   children_filled = filled_none by_child no_child;
 })
 
-module _ (entries told : List (ℕ × Name)) (by_directory by_child directories_told children_told : BTreeMap ℕ (BTreeSet ℕ)) (listed : IsListed entries by_directory by_child (values_of entries)) where
-  pub listed_same : told ≡ entries → ((q : ℕ) → cookies_at directories_told q ≡ cookies_of (λ n. n.directory == q) (values_of entries))
-      → ((q : ℕ) → cookies_at children_told q ≡ cookies_of (λ n. n.child == q) (values_of entries)) → AreFilled directories_told → AreFilled children_told → IsListed told directories_told children_told (values_of told)
+module _ (entries indexed : List (ℕ × Name)) (by_directory by_child directories_indexed children_indexed : BTreeMap ℕ (BTreeSet ℕ)) (listed : IsListed entries by_directory by_child (values_of entries)) where
+  pub listed_same : indexed ≡ entries → ((q : ℕ) → cookies_at directories_indexed q ≡ cookies_of (λ n. n.directory == q) (values_of entries))
+      → ((q : ℕ) → cookies_at children_indexed q ≡ cookies_of (λ n. n.child == q) (values_of entries)) → AreFilled directories_indexed → AreFilled children_indexed → IsListed indexed directories_indexed children_indexed (values_of indexed)
   listed_same same directories children directories_filled children_filled =
-      subst (λ es. IsListed es directories_told children_told (values_of es)) (sym same) (record { next = listed.next; keyed_so = listed.keyed_so; rises = listed.rises; directories = directories; children = children; directories_filled = directories_filled; children_filled = children_filled })
+      subst (λ es. IsListed es directories_indexed children_indexed (values_of es)) (sym same) (record { next = listed.next; keyed_names = listed.keyed_names; rises = listed.rises; directories = directories; children = children; directories_filled = directories_filled; children_filled = children_filled })
 
   module _ (n : Name) (rises : Rises (λ n. n.cookie) 3 (values_of entries) n.cookie) where
-    pub told_back : (read : Name → ℕ) (before between after : BTreeMap ℕ (BTreeSet ℕ)) → ((q : ℕ) → cookies_at before q ≡ cookies_of (λ n. read n == q) (values_of entries)) → (d : ℕ)
+    pub indexed_back : (read : Name → ℕ) (before between after : BTreeMap ℕ (BTreeSet ℕ)) → ((q : ℕ) → cookies_at before q ≡ cookies_of (λ n. read n == q) (values_of entries)) → (d : ℕ)
         → ((q : ℕ) → cookies_at between q ≡ cond (q == d) (insert_key nat_cmp (cookies_at before q) n.cookie) (cookies_at before q))
         → ((q : ℕ) → cookies_at after q ≡ cond (q == d) (remove_key (is_at (nat_cmp n.cookie)) (cookies_at between q)) (cookies_at between q))
         → (q : ℕ) → cookies_at after q ≡ cookies_of (λ n. read n == q) (values_of entries)
-    told_back read before between after was d put took q = grouped_back (λ n. read n == q) (values_of entries) n.cookie q d 3 _ _ _ rises (was q) (put q) (took q)
+    indexed_back read before between after was d put took q = grouped_back (λ n. read n == q) (values_of entries) n.cookie q d 3 _ _ _ rises (was q) (put q) (took q)
 
-    module _ (put : told ≡ insert_entry nat_cmp entries n.cookie n) where
-      keyed_told : told ≡ keyed (values_of entries ++ n ∷ [])
-      keyed_told = put ∙ ap (λ es. insert_entry nat_cmp es n.cookie n) listed.keyed_so ∙ keyed-push 3 (values_of entries) n rises
+    module _ (put : indexed ≡ insert_entry nat_cmp entries n.cookie n) where
+      keyed_indexed : indexed ≡ keyed (values_of entries ++ n ∷ [])
+      keyed_indexed = put ∙ ap (λ es. insert_entry nat_cmp es n.cookie n) listed.keyed_names ∙ keyed-push 3 (values_of entries) n rises
 
-      pub listed_more : values_of told ≡ values_of entries ++ n ∷ []
-      listed_more = ap values_of keyed_told ∙ values-keyed (values_of entries ++ n ∷ [])
+      pub listed_more : values_of indexed ≡ values_of entries ++ n ∷ []
+      listed_more = ap values_of keyed_indexed ∙ values-keyed (values_of entries ++ n ∷ [])
 
-      pub listed_push : ((q : ℕ) → cookies_at directories_told q ≡ cond (q == n.directory) (insert_key nat_cmp (cookies_at by_directory q) n.cookie) (cookies_at by_directory q))
-          → ((q : ℕ) → cookies_at children_told q ≡ cond (q == n.child) (insert_key nat_cmp (cookies_at by_child q) n.cookie) (cookies_at by_child q))
-          → AreFilled directories_told → AreFilled children_told → IsListed told directories_told children_told (values_of told)
-      listed_push directories children directories_filled children_filled = subst (IsListed told directories_told children_told) (sym listed_more) (record {
+      pub listed_push : ((q : ℕ) → cookies_at directories_indexed q ≡ cond (q == n.directory) (insert_key nat_cmp (cookies_at by_directory q) n.cookie) (cookies_at by_directory q))
+          → ((q : ℕ) → cookies_at children_indexed q ≡ cond (q == n.child) (insert_key nat_cmp (cookies_at by_child q) n.cookie) (cookies_at by_child q))
+          → AreFilled directories_indexed → AreFilled children_indexed → IsListed indexed directories_indexed children_indexed (values_of indexed)
+      listed_push directories children directories_filled children_filled = subst (IsListed indexed directories_indexed children_indexed) (sym listed_more) (record {
         next = n.cookie + 1;
-        keyed_so = keyed_told;
+        keyed_names = keyed_indexed;
         rises = rises-push 3 (values_of entries) n rises;
         directories = λ q. grouped_push (λ n. n.directory) (values_of entries) n _ _ q 3 rises (listed.directories q) (directories q);
         children = λ q. grouped_push (λ n. n.child) (values_of entries) n _ _ q 3 rises (listed.children q) (children q);
@@ -313,20 +313,20 @@ module _ (entries told : List (ℕ × Name)) (by_directory by_child directories_
         children_filled = children_filled;
       })
 
-  module _ (k : ℕ) (took : told ≡ remove_entry (is_at (nat_cmp k)) entries) where
-    keyed_left : told ≡ keyed (but k (values_of entries))
-    keyed_left = took ∙ ap (remove_entry (is_at (nat_cmp k))) listed.keyed_so ∙ keyed-but k 3 listed.next (values_of entries) listed.rises
+  module _ (k : ℕ) (took : indexed ≡ remove_entry (is_at (nat_cmp k)) entries) where
+    keyed_left : indexed ≡ keyed (but k (values_of entries))
+    keyed_left = took ∙ ap (remove_entry (is_at (nat_cmp k))) listed.keyed_names ∙ keyed-but k 3 listed.next (values_of entries) listed.rises
 
-    pub listed_less : values_of told ≡ but k (values_of entries)
+    pub listed_less : values_of indexed ≡ but k (values_of entries)
     listed_less = ap values_of keyed_left ∙ values-keyed (but k (values_of entries))
 
     pub listed_but : (n : Name) → Some n ≡ lookup (is_at (nat_cmp k)) entries
-        → ((q : ℕ) → cookies_at directories_told q ≡ cond (q == n.directory) (remove_key (is_at (nat_cmp k)) (cookies_at by_directory q)) (cookies_at by_directory q))
-        → ((q : ℕ) → cookies_at children_told q ≡ cond (q == n.child) (remove_key (is_at (nat_cmp k)) (cookies_at by_child q)) (cookies_at by_child q))
-        → AreFilled directories_told → AreFilled children_told → IsListed told directories_told children_told (values_of told)
-    listed_but n was directories children directories_filled children_filled = subst (IsListed told directories_told children_told) (sym listed_less) (record {
+        → ((q : ℕ) → cookies_at directories_indexed q ≡ cond (q == n.directory) (remove_key (is_at (nat_cmp k)) (cookies_at by_directory q)) (cookies_at by_directory q))
+        → ((q : ℕ) → cookies_at children_indexed q ≡ cond (q == n.child) (remove_key (is_at (nat_cmp k)) (cookies_at by_child q)) (cookies_at by_child q))
+        → AreFilled directories_indexed → AreFilled children_indexed → IsListed indexed directories_indexed children_indexed (values_of indexed)
+    listed_but n was directories children directories_filled children_filled = subst (IsListed indexed directories_indexed children_indexed) (sym listed_less) (record {
       next = listed.next;
-      keyed_so = keyed_left;
+      keyed_names = keyed_left;
       rises = Rises-filter (λ n. n.cookie) (λ n. not (n.cookie == k)) 3 listed.next (values_of entries) listed.rises;
       directories = λ q. directories q ∙ ap (λ ks. cond (q == n.directory) (remove_key (is_at (nat_cmp k)) ks) ks) (listed.directories q) ∙ grouped_but (λ n. n.directory) k q 3 listed.next (values_of entries) n listed.rises here;
       children = λ q. children q ∙ ap (λ ks. cond (q == n.child) (remove_key (is_at (nat_cmp k)) ks) ks) (listed.children q) ∙ grouped_but (λ n. n.child) k q 3 listed.next (values_of entries) n listed.rises here;
@@ -335,4 +335,4 @@ module _ (entries told : List (ℕ × Name)) (by_directory by_child directories_
     })
       where
         here : find (λ n. n.cookie == k) (values_of entries) ≡ Some n
-        here = sym (at_cookie k (values_of entries)) ∙ ap (lookup (is_at (nat_cmp k))) (sym listed.keyed_so) ∙ sym was
+        here = sym (at_cookie k (values_of entries)) ∙ ap (lookup (is_at (nat_cmp k))) (sym listed.keyed_names) ∙ sym was

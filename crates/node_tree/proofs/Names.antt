@@ -1,4 +1,4 @@
--- Names after a filter or a push: which are there, and how many.
+-- Names after a filter or a push: which remain, and how many.
 use Rattle.std.proofs.Common.{◌≡◌, ℕ, ◌+◌, ◌<◌, ◌≤◌, Bool, true, false, not, ◌&&◌, ◌||◌, cond, List, [], ◌∷◌, ◌++◌, length, refl, ap, sym, ◌∙◌, subst, arith, Some, None, inl, inr, add_comm}
 use Rattle.std.specs.Prelude.{◌⊎◌, find, ◌==◌, count_by, nat_eq}
 use Rattle.std.specs.List.{filter, list_any}
@@ -14,85 +14,85 @@ use Rattle.node_tree.specs.Sound.{IsIn, IsLimited}
 -- ---- a filter
 
 pub in_filter : (p : Name → Bool) (n : Name) (names : List Name) → IsIn n names → p n ≡ true → IsIn n (filter p names)
-in_filter p n [] stands passes = absurd stands
-in_filter p n (m ∷ names) stands passes =
+in_filter p n [] present passes = absurd present
+in_filter p n (m ∷ names) present passes =
     elim (p m) as (λ b. p m ≡ b → (n ≡ m) ⊎ IsIn n names → IsIn n (cond b (m ∷ filter p names) (filter p names))) [
       | true ↦ λ is. ⊎_elim (λ same. inl same) (λ later. inr (in_filter p n names later passes))
       | false ↦ λ is. ⊎_elim (λ same. let t : p m ≡ true = subst (λ x. p x ≡ true) same passes in cc) (λ later. in_filter p n names later passes)
-    ] refl stands
+    ] refl present
 
 -- the names that a filter keeps
 pub record Stays (p : Name → Bool) (n : Name) (names : List Name) : Type 0 where
-  pub stood : IsIn n names
+  pub was_present : IsIn n names
   pub passes : p n ≡ true
 
 pub from_filter : (p : Name → Bool) (n : Name) (names : List Name) → IsIn n (filter p names) → Stays p n names
-from_filter p n [] stands = absurd stands
-from_filter p n (m ∷ names) stands =
+from_filter p n [] present = absurd present
+from_filter p n (m ∷ names) present =
     elim (p m) as (λ b. p m ≡ b → IsIn n (cond b (m ∷ filter p names) (filter p names)) → Stays p n (m ∷ names)) [
-      | true ↦ λ is. ⊎_elim (λ same. record { stood = inl same; passes = subst (λ x. p x ≡ true) (sym same) is }) (λ later. let r = from_filter p n names later in record { stood = inr r.stood; passes = r.passes })
-      | false ↦ λ is later. let r = from_filter p n names later in record { stood = inr r.stood; passes = r.passes }
-    ] refl stands
+      | true ↦ λ is. ⊎_elim (λ same. record { was_present = inl same; passes = subst (λ x. p x ≡ true) (sym same) is }) (λ later. let r = from_filter p n names later in record { was_present = inr r.was_present; passes = r.passes })
+      | false ↦ λ is later. let r = from_filter p n names later in record { was_present = inr r.was_present; passes = r.passes }
+    ] refl present
 
 -- ---- some name passes, or none does
 
 pub record Passing (p : Name → Bool) (names : List Name) : Type 0 where
   pub name : Name
-  pub stands : IsIn name names
+  pub present : IsIn name names
   pub passes : p name ≡ true
 
 pub any_passes : (p : Name → Bool) (names : List Name) → list_any p names ≡ true → Passing p names
 any_passes p [] some = cc
 any_passes p (m ∷ names) some =
     elim (p m) as (λ b. p m ≡ b → (b || list_any p names) ≡ true → Passing p (m ∷ names)) [
-      | true ↦ λ is _. record { name = m; stands = inl refl; passes = is }
-      | false ↦ λ is rest. let r = any_passes p names rest in record { name = r.name; stands = inr r.stands; passes = r.passes }
+      | true ↦ λ is _. record { name = m; present = inl refl; passes = is }
+      | false ↦ λ is rest. let r = any_passes p names rest in record { name = r.name; present = inr r.present; passes = r.passes }
     ] refl some
 
 pub none_passes : (p : Name → Bool) (names : List Name) → list_any p names ≡ false → (n : Name) → IsIn n names → p n ≡ true → ⊥
-none_passes p [] none n stands passes = stands
-none_passes p (m ∷ names) none n stands passes =
+none_passes p [] none n present passes = present
+none_passes p (m ∷ names) none n present passes =
     elim (p m) as (λ b. p m ≡ b → (b || list_any p names) ≡ false → (n ≡ m) ⊎ IsIn n names → ⊥) [
       | true ↦ λ is h _. cc
       | false ↦ λ is h. ⊎_elim (λ same. let t : p m ≡ true = subst (λ x. p x ≡ true) same passes in cc) (λ later. none_passes p names h n later passes)
-    ] refl none stands
+    ] refl none present
 
 -- the name that a search found
 pub record Found {X : Type 0} (read : Name → X) (p : Name → Bool) (names : List Name) (x : X) : Type 0 where
   pub name : Name
-  pub stands : IsIn name names
+  pub present : IsIn name names
   pub passes : p name ≡ true
-  pub leads : read name ≡ x
+  pub child_is : read name ≡ x
 
 pub found : {X : Type 0} (read : Name → X) (p : Name → Bool) (names : List Name) (x : X) → option_map read (find p names) ≡ Some x → Found read p names x
 found read p [] x is = cc
 found {X} read p (m ∷ names) x is =
     elim (p m) as (λ b. p m ≡ b → option_map read (cond b (Some m) (find p names)) ≡ Some x → Found read p (m ∷ names) x) [
-      | true ↦ λ at h. record { name = m; stands = inl refl; passes = at; leads = cc }
-      | false ↦ λ at h. let r = found read p names x h in record { name = r.name; stands = inr r.stands; passes = r.passes; leads = r.leads }
+      | true ↦ λ at h. record { name = m; present = inl refl; passes = at; child_is = cc }
+      | false ↦ λ at h. let r = found read p names x h in record { name = r.name; present = inr r.present; passes = r.passes; child_is = r.child_is }
     ] refl is
 
 pub not_found : {X : Type 0} (read : Name → X) (p : Name → Bool) (names : List Name) → option_map read (find p names) ≡ None → (n : Name) → IsIn n names → p n ≡ true → ⊥
-not_found read p [] none n stands passes = stands
-not_found {X} read p (m ∷ names) none n stands passes =
+not_found read p [] none n present passes = present
+not_found {X} read p (m ∷ names) none n present passes =
     elim (p m) as (λ b. p m ≡ b → option_map read (cond b (Some m) (find p names)) ≡ None → (n ≡ m) ⊎ IsIn n names → ⊥) [
       | true ↦ λ at h _. cc
       | false ↦ λ at h. ⊎_elim (λ same. let t : p m ≡ true = subst (λ x. p x ≡ true) same passes in cc) (λ later. not_found read p names h n later passes)
-    ] refl none stands
+    ] refl none present
 
 -- ---- a push
 
-pub in_front : (n : Name) (xs ys : List Name) → IsIn n xs → IsIn n (xs ++ ys)
-in_front n [] ys stands = absurd stands
-in_front n (m ∷ xs) ys stands = ⊎_elim (λ same. inl same) (λ later. inr (in_front n xs ys later)) stands
+pub in_prefix : (n : Name) (xs ys : List Name) → IsIn n xs → IsIn n (xs ++ ys)
+in_prefix n [] ys present = absurd present
+in_prefix n (m ∷ xs) ys present = ⊎_elim (λ same. inl same) (λ later. inr (in_prefix n xs ys later)) present
 
 pub in_last : (n : Name) (xs : List Name) → IsIn n (xs ++ n ∷ [])
 in_last n [] = inl refl
 in_last n (m ∷ xs) = inr (in_last n xs)
 
 pub from_push : (n new : Name) (xs : List Name) → IsIn n (xs ++ new ∷ []) → IsIn n xs ⊎ (n ≡ new)
-from_push n new [] stands = ⊎_elim (λ same. inr same) (λ later. absurd later) stands
-from_push n new (m ∷ xs) stands = ⊎_elim (λ same. inl (inl same)) (λ later. ⊎_elim (λ old. inl (inr old)) (λ it. inr it) (from_push n new xs later)) stands
+from_push n new [] present = ⊎_elim (λ same. inr same) (λ later. absurd later) present
+from_push n new (m ∷ xs) present = ⊎_elim (λ same. inl (inl same)) (λ later. ⊎_elim (λ old. inl (inr old)) (λ it. inr it) (from_push n new xs later)) present
 
 -- ---- a name's place
 
@@ -117,7 +117,7 @@ find-filter p q (x ∷ xs) =
       | false ↦ find-filter p q xs
     ]
 
--- the child of a name, sought among all names
+-- the child of a name, searched for among all names
 pub child_sought : (names : List Name) (directory : ℕ) (name : List ℕ) → option_map (λ (n : Name). n.child) (find (is_named directory name) names) ≡ child_in (names_in names directory) name
 child_sought names directory name = ap (option_map (λ (n : Name). n.child)) (find-filter (λ (n : Name). n.directory == directory) (λ (n : Name). pointwise nat_eq n.name name) names)
 
@@ -145,10 +145,10 @@ count_by-filter q p (m ∷ names) =
       | false ↦ let goal : count_by q (filter p names) ≤ count_by q (m ∷ names) = omega arith in goal
     ]
 
--- a name that was counted is gone
+-- a counted name is filtered out
 pub count_by-filter_out : (q p : Name → Bool) (names : List Name) (n : Name) → IsIn n names → q n ≡ true → p n ≡ false → count_by q (filter p names) < count_by q names
-count_by-filter_out q p [] n stands counts out = absurd stands
-count_by-filter_out q p (m ∷ names) n stands counts out =
+count_by-filter_out q p [] n present counts out = absurd present
+count_by-filter_out q p (m ∷ names) n present counts out =
     let rest : count_by q (filter p names) ≤ count_by q names = count_by-filter q p names in
     let all : count_by q (m ∷ names) ≡ cond (q m) 1 0 + count_by q names = step q m names in
     let kept : count_by q (m ∷ filter p names) ≡ cond (q m) 1 0 + count_by q (filter p names) = step q m (filter p names) in
@@ -161,7 +161,7 @@ count_by-filter_out q p (m ∷ names) n stands counts out =
       | true ↦ let goal : count_by q (m ∷ filter p names) < count_by q (m ∷ names) = omega arith in goal
       | false ↦ let goal : count_by q (filter p names) < count_by q (m ∷ names) = omega arith in goal
     ])
-    stands
+    present
 
 pub count_by-push : (q : Name → Bool) (names : List Name) (n : Name) → count_by q (names ++ n ∷ []) ≡ count_by q names + cond (q n) 1 0
 count_by-push q [] n = step q n [] ∙ add_comm (cond (q n) 1 0) 0
@@ -174,7 +174,7 @@ count_by-push q (m ∷ names) n =
 pub count_by-none : (q : Name → Bool) (names : List Name) → ((n : Name) → IsIn n names → q n ≡ true → ⊥) → count_by q names ≡ 0
 count_by-none q [] none = refl
 count_by-none q (m ∷ names) none =
-    let rest : count_by q names ≡ 0 = count_by-none q names (λ n stands. none n (inr stands)) in
+    let rest : count_by q names ≡ 0 = count_by-none q names (λ n present. none n (inr present)) in
     step q m names ∙ elim (q m) as (λ b. q m ≡ b → cond b 1 0 + count_by q names ≡ 0) [
       | true ↦ λ is. absurd (none m (inl refl) is)
       | false ↦ λ is. let goal : 0 + count_by q names ≡ 0 = omega arith in goal
@@ -188,8 +188,8 @@ pub name_count-filter : (p : Name → Bool) (names : List Name) (directory : ℕ
 name_count-filter p names directory = omega (arith, names_counted (filter p names) directory, names_counted names directory, count_by-filter (λ n. n.directory == directory) p names)
 
 pub name_count-filter_out : (p : Name → Bool) (names : List Name) (directory : ℕ) (n : Name) → IsIn n names → n.directory ≡ directory → p n ≡ false → name_count (filter p names) directory < name_count names directory
-name_count-filter_out p names directory n stands here out =
-    omega (arith, names_counted (filter p names) directory, names_counted names directory, count_by-filter_out (λ n. n.directory == directory) p names n stands ((Decides-eqb n.directory directory).1 here) out)
+name_count-filter_out p names directory n present here out =
+    omega (arith, names_counted (filter p names) directory, names_counted names directory, count_by-filter_out (λ n. n.directory == directory) p names n present ((Decides-eqb n.directory directory).1 here) out)
 
 -- ---- the limits
 
@@ -197,7 +197,7 @@ pub IsLimited-filter : (p : Name → Bool) (names : List Name) → IsLimited nam
 IsLimited-filter p names limited = record {
   directories = λ k. let a : name_count (filter p names) k ≤ name_count names k = name_count-filter p names k in let b : name_count names k ≤ MAX_NAMES = limited.directories k in let c : name_count (filter p names) k ≤ MAX_NAMES = omega arith in c;
   links = λ k. let a : link_count (filter p names) k ≤ link_count names k = count_by-filter (λ n. n.child == k) p names in let b : link_count names k ≤ MAX_LINKS = limited.links k in let c : link_count (filter p names) k ≤ MAX_LINKS = omega arith in c;
-  short = λ n stands. limited.short n (from_filter p n names stands).stood;
+  short = λ n present. limited.short n (from_filter p n names present).was_present;
 }
 
 one_more : (q : ℕ → Name → Bool) (names : List Name) (n : Name) (k most : ℕ) → count_by (q k) names ≤ most → (q k n ≡ true → count_by (q k) names < most) → count_by (q k) (names ++ n ∷ []) ≤ most
@@ -220,5 +220,5 @@ pub IsLimited-push : (names : List Name) (n : Name) → IsLimited names → name
 IsLimited-push names n limited room links short = record {
   directories = λ k. name_more names n k (limited.directories k) room;
   links = λ k. one_more (λ k n. n.child == k) names n k MAX_LINKS (limited.links k) (λ is. subst (λ k. link_count names k < MAX_LINKS) ((Decides-eqb n.child k).0 is) links);
-  short = λ m stands. ⊎_elim (λ old. limited.short m old) (λ same. subst (λ (m : Name). length m.name ≤ MAX_NAME) (sym same) short) (from_push m n names stands);
+  short = λ m present. ⊎_elim (λ old. limited.short m old) (λ same. subst (λ (m : Name). length m.name ≤ MAX_NAME) (sym same) short) (from_push m n names present);
 }

@@ -61,7 +61,7 @@ removed number (e ∷ es) sorted =
       | false ↦ λ at. ap (λ l. e ∷ l) (removed number es (sorted_tail nat_cmp _ _ sorted))
     ] refl
 
--- an object that is removed, or isn't there
+-- an object that is removed, or doesn't exist
 pub ruleset removal_facts = (removed, without_none)
 
 -- the object of a number after a change of one object
@@ -76,7 +76,7 @@ lookup-changed number q f es =
       ] refl
     ] refl
 
--- the object of a number after an object is put in its place
+-- the object of a number after an object is inserted there
 pub lookup-inserted : (k q : ℕ) (v : Object) (es : List (ℕ × Object)) → lookup (is_at (nat_cmp q)) (insert_entry nat_cmp es k v) ≡ cond (is_at (nat_cmp q) k) (Some v) (lookup (is_at (nat_cmp q)) es)
 lookup-inserted k q v [] = refl
 lookup-inserted k q v (e ∷ es) =
@@ -117,15 +117,15 @@ option_map-changed read number f es keeps k =
     kept None = refl
     kept (Some o) = ap Some (keeps o)
 
--- the object of a number after a change is as it was, or is the change of the object that was there
+-- after a change of one object, the object of a number is unchanged, or is the changed object
 pub record Changed (number : ℕ) (f : Object → Object) (es : List (ℕ × Object)) (k : ℕ) (a : Object) : Type 0 where
   pub old : Object
-  pub stood : lookup (is_at (nat_cmp k)) es ≡ Some old
+  pub was_present : lookup (is_at (nat_cmp k)) es ≡ Some old
   pub new : a ≡ f old
   pub here : number ≡ k
 
 pub record Kept (number : ℕ) (es : List (ℕ × Object)) (k : ℕ) (a : Object) : Type 0 where
-  pub stood : lookup (is_at (nat_cmp k)) es ≡ Some a
+  pub was_present : lookup (is_at (nat_cmp k)) es ≡ Some a
   pub elsewhere : number ≢ k
 
 pub changed_cases : (number : ℕ) (f : Object → Object) (es : List (ℕ × Object)) (k : ℕ) (a : Object) → lookup (is_at (nat_cmp k)) (changed number f es) ≡ Some a
@@ -133,14 +133,14 @@ pub changed_cases : (number : ℕ) (f : Object → Object) (es : List (ℕ × Ob
 changed_cases number f es k a is =
     elim (is_at (nat_cmp number) k) as (λ b. is_at (nat_cmp number) k ≡ b → cond b (option_map f (lookup (is_at (nat_cmp number)) es)) (lookup (is_at (nat_cmp k)) es) ≡ Some a → Changed number f es k a ⊎ Kept number es k a) [
       | true ↦ λ at h. inl (at_it (is_same number k at) (lookup (is_at (nat_cmp number)) es) refl h)
-      | false ↦ λ at h. inr (record { stood = h; elsewhere = is_at-unlike number k at })
+      | false ↦ λ at h. inr (record { was_present = h; elsewhere = is_at-unlike number k at })
     ] refl (sym (lookup-changed number k f es) ∙ is)
   where
     at_it : number ≡ k → (found : Option Object) → lookup (is_at (nat_cmp number)) es ≡ found → option_map f found ≡ Some a → Changed number f es k a
-    at_it same None stood h = cc
-    at_it same (Some o) stood h = record { old = o; stood = subst (λ n. lookup (is_at (nat_cmp n)) es ≡ Some o) same stood; new = cc; here = same }
+    at_it same None was_present h = cc
+    at_it same (Some o) was_present h = record { old = o; was_present = subst (λ n. lookup (is_at (nat_cmp n)) es ≡ Some o) same was_present; new = cc; here = same }
 
--- the object of a value
+-- the object that a value was read from
 pub record ReadOff {X Y : Type 0} (read : X → Y) (o : Option X) (y : Y) : Type 0 where
   pub value : X
   pub is : o ≡ Some value
@@ -150,7 +150,7 @@ pub read_off : {X Y : Type 0} (read : X → Y) (o : Option X) (y : Y) → option
 read_off read None y is = cc
 read_off read (Some x) y is = record { value = x; is = refl; gives = cc }
 
--- how many objects there are
+-- the number of objects
 pub length-changed : (number : ℕ) (f : Object → Object) (es : List (ℕ × Object)) → length (changed number f es) ≡ length es
 length-changed number f es =
     elim (lookup (is_at (nat_cmp number)) es) as (λ found. length (option_map_or (λ o. set_value (is_at (nat_cmp number)) es (f o)) found es) ≡ length es) [

@@ -45,18 +45,18 @@ first e es = ap (λ b. cond b (Some e.1) (at e.0 es)) (is_at-same e.0)
 
 -- ---- the objects of numbers
 
--- how many objects there are
+-- the number of objects
 pub length-placed : (nodes : Slab Object) (places : List (ℕ × ℕ)) → length (placed nodes places) ≡ length places
 length-placed nodes places = length-map places (λ e. (e.0, in_place nodes e.1))
 
 pub placed_at : (nodes : Slab Object) (places : List (ℕ × ℕ)) (k : ℕ) → lookup (is_at (nat_cmp k)) (placed nodes places) ≡ option_map (in_place nodes) (at k places)
 placed_at nodes places k = lookup-map_values (in_place nodes) (is_at (nat_cmp k)) places
 
-abbrev shown : Option Object → Object
-shown o = option_map_or (λ o. o) o unseen
+abbrev or_absent : Option Object → Object
+or_absent o = option_map_or (λ o. o) o unseen
 
 held_there : (nodes : Slab Object) (place : ℕ) → IsSome (get nodes place) → get nodes place ≡ Some (in_place nodes place)
-held_there nodes place is = elim (get nodes place) as (λ o. IsSome o → o ≡ Some (shown o)) [ Some o ↦ λ _. refl | None ↦ λ none. cc ] is
+held_there nodes place is = elim (get nodes place) as (λ o. IsSome o → o ≡ Some (or_absent o)) [ Some o ↦ λ _. refl | None ↦ λ none. cc ] is
 
 pub found : (nodes : Slab Object) (places : List (ℕ × ℕ)) (k place : ℕ) → IsPlaced nodes places → at k places ≡ Some place → get nodes place ≡ lookup (is_at (nat_cmp k)) (placed nodes places)
 found nodes places k place is there = held_there nodes place (is.held k place there) ∙ sym (placed_at nodes places k ∙ ap (option_map (in_place nodes)) there)
@@ -68,7 +68,7 @@ not_found nodes places k none = placed_at nodes places k ∙ ap (option_map (in_
 pub no_place : (nodes : Slab Object) (places : List (ℕ × ℕ)) (k : ℕ) → lookup (is_at (nat_cmp k)) (placed nodes places) ≡ None → at k places ≡ None
 no_place nodes places k none = elim (at k places) as (λ o. option_map (in_place nodes) o ≡ None → o ≡ None) [ Some p ↦ λ h. cc | None ↦ λ _. refl ] (sym (placed_at nodes places k) ∙ none)
 
--- places with the same objects show the same objects
+-- places with the same objects give the same objects
 same : (old new : Slab Object) (es : List (ℕ × ℕ)) → IsStrictlySortedBy nat_cmp (keys_of es) → ((k q : ℕ) → at k es ≡ Some q → in_place new q ≡ in_place old q) → placed new es ≡ placed old es
 same old new [] rises alike = refl
 same old new (e ∷ es) rises alike =
@@ -89,9 +89,9 @@ changed old new number place w (e ∷ es) rises there is others =
       | true ↦ λ here at_it. let own : e.1 ≡ place = cc in
           ap (λ o. (e.0, o) ∷ placed new es) (ap (in_place new) own ∙ is)
           ∙ ap (λ l. (e.0, w) ∷ l) (same old new es (sorted_tail nat_cmp _ _ rises) (λ k q found. others k q (later k q e es rises found) (unlike k number es q (absent_later number e es rises here) found)))
-      | false ↦ λ elsewhere behind.
+      | false ↦ λ elsewhere rest.
           ap (λ o. (e.0, o) ∷ placed new es) (others e.0 e.1 (first e es) (λ one. let yes : is_at (nat_cmp number) e.0 ≡ true = subst (λ k. is_at (nat_cmp number) k ≡ true) (sym one) (is_at-same number) in cc))
-          ∙ ap (λ l. (e.0, in_place old e.1) ∷ l) (changed old new number place w es (sorted_tail nat_cmp _ _ rises) behind is (λ k q found apart. others k q (later k q e es rises found) apart))
+          ∙ ap (λ l. (e.0, in_place old e.1) ∷ l) (changed old new number place w es (sorted_tail nat_cmp _ _ rises) rest is (λ k q found apart. others k q (later k q e es rises found) apart))
     ] refl there
 
 module _ (nodes : Slab Object) (places : List (ℕ × ℕ)) (is : IsPlaced nodes places) (number place : ℕ) (there : at number places ≡ Some place) (w : Object) where
@@ -110,8 +110,8 @@ module _ (nodes : Slab Object) (places : List (ℕ × ℕ)) (is : IsPlaced nodes
   -- the object that is written into a place is the object of its number
   pub placed_written : placed (with_value nodes place w) places ≡ set_value (is_at (nat_cmp number)) (placed nodes places) w
   placed_written = changed nodes (with_value nodes place w) number place w places is.ordered there
-      (ap shown written)
-      (λ k q found other. ap shown (kept q (elsewhere k q found other)))
+      (ap or_absent written)
+      (λ k q found other. ap or_absent (kept q (elsewhere k q found other)))
 
   some_still : (q : ℕ) → IsSome (get nodes q) → IsSome (get (with_value nodes place w) q)
   some_still q was = elim (is_at (nat_cmp q) place) as (λ b. is_at (nat_cmp q) place ≡ b → IsSome (get (with_value nodes place w) q)) [
@@ -134,7 +134,7 @@ module _ (nodes : Slab Object) (places : List (ℕ × ℕ)) (is : IsPlaced nodes
 lookup_less : (number k : ℕ) (places : List (ℕ × ℕ)) → IsStrictlySortedBy nat_cmp (keys_of places) → at k (remove_entry (is_at (nat_cmp number)) places) ≡ cond (is_at (nat_cmp number) k) None (at k places)
 lookup_less number k places rises = lookup-remove_entry (eq_by_cmp_equiv nat_cmp_total) (is_at (nat_cmp number)) (λ x y h. (eq_by_cmp_equiv nat_cmp_total).congr number x y h) k places (IsDistinct-from_sorted nat_cmp _ rises)
 
--- a number that still has a place is another number, and had the place
+-- a number that still has a place is another number, and had that place before
 record Stays (number k q : ℕ) (places : List (ℕ × ℕ)) : Type 0 where
   had : at k places ≡ Some q
   other : k ≢ number
@@ -158,7 +158,7 @@ placed_without : (nodes : Slab Object) (number : ℕ) (places : List (ℕ × ℕ
 placed_without nodes number places rises =
     removed_placed nodes number places ∙ removed number (placed nodes places) (subst (IsStrictlySortedBy nat_cmp) (sym (keys_of-map_values (in_place nodes) places)) rises)
 
--- no object goes where there is none
+-- removing an object that doesn't exist changes nothing
 pub placed_as_before : (nodes : Slab Object) (now places : List (ℕ × ℕ)) (number : ℕ) → at number places ≡ None → now ≡ places → placed nodes now ≡ without number (placed nodes places)
 placed_as_before nodes now places number none is = ap (placed nodes) is ∙ sym (without_none number (placed nodes places) (not_found nodes places number none))
 
@@ -170,7 +170,7 @@ module _ (nodes new : Slab Object) (places now : List (ℕ × ℕ)) (is : IsPlac
       (s.had, taken.others q (λ one. s.other (is.apart k number place (s.had ∙ ap Some one) there)))
 
   pub placed_taken : IsStrictlySortedBy nat_cmp (keys_of now) → placed new now ≡ without number (placed nodes places)
-  placed_taken rises = same nodes new now rises (λ k q found. ap shown (still k q found).1) ∙ ap (placed nodes) rest ∙ placed_without nodes number places is.ordered
+  placed_taken rises = same nodes new now rises (λ k q found. ap or_absent (still k q found).1) ∙ ap (placed nodes) rest ∙ placed_without nodes number places is.ordered
 
   pub IsPlaced-taken : IsStrictlySortedBy nat_cmp (keys_of now) → slab_len new + 1 ≡ slab_len nodes → length now + 1 ≡ length places → IsPlaced new now
   IsPlaced-taken rises fewer shorter = record {
@@ -215,7 +215,7 @@ inserted_placed nodes number place (e ∷ es) =
       | Greater ↦ ap (λ l. (e.0, in_place nodes e.1) ∷ l) (inserted_placed nodes number place es)
     ]
 
--- a number that has a place is the new number, or had the place before
+-- a number that has a place is the new number, or had that place before
 record New (number place k q : ℕ) : Type 0 where
   here : k ≡ number
   in_it : q ≡ place
@@ -235,8 +235,8 @@ module _ (nodes new : Slab Object) (places now : List (ℕ × ℕ)) (is : IsPlac
   pub placed_more : placed new now ≡ insert_entry nat_cmp (placed nodes places) number o
   placed_more =
       ap (placed new) more ∙ inserted_placed new number place places
-      ∙ ap (insert_entry nat_cmp (placed new places) number) (ap shown filled.changed)
-      ∙ ap (λ l. insert_entry nat_cmp l number o) (same nodes new places is.ordered (λ k q found. ap shown (filled.others q (other_place k q found))))
+      ∙ ap (insert_entry nat_cmp (placed new places) number) (ap or_absent filled.changed)
+      ∙ ap (λ l. insert_entry nat_cmp l number o) (same nodes new places is.ordered (λ k q found. ap or_absent (filled.others q (other_place k q found))))
 
   pub IsPlaced-more : IsStrictlySortedBy nat_cmp (keys_of now) → slab_len new ≡ slab_len nodes + 1 → length now ≡ length places + 1 → IsPlaced new now
   IsPlaced-more rises one_more longer = record {
@@ -249,15 +249,15 @@ module _ (nodes new : Slab Object) (places now : List (ℕ × ℕ)) (is : IsPlac
     counted = let before : slab_len nodes ≡ length places = is.counted in omega arith;
   }
 
--- room for more changes nothing
+-- a larger capacity changes nothing
 pub roomier : (nodes new : Slab Object) (places : List (ℕ × ℕ)) → new ≡ record nodes { capacity = new.capacity } → IsPlaced nodes places → IsPlaced new places
 roomier nodes new places same is = subst (λ n. IsPlaced n places) (sym same) (record { ordered = is.ordered; held = is.held; apart = is.apart; counted = is.counted })
 
--- where there was no object there is one more
+-- if there was no object under the number, there is one more object
 pub as_long : (places now : List (ℕ × ℕ)) (old : Option ℕ) → old ≡ None → length now ≡ length places + cond (is_some old) 0 1 → length now ≡ length places + 1
 as_long places now old none len = len ∙ ap (λ (o : Option ℕ). length places + cond (is_some o) 0 1) none
 
--- where there is an object there is one less
+-- if there was an object under the number, there is one object less
 pub shorter : (places now : List (ℕ × ℕ)) (old : Option ℕ) (place : ℕ) → old ≡ Some place → length now + cond (is_some old) 1 0 ≡ length places → length now + 1 ≡ length places
 shorter places now old place there len = ap (λ (o : Option ℕ). length now + cond (is_some o) 1 0) (sym there) ∙ len
 

@@ -1,4 +1,4 @@
--- Bytes by their places in a file.
+-- The bytes of a file, by index.
 use Rattle.std.proofs.Common.{◌≡◌, ℕ, zero, suc, ◌+◌, ◌-◌, ◌<◌, ◌≤◌, ◌&&◌, nat_le, nat_lt, cond, if◌then◌else◌, slice_index, length, List, [], ◌∷◌, ◌++◌, get_or, take, drop, replicate, map, refl, ap, sym, ◌∙◌, arith}
 use Rattle.std.specs.Prelude.{min, max}
 use Rattle.std.specs.List.{range_with_len}
@@ -14,7 +14,7 @@ use Rattle.node_tree.specs.Changes.{written, resized}
 pub part_reads : (xs : List ℕ) (start n k : ℕ) → k < n → get_or (take n (drop start xs)) k 0 ≡ get_or xs (start + k) 0
 part_reads xs start n k h = grind (arith, common_steps)
 
--- a byte of a list that is made place by place
+-- a byte of a list that is made index by index
 reads : (f : ℕ → ℕ) (n k : ℕ) → get_or (map f (range_with_len 0 n)) k 0 ≡ cond (nat_lt k n) (f k) 0
 reads f n k = grind (arith, common_steps, nat_tests, length-map-range_with_len, get_or-map-range_with_len, get_or_past)
 
@@ -25,15 +25,15 @@ zeros_read [] (suc n) (suc k) = zeros_read [] n k
 zeros_read (x ∷ xs) n zero = refl
 zeros_read (x ∷ xs) n (suc k) = zeros_read xs n k
 
-front_reads : (xs : List ℕ) (m k : ℕ) → k < m → get_or (take m xs) k 0 ≡ get_or xs k 0
-front_reads xs m k h = grind (arith, common_steps)
+take_reads : (xs : List ℕ) (m k : ℕ) → k < m → get_or (take m xs) k 0 ≡ get_or xs k 0
+take_reads xs m k h = grind (arith, common_steps)
 
 -- a size is set
 pub resized_is : (f g : ℕ → ℕ) (n m : ℕ) → ((i : ℕ) → g i ≡ (if nat_lt i m then f i else 0)) → ((i : ℕ) → n ≤ i → f i ≡ 0) → map g (range_with_len 0 m) ≡ resized (map f (range_with_len 0 n)) m
 resized_is f g n m new zeros =
     let xs : List ℕ = map f (range_with_len 0 n) in
     sym (fill_by_all g (resized xs m) m 0 (grind (arith, common_steps)) (λ k h.
-    zeros_read (take m xs) (m - length xs) k ∙ front_reads xs m k h ∙ reads f n k ∙ same k h))
+    zeros_read (take m xs) (m - length xs) k ∙ take_reads xs m k h ∙ reads f n k ∙ same k h))
   where
     same : (k : ℕ) → k < m → cond {A = ℕ} (nat_lt k n) (f k) 0 ≡ g k
     same k h = grind (arith, nat_tests, new k, zeros k)
@@ -57,7 +57,7 @@ written_is f g n size offset more is zeros new =
         by_cases : (k : ℕ) → f k ≡ cond {A = ℕ} (nat_lt k n) (f k) 0
         by_cases k = grind (arith, nat_tests, zeros k)
 
--- data are written where no bytes were
+-- data are written into an empty file
 pub written_all : (bytes more : List ℕ) → bytes ≡ [] → written bytes 0 more ≡ more
 written_all bytes more none = ap (λ (old : List ℕ). written old 0 more) none ∙ sym (fill_by_all place more (max 0 (0 + length more)) 0 (let l : length more ≡ max 0 (0 + length more) = omega arith in l) same)
   where
@@ -72,7 +72,7 @@ drop_range a n zero b m at left = let e : a ≡ b = omega arith in let l : m ≡
 drop_range a zero (suc k) b m at left = let l : m ≡ 0 = omega arith in rw l refl
 drop_range a (suc n) (suc k) b m at left = drop_range (a + 1) n k b m (omega arith) (omega arith)
 
--- a stretch is read
+-- a range is read
 pub stretch_is : (f : ℕ → ℕ) (n offset most count : ℕ) → count ≡ min (n - offset) most → take most (drop offset (map f (range_with_len 0 n))) ≡ map f (range_with_len offset count)
 stretch_is f n offset most count is =
     ap (take most) (drop-map f offset (range_with_len 0 n) ∙ ap (map f) (drop_range 0 n offset offset (n - offset) (omega arith) refl))

@@ -1,21 +1,18 @@
--- A RENAME that was planned, and is done in the world in which it was.
+-- A planned RENAME, carried out in the world in which it was planned.
 use Rattle.std.proofs.Common.{◌≡◌, ℕ, ◌<◌, ◌^◌, List, cond, true, false, ap, sym, ◌∙◌, Some, None}
 use Rattle.std.specs.Prelude.{Option}
 use Rattle.std.specs.Option.{option_map_or, option_or}
 use Rattle.node_tree.specs.declared.at.At.{At}
-use Rattle.node_tree.specs.declared.fault.TreeFault.{TreeFault}
-use Rattle.node_tree.specs.declared.fault.TreeFault.TheVariants.{Exist, NoEnt, Inval, NoSpc}
+use Rattle.node_tree.specs.declared.fault.TreeFault.TheVariants.{Exist, NoEnt, Inval}
 use Rattle.node_tree.specs.World.{World, child_named, is_one, kind_of, parent_of, name_count, has_entries}
 use Rattle.node_tree.specs.Refusals.{is_below, may_replace, may_move, is_same, move_refusal, plan_refusal, space_refusal, rename_refusal}
 use Rattle.node_tree.specs.Changes.{given_name, with_move, renamed}
 use Rattle.node_tree.specs.Sound.{IsSound, IsTick}
-use Rattle.node_tree.specs.Steps.{Rename, allows}
 use Rattle.node_tree.specs.Moving.{Moving}
 use Rattle.node_tree.specs.Moves.{IsMove, IsOf}
 use Rattle.node_tree.proofs.Moving.{IsSound-unrefused_move, another, unrefused_move}
-use Rattle.node_tree.proofs.Allowing.{short_found, allows_rename}
 
--- ---- what is found
+-- ---- the child and the target
 
 -- a child that is found gets the name of a target that is found
 pub plan_found : (w : World) (from : ℕ) (old : List ℕ) (to : ℕ) (new : List ℕ) (child : ℕ) (target : Option ℕ) → child_named w from old ≡ Some child → child_named w to new ≡ target
@@ -26,6 +23,13 @@ plan_found w from old to new child target is taken =
 pub same_found : (w : World) (from : ℕ) (old : List ℕ) (to : ℕ) (new : List ℕ) (child : ℕ) (target : Option ℕ) → child_named w from old ≡ Some child → child_named w to new ≡ target
     → is_same w from old to new ≡ is_one (Some child) target
 same_found w from old to new child target is taken = ap (λ o. is_one o (child_named w to new)) is ∙ ap (is_one (Some child)) taken
+
+-- a rename of the child and the target that were found
+pub renamed_with : (w : World) (from : ℕ) (old : List ℕ) (to : ℕ) (new : List ℕ) (child : ℕ) (target : Option ℕ) (at : At) → child_named w from old ≡ Some child → child_named w to new ≡ target → is_one (Some child) target ≡ false
+    → with_move w from old (given_name w to new child) target at ≡ renamed w from old to new at
+renamed_with w from old to new child target at is taken apart =
+    sym (ap (λ b. cond b w (option_map_or (λ c. with_move w from old (given_name w to new c) (child_named w to new) at) (child_named w from old) w)) (ap (λ o. is_one o (child_named w to new)) is ∙ ap (is_one (Some child)) taken ∙ apart)
+    ∙ ap (λ (o : Option ℕ). option_map_or (λ c. with_move w from old (given_name w to new c) (child_named w to new) at) o w) is ∙ ap (λ o. with_move w from old (given_name w to new child) o at) taken)
 
 -- ---- a move
 
@@ -39,7 +43,7 @@ module _ (w : World) (m : Moving) (planned : IsMove w m) where
       ∙ ap (λ b. cond b None (cond (is_below (kind_of w) (parent_of w) w.next_number m.child m.to) (Some Inval) (cond (may_replace (kind_of w) (has_entries w.names) m.child m.target) None (Some Exist)))) planned.other
       ∙ ap (λ b. cond b (Some Inval) (cond (may_replace (kind_of w) (has_entries w.names) m.child m.target) None (Some Exist))) planned.above ∙ ap (λ b. cond b None (Some Exist)) planned.replaces
 
-  -- once it is planned, a RENAME is refused for want of space alone
+  -- once it is planned, a RENAME is refused only for space
   pub refusal_is : rename_refusal w m.from m.old m.to m.new ≡ space_refusal w m.from m.to m.target
   refusal_is =
       ap (λ o. option_or o (cond (is_same w m.from m.old m.to m.new) None (space_refusal w m.from m.to (child_named w m.to m.new)))) unrefused_plan
@@ -48,12 +52,6 @@ module _ (w : World) (m : Moving) (planned : IsMove w m) where
   module _ (sound : IsSound w) (space : may_move (name_count w.names m.to) w.next_cookie m.from m.to m.target ≡ true) where
     pub cookie_left : w.next_cookie < 2 ^ 63
     cookie_left = (unrefused_move w sound m.from m.to m.child m.target planned.above planned.replaces space).cookie
-
-    unrefused : rename_refusal w m.from m.old m.to m.new ≡ None
-    unrefused = refusal_is ∙ ap (λ b. cond b None (Some NoSpc)) space
-
-    pub allows_move : (at : At) → IsTick w at.tick → allows w (Rename m.from m.old m.to m.new at) ≡ true
-    allows_move at tick = allows_rename w m.from m.old m.to m.new at tick planned.live (short_found w sound m.from m.old m.child planned.child) planned.short apart_is (sym unrefused)
 
     pub IsSound-move : (at : At) → IsTick w at.tick → IsSound (with_move w m.from m.old (given_name w m.to m.new m.child) m.target at)
     IsSound-move at tick = IsSound-unrefused_move w sound m.from m.old m.to m.new m.child m.target at tick planned.live planned.short planned.child planned.target (another m.child m.target planned.other) planned.above planned.replaces space

@@ -1,6 +1,6 @@
 -- The parts of a world, read in order.
-use Rattle.std.proofs.Common.{◌≡◌, ℕ, ◌+◌, ◌<◌, ◌≤◌, Bool, true, false, cond, ◌&&◌, List, [], ◌∷◌, ◌++◌, refl, ap, sym, ◌∙◌, subst, arith, Some, None}
-use Rattle.std.specs.Prelude.{Option, find, nat_lt, ◌==◌, slice_get, map}
+use Rattle.std.proofs.Common.{◌≡◌, ℕ, ◌+◌, ◌<◌, ◌≤◌, true, false, cond, ◌&&◌, List, [], ◌∷◌, ◌++◌, refl, ap, ◌∙◌, subst, arith, Some}
+use Rattle.std.specs.Prelude.{find, nat_lt, ◌==◌, slice_get}
 use Rattle.std.specs.List.{filter}
 use Rattle.std.specs.Option.{option_map}
 use Rattle.std.specs.Ordering.{nat_cmp, is_lt}
@@ -12,13 +12,13 @@ use Rattle.slab.specs.Slab.{Slab}
 use Rattle.node_tree.specs.World.{World, Object, Name}
 use Rattle.node_tree.specs.Groups.{keyed}
 use Rattle.node_tree.specs.Places.{in_place, placed}
-use Rattle.node_tree.specs.Parts.{number_after, any_after, IsReadInOrder}
+use Rattle.node_tree.specs.Parts.{IsReadInOrder}
 use Rattle.node_tree.specs.Sound.{Rises, IsSound}
 
 -- ---- the first entry of a range
 
-behind : (c k : ℕ) → is_lt (nat_cmp c k) ≡ nat_lt c k
-behind c k = elim (nat_lt c k) as (λ b. is_lt (cond b Less (cond (c == k) Equal Greater)) ≡ b) [
+cookie_after : (c k : ℕ) → is_lt (nat_cmp c k) ≡ nat_lt c k
+cookie_after c k = elim (nat_lt c k) as (λ b. is_lt (cond b Less (cond (c == k) Equal Greater)) ≡ b) [
   | true ↦ refl
   | false ↦ elim (c == k) as (λ b. is_lt (cond b Equal Greater) ≡ false) [ true ↦ refl | false ↦ refl ]
 ]
@@ -27,7 +27,7 @@ pub first_entry : {X : Type 0} (c : ℕ) (es : List (ℕ × X)) → slice_get (f
 first_entry c [] = refl
 first_entry {X} c (e ∷ es) =
     let rest : List (ℕ × X) = filter (λ e. range_contains nat_cmp (Excluded c) Unbounded e.0) es in
-    ap (λ b. slice_get (cond (b && true) (e ∷ rest) rest) 0) (behind c e.0)
+    ap (λ b. slice_get (cond (b && true) (e ∷ rest) rest) 0) (cookie_after c e.0)
     ∙ elim (nat_lt c e.0) as (λ b. slice_get (cond (b && true) (e ∷ rest) rest) 0 ≡ cond b (Some e) (find (λ e. nat_lt c e.0) es)) [
       | true ↦ refl
       | false ↦ first_entry c es

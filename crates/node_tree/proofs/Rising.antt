@@ -47,7 +47,7 @@ Rises-ends : (low high : ℕ) (es : List (ℕ × Object)) → Rises (λ e. e.0) 
 Rises-ends low high [] rises = rises
 Rises-ends low high (e ∷ es) rises = let rest : e.0 + 1 ≤ high = Rises-ends (e.0 + 1) high es rises.1 in let first : low ≤ e.0 = rises.0 in omega arith
 
--- each object there has a number below the next
+-- each object has a number below the next
 pub number-below : (low high : ℕ) (es : List (ℕ × Object)) (k : ℕ) (o : Object) → Rises (λ e. e.0) low es high → lookup (is_at (nat_cmp k)) es ≡ Some o → k < high
 number-below low high [] k o rises is = cc
 number-below low high (e ∷ es) k o rises is =
@@ -56,7 +56,7 @@ number-below low high (e ∷ es) k o rises is =
       | false ↦ λ at h. number-below (e.0 + 1) high es k o rises.1 h
     ] refl is
 
--- a new number goes after all others
+-- a new number is inserted at the end
 pub inserted_last : (low next : ℕ) (es : List (ℕ × Object)) (o : Object) → Rises (λ e. e.0) low es next → insert_entry nat_cmp es next o ≡ es ++ (next, o) ∷ []
 inserted_last low next [] o rises = refl
 inserted_last low next (e ∷ es) o rises =

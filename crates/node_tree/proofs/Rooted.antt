@@ -1,4 +1,4 @@
--- One tree of directories stays one tree, where a name comes, goes or moves.
+-- One tree of directories stays one tree, when a name is added, removed or moved.
 use Rattle.std.proofs.Common.{◌≡◌, ◌≢◌, ℕ, zero, suc, Bool, true, false, ◌||◌, List, [], ◌∷◌, ◌++◌, refl, ap, sym, ◌∙◌, subst, Some, None}
 use Rattle.std.specs.Prelude.{Option, IsSome, is_some, find, ◌==◌}
 use Rattle.std.specs.List.{filter}
@@ -12,16 +12,16 @@ use Rattle.node_tree.specs.World.{Name, is_named}
 use Rattle.node_tree.specs.Ways.{is_met}
 use Rattle.node_tree.specs.Sound.{IsIn, Climbs, IsRooted}
 use Rattle.node_tree.proofs.Objects.{by_number}
-use Rattle.node_tree.proofs.Names.{in_filter, from_filter, found, not_found, in_front, in_last, from_push, named_at}
+use Rattle.node_tree.proofs.Names.{in_filter, from_filter, found, not_found, in_prefix, in_last, from_push, named_at}
 use Rattle.node_tree.proofs.Stamps.{Joins}
 
--- a directory has no other kind
+-- if two optional types are equal and one is present, so is the other
 pub is_one : (o p : Option Kind) → o ≡ p → IsSome p → IsSome o
 is_one o p e h = subst IsSome (sym e) h
 
 climbs_lift : (xs ys : List Name) (steps k : ℕ) → Climbs xs steps k → Climbs (xs ++ ys) steps k
 climbs_lift xs ys zero k climbs = climbs
-climbs_lift xs ys (suc steps) k (n, stands, at, rest) = (n, in_front n xs ys stands, at, climbs_lift xs ys steps n.directory rest)
+climbs_lift xs ys (suc steps) k (n, present, at, rest) = (n, in_prefix n xs ys present, at, climbs_lift xs ys steps n.directory rest)
 
 -- ---- a new object under a new name
 
@@ -51,13 +51,13 @@ IsRooted-joined kinds new names number cookie directory name kind rooted joins f
           (from_push m it names h);
       held = λ k h not_root. by_number number k
           (λ at. (it, in_last it names, at))
-          (λ apart. let r = rooted.held k (was k apart h) not_root in (r.0, in_front r.0 names (it ∷ []) r.1, r.2));
+          (λ apart. let r = rooted.held k (was k apart h) not_root in (r.0, in_prefix r.0 names (it ∷ []) r.1, r.2));
       reaches_root = λ k is. by_number number k
           (λ at. let way = rooted.reaches_root directory live in (suc way.0, (it, in_last it names, at, climbs_lift names (it ∷ []) way.0 directory way.1)))
           (λ apart. let way = rooted.reaches_root k (sym (joins.elsewhere k apart) ∙ is) in (way.0, climbs_lift names (it ∷ []) way.0 k way.1));
     }
 
--- ---- a further name of an object that is no directory
+-- ---- another name of an object that isn't a directory
 
 pub IsRooted-linked : (kinds : ℕ → Option Kind) (names : List Name) (number cookie directory : ℕ) (name : List ℕ) → IsRooted kinds names
     → kinds directory ≡ Some Directory → IsSome (kinds number) → kinds number ≢ Some Directory → option_map (λ (n : Name). n.child) (find (is_named directory name) names) ≡ None
@@ -77,36 +77,36 @@ IsRooted-linked kinds names number cookie directory name rooted live there plain
           (λ a. ⊎_elim (λ b. rooted.one_parent m n a b same is) (λ b. absurd (plain (ap kinds (sym (ap (λ (n : Name). n.child) b)) ∙ is))) (from_push n it names i))
           (λ a. absurd (plain (ap kinds (sym (ap (λ (n : Name). n.child) a) ∙ same) ∙ is)))
           (from_push m it names h);
-      held = λ k h not_root. let r = rooted.held k h not_root in (r.0, in_front r.0 names (it ∷ []) r.1, r.2);
+      held = λ k h not_root. let r = rooted.held k h not_root in (r.0, in_prefix r.0 names (it ∷ []) r.1, r.2);
       reaches_root = λ k is. let way = rooted.reaches_root k is in (way.0, climbs_lift names (it ∷ []) way.0 k way.1);
     }
 
 -- ---- a tree without one name
 
--- The names that pass are kept. An object that is alive is as it was, and has a name or is the root.
+-- The names that pass are kept. An object that is alive is unchanged, and has a name or is the root.
 pub record Prunes (kinds alive : ℕ → Option Kind) (p : Name → Bool) (names : List Name) : Type 0 where
   pub was : (k : ℕ) → IsSome (alive k) → alive k ≡ kinds k
   pub root : alive ROOT ≡ kinds ROOT
   pub ends : (n : Name) → IsIn n names → p n ≡ true → (alive n.directory ≡ kinds n.directory) × (alive n.child ≡ kinds n.child)
   pub held : (k : ℕ) → IsSome (alive k) → k ≢ ROOT → (n : Name) × IsIn n (filter p names) × (n.child ≡ k)
-  -- a directory whose name goes is not alive
-  pub gone : (n : Name) → IsIn n names → alive n.child ≡ Some Directory → p n ≡ true
+  -- a directory whose name is removed isn't alive
+  pub removed : (n : Name) → IsIn n names → alive n.child ≡ Some Directory → p n ≡ true
 
 climbs_kept : (kinds alive : ℕ → Option Kind) (p : Name → Bool) (names : List Name) → IsRooted kinds names → Prunes kinds alive p names
     → (steps k : ℕ) → alive k ≡ Some Directory → Climbs names steps k → Climbs (filter p names) steps k
 climbs_kept kinds alive p names rooted prunes zero k is climbs = climbs
-climbs_kept kinds alive p names rooted prunes (suc steps) k is (n, stands, at, rest) =
-    let passes = prunes.gone n stands (ap alive at ∙ is) in
-    let up : alive n.directory ≡ Some Directory = (prunes.ends n stands passes).0 ∙ (rooted.ends n stands).0 in
-    (n, in_filter p n names stands passes, at, climbs_kept kinds alive p names rooted prunes steps n.directory up rest)
+climbs_kept kinds alive p names rooted prunes (suc steps) k is (n, present, at, rest) =
+    let passes = prunes.removed n present (ap alive at ∙ is) in
+    let up : alive n.directory ≡ Some Directory = (prunes.ends n present passes).0 ∙ (rooted.ends n present).0 in
+    (n, in_filter p n names present passes, at, climbs_kept kinds alive p names rooted prunes steps n.directory up rest)
 
 pub IsRooted-pruned : (kinds alive : ℕ → Option Kind) (p : Name → Bool) (names : List Name) → IsRooted kinds names → Prunes kinds alive p names → IsRooted alive (filter p names)
 IsRooted-pruned kinds alive p names rooted prunes =
-    let old = λ (n : Name) (h : IsIn n (filter p names)). (from_filter p n names h).stood in
+    let old = λ (n : Name) (h : IsIn n (filter p names)). (from_filter p n names h).was_present in
     record {
       root = prunes.root ∙ rooted.root;
       root_has_no_name = λ n h. rooted.root_has_no_name n (old n h);
-      ends = λ n h. let s = from_filter p n names h in let e = prunes.ends n s.stood s.passes in (e.0 ∙ (rooted.ends n s.stood).0, ap is_some e.1 ∙ (rooted.ends n s.stood).1);
+      ends = λ n h. let s = from_filter p n names h in let e = prunes.ends n s.was_present s.passes in (e.0 ∙ (rooted.ends n s.was_present).0, ap is_some e.1 ∙ (rooted.ends n s.was_present).1);
       one_child = λ m n h i. rooted.one_child m n (old m h) (old n i);
       one_parent = λ m n h i same is. rooted.one_parent m n (old m h) (old n i) same (sym (prunes.was n.child (ap is_some is)) ∙ is);
       held = prunes.held;
@@ -115,7 +115,7 @@ IsRooted-pruned kinds alive p names rooted prunes =
 
 -- ---- a tree in which a child has moved
 
--- The rest of the names is there, and one more name for the child. An object that is alive is as it was.
+-- The rest of the names stays, and the child has one more name. An object that is alive is unchanged.
 pub record Moves (kinds alive : ℕ → Option Kind) (names rest : List Name) (child to : ℕ) (new : List ℕ) : Type 0 where
   pub was : (k : ℕ) → IsSome (alive k) → alive k ≡ kinds k
   pub root : alive ROOT ≡ kinds ROOT
@@ -131,7 +131,7 @@ pub record Moves (kinds alive : ℕ → Option Kind) (names rest : List Name) (c
   -- each other directory keeps its name
   pub stays : (n : Name) → IsIn n names → alive n.child ≡ Some Directory → child ≢ n.child → IsIn n rest
 
--- the way up from a directory that doesn't meet the child is as it was
+-- the way up from a directory is unchanged if it doesn't meet the child
 way_kept : (kinds alive : ℕ → Option Kind) (names rest : List Name) (child to : ℕ) (new : List ℕ) (parents : ℕ → Option ℕ) → IsRooted kinds names → Moves kinds alive names rest child to new
     → ((k : ℕ) → kinds k ≡ Some Directory → parents k ≡ option_map (λ (n : Name). n.directory) (find (λ n. n.child == k) names))
     → (fuel k : ℕ) → alive k ≡ Some Directory → is_met parents fuel child k ≡ false → (steps : ℕ) × Climbs rest steps k
@@ -153,28 +153,28 @@ way_kept kinds alive names rest child to new parents rooted moves up (suc fuel) 
     climb apart (Some m) it again h =
         let f = found (λ n. n.directory) (λ n. n.child == k) names m.directory (ap (option_map (λ (n : Name). n.directory)) it) in
         let at : f.name.child ≡ k = (Decides-eqb f.name.child k).0 f.passes in
-        let here : IsIn f.name rest = moves.stays f.name f.stands (ap alive at ∙ is) (λ same. apart (same ∙ at)) in
-        let next : alive m.directory ≡ Some Directory = subst (λ d. alive d ≡ Some Directory) f.leads ((moves.ends f.name here).0 ∙ (rooted.ends f.name f.stands).0) in
+        let here : IsIn f.name rest = moves.stays f.name f.present (ap alive at ∙ is) (λ same. apart (same ∙ at)) in
+        let next : alive m.directory ≡ Some Directory = subst (λ d. alive d ≡ Some Directory) f.child_is ((moves.ends f.name here).0 ∙ (rooted.ends f.name f.present).0) in
         let parent : parents k ≡ Some m.directory = up k was ∙ ap (option_map (λ (n : Name). n.directory)) it in
         let clear : is_met parents fuel child m.directory ≡ false = ap (λ o. option_map_or (λ parent. is_met parents fuel child parent) o false) (sym parent) ∙ h in
         let rest_of_way = again m.directory next clear in
-        (suc rest_of_way.0, (f.name, here, at, subst (Climbs rest rest_of_way.0) (sym f.leads) rest_of_way.1))
+        (suc rest_of_way.0, (f.name, here, at, subst (Climbs rest rest_of_way.0) (sym f.child_is) rest_of_way.1))
 
--- the way up from each directory, which may go through the child now
+-- the way up from each directory, which may now pass through the child
 climb_moved : (kinds alive : ℕ → Option Kind) (names rest : List Name) (child to cookie : ℕ) (new : List ℕ) → IsRooted kinds names → Moves kinds alive names rest child to new
     → (alive child ≡ Some Directory → (steps : ℕ) × Climbs rest steps to)
     → (steps k : ℕ) → alive k ≡ Some Directory → Climbs names steps k
     → (s : ℕ) × Climbs (rest ++ record { cookie = cookie; directory = to; name = new; child = child } ∷ []) s k
 climb_moved kinds alive names rest child to cookie new rooted moves way zero k is climbs = (0, climbs)
-climb_moved kinds alive names rest child to cookie new rooted moves way (suc steps) k is (n, stands, at, up) =
+climb_moved kinds alive names rest child to cookie new rooted moves way (suc steps) k is (n, present, at, up) =
     let it : Name = record { cookie = cookie; directory = to; name = new; child = child } in
     by_number child k
     (λ same. let w = way (ap alive same ∙ is) in (suc w.0, (it, in_last it rest, same, climbs_lift rest (it ∷ []) w.0 to w.1)))
     (λ apart.
-    let here : IsIn n rest = moves.stays n stands (ap alive at ∙ is) (λ same. apart (same ∙ at)) in
-    let next : alive n.directory ≡ Some Directory = (moves.ends n here).0 ∙ (rooted.ends n stands).0 in
+    let here : IsIn n rest = moves.stays n present (ap alive at ∙ is) (λ same. apart (same ∙ at)) in
+    let next : alive n.directory ≡ Some Directory = (moves.ends n here).0 ∙ (rooted.ends n present).0 in
     let r = climb_moved kinds alive names rest child to cookie new rooted moves way steps n.directory next up in
-    (suc r.0, (n, in_front n rest (it ∷ []) here, at, r.1)))
+    (suc r.0, (n, in_prefix n rest (it ∷ []) here, at, r.1)))
 
 pub IsRooted-moved : (kinds alive : ℕ → Option Kind) (names rest : List Name) (child to cookie : ℕ) (new : List ℕ) (parents : ℕ → Option ℕ) (fuel : ℕ) → IsRooted kinds names → Moves kinds alive names rest child to new
     → ((k : ℕ) → kinds k ≡ Some Directory → parents k ≡ option_map (λ (n : Name). n.directory) (find (λ n. n.child == k) names))
@@ -200,7 +200,7 @@ IsRooted-moved kinds alive names rest child to cookie new parents fuel rooted mo
           (from_push m it rest h);
       held = λ k h below. by_number child k
           (λ same. (it, in_last it rest, same))
-          (λ apart. let r = moves.held k h below apart in (r.0, in_front r.0 rest (it ∷ []) r.1, r.2));
+          (λ apart. let r = moves.held k h below apart in (r.0, in_prefix r.0 rest (it ∷ []) r.1, r.2));
       reaches_root = λ k is. let way = rooted.reaches_root k (sym (moves.was k (ap is_some is)) ∙ is) in
           climb_moved kinds alive names rest child to cookie new rooted moves (λ a. way_kept kinds alive names rest child to new parents rooted moves up fuel to moves.live (clear a)) way.0 k is way.1;
     }

@@ -1,4 +1,4 @@
--- The sample tree is sound: it is a root after two additions, but for the root's last change.
+-- The sample tree is sound: it is a root after two additions, except for the root's last change.
 use Rattle.std.proofs.Common.{◌≡◌, ℕ, ◌<◌, List, [], refl, sym, subst, lit<, lit≤}
 use Rattle.std.specs.Prelude.{codes}
 use Rattle.acl_list.specs.declared.entry.Entry.{Entry}
@@ -6,7 +6,6 @@ use Rattle.acl_list.specs.declared.entry.Kind.{Kind}
 use Rattle.acl_list.specs.declared.entry.Kind.TheVariants.{File, Directory}
 use Rattle.acl_shape.specs.Bounds.{IsBounded}
 use Rattle.acl_shape.specs.Mode.{set_mode}
-use Rattle.node_tree.specs.Noted.{noted}
 use Rattle.node_tree.specs.World.{World, Object, kind_of}
 use Rattle.node_tree.specs.Changes.{changed, alone, root_of, epoch, with_new}
 use Rattle.node_tree.specs.Sample.{sample}
@@ -39,7 +38,7 @@ IsSound-with_change w number tick sound due =
       counted = record { numbers = sound.counted.numbers; ticks = sound.counted.ticks; stamps = sound.counted.stamps; cookies = sound.counted.cookies };
     }
 
--- the sample of any lists, so that none is computed
+-- the sample with any access control lists, so that none is computed
 module _ (of_root of_notes of_pub : List Entry) (root_bounded : IsBounded of_root) (notes_bounded : IsBounded of_notes) (pub_bounded : IsBounded of_pub) where
   abbrev thing : ℕ → Kind → List ℕ → ℕ → ℕ → List Entry → Object
   thing number kind bytes owner group list = record { kind = kind; bytes = bytes; owner = owner; group = group; list = list; high = 0; change = number; time_modify = epoch; time_metadata = epoch; stamp = number }
@@ -60,7 +59,6 @@ module _ (of_root of_notes of_pub : List Entry) (root_bounded : IsBounded of_roo
       IsSound-with_change second 1 1 two (lit< tt)
 
 pub IsSound-sample : ((entries : List Entry) (kind : Kind) (mode : ℕ) → IsBounded entries → IsBounded (set_mode entries kind mode)) → IsSound sample
-unfolding noted
 IsSound-sample bounds =
     let empty : IsBounded [] = record { all = lit≤ tt; kept = lit≤ tt } in
     is_sound (set_mode [] Directory 0x1ed) (set_mode [] File 0x1a0) (set_mode [] Directory 0x1ff) (bounds [] Directory 0x1ed empty) (bounds [] File 0x1a0 empty) (bounds [] Directory 0x1ff empty)

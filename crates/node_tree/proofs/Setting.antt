@@ -1,4 +1,4 @@
--- A sound world stays sound where the bytes, the list or the owner of an object is set.
+-- A sound world stays sound when the bytes, the access control list (ACL) or the owner of an object is set.
 use Rattle.std.proofs.Common.{◌≡◌, ℕ, ◌+◌, ◌<◌, ◌≤◌, ◌^◌, List, [], length, max, refl, ap, sym, ◌∙◌, subst, arith, Some, None, inl, inr}
 use Rattle.std.specs.Prelude.{Option}
 use Rattle.std.specs.Option.{option_map, option_map_or}
@@ -13,9 +13,6 @@ use Rattle.node_tree.specs.World.{World, Object, object, kind_of, bytes_of}
 use Rattle.node_tree.specs.Changes.{changed, touched, retold, written, resized, with_bytes, with_size, with_list, with_owner}
 use Rattle.node_tree.specs.Judged.{Judged, judged, KeepsJudged}
 use Rattle.node_tree.specs.Sound.{stamp_of, IsRooted, IsStamped, IsFit, IsSound, IsTick, most_bytes}
-use Rattle.node_tree.specs.Noted.{noted}
-use Rattle.node_tree.specs.Steps.{Write, Resize, SetList, SetOwner}
-use Rattle.node_tree.proofs.Quiet.{IsSound-noted, KeepsJudged-noted}
 use Rattle.node_tree.proofs.Objects.{option_map-changed, Changed, Kept, changed_cases, read_off}
 use Rattle.node_tree.proofs.Holding.{IsHeld, IsHeld-later, IsHeld-changed}
 use Rattle.node_tree.proofs.Stamps.{IsStamped-restamped}
@@ -68,12 +65,11 @@ length-written : (bytes : List ℕ) (offset : ℕ) (more : List ℕ) → length 
 length-written bytes offset more = grind (arith, common_steps, length-range_with_len)
 
 pub IsSound-with_bytes : (w : World) (file offset : ℕ) (more : List ℕ) (at : At) → IsSound w → IsTick w at.tick → kind_of w file ≡ Some File → offset + length more ≤ 1048576 → IsSound (with_bytes w file offset more at)
-IsSound-with_bytes w file offset more at sound tick is_file short =
-    IsSound-noted (with_new_bytes w file (λ old. written old offset more) at) (noted w (Write file offset more at))
-    (IsSound-with_new_bytes w file (λ old. written old offset more) at sound tick is_file (λ old fits. rw (length-written old offset more) (omega (arith, fits, short))))
+IsSound-with_bytes w file offset more at sound tick is_file short = IsSound-with_new_bytes w file (λ old. written old offset more) at sound tick is_file
+    (λ old fits. rw (length-written old offset more) (omega (arith, fits, short)))
 
 pub KeepsJudged-with_bytes : (w : World) (file offset : ℕ) (more : List ℕ) (at : At) → KeepsJudged w (with_bytes w file offset more at)
-KeepsJudged-with_bytes w file offset more at = KeepsJudged-noted w (with_new_bytes w file (λ old. written old offset more) at) (noted w (Write file offset more at)) (KeepsJudged-with_new_bytes w file (λ old. written old offset more) at)
+KeepsJudged-with_bytes w file offset more at = KeepsJudged-with_new_bytes w file (λ old. written old offset more) at
 
 -- a file is never too long
 pub short_file : (w : World) → IsSound w → (file : ℕ) → kind_of w file ≡ Some File → length (bytes_of w file) ≤ 1048576
@@ -87,16 +83,15 @@ length-resized : (bytes : List ℕ) (size : ℕ) → length (resized bytes size)
 length-resized bytes size = grind (arith, common_steps)
 
 pub IsSound-with_size : (w : World) (file size : ℕ) (at : At) → IsSound w → IsTick w at.tick → kind_of w file ≡ Some File → size ≤ 1048576 → IsSound (with_size w file size at)
-IsSound-with_size w file size at sound tick is_file short =
-    IsSound-noted (with_new_bytes w file (λ old. resized old size) at) (noted w (Resize file size at))
-    (IsSound-with_new_bytes w file (λ old. resized old size) at sound tick is_file (λ old fits. subst (λ n. n ≤ 1048576) (sym (length-resized old size)) short))
+IsSound-with_size w file size at sound tick is_file short = IsSound-with_new_bytes w file (λ old. resized old size) at sound tick is_file
+    (λ old fits. subst (λ n. n ≤ 1048576) (sym (length-resized old size)) short)
 
 pub KeepsJudged-with_size : (w : World) (file size : ℕ) (at : At) → KeepsJudged w (with_size w file size at)
-KeepsJudged-with_size w file size at = KeepsJudged-noted w (with_new_bytes w file (λ old. resized old size) at) (noted w (Resize file size at)) (KeepsJudged-with_new_bytes w file (λ old. resized old size) at)
+KeepsJudged-with_size w file size at = KeepsJudged-with_new_bytes w file (λ old. resized old size) at
 
--- ---- the list, owner and group of an object
+-- ---- the ACL, owner and group of an object
 
--- the list, the owner or the group of an object is set, and it takes the next stamp
+-- the ACL, the owner or the group of an object is set, and it takes the next stamp
 abbrev with_new_stamp : World → ℕ → (Object → Object) → At → World
 with_new_stamp w number f at = record w { objects = changed number f w.objects; next_tick = at.tick + 1; next_stamp = w.next_stamp + 1 }
 
@@ -110,8 +105,8 @@ IsSound-with_new_stamp w number f at sound tick left kind stamp fits =
       rooted = subst (λ k. IsRooted k w.names) (sym kinds) sound.rooted;
       stamped = IsStamped-restamped (stamp_of w) _ number w.next_stamp sound.stamped (λ k s is.
           let r = read_off (λ (o : Object). o.stamp) (object (with_new_stamp w number f at) k) s is in
-          ⊎_elim (λ (c : Changed number f w.objects k r.value). inl (record { old = c.old.stamp; had = ap (option_map (λ o. o.stamp)) c.stood; new = sym r.gives ∙ ap (λ (o : Object). o.stamp) c.new ∙ stamp c.old; here = c.here }))
-          (λ (c : Kept number w.objects k r.value). inr (ap (option_map (λ o. o.stamp)) c.stood ∙ ap Some r.gives))
+          ⊎_elim (λ (c : Changed number f w.objects k r.value). inl (record { old = c.old.stamp; had = ap (option_map (λ o. o.stamp)) c.was_present; new = sym r.gives ∙ ap (λ (o : Object). o.stamp) c.new ∙ stamp c.old; here = c.here }))
+          (λ (c : Kept number w.objects k r.value). inr (ap (option_map (λ o. o.stamp)) c.was_present ∙ ap Some r.gives))
           (changed_cases number f w.objects k r.value r.is));
       numbered = held.numbered;
       listed = sound.listed;
@@ -127,26 +122,22 @@ KeepsJudged-with_new_stamp w number f at stamp = record {
   same = λ k j is low.
       let r = read_off judged (object (with_new_stamp w number f at) k) j is in
       ⊎_elim (λ (c : Changed number f w.objects k r.value). let new : j.stamp ≡ w.next_stamp = sym (ap (λ (j : Judged). j.stamp) r.gives) ∙ ap (λ (o : Object). o.stamp) c.new ∙ stamp c.old in absurd (omega arith))
-      (λ (c : Kept number w.objects k r.value). ap (option_map judged) c.stood ∙ ap Some r.gives)
+      (λ (c : Kept number w.objects k r.value). ap (option_map judged) c.was_present ∙ ap Some r.gives)
       (changed_cases number f w.objects k r.value r.is);
 }
 
 pub IsSound-with_list : (w : World) (number : ℕ) (list : List Entry) (high : ℕ) (at : At) → IsSound w → IsTick w at.tick → w.next_stamp < 2 ^ 63 → IsBounded list → IsSound (with_list w number list high at)
 IsSound-with_list w number list high at sound tick left bounded =
-    IsSound-noted (with_new_stamp w number (λ o. retold at (record o { list = list; high = high; stamp = w.next_stamp })) at) (noted w (SetList number list high at))
-    (IsSound-with_new_stamp w number (λ o. retold at (record o { list = list; high = high; stamp = w.next_stamp })) at sound tick left (λ o. refl) (λ o. refl)
-    (λ o fit. record { list = bounded; bytes = fit.bytes; change = let goal : at.tick < at.tick + 1 = omega arith in goal }))
+    IsSound-with_new_stamp w number (λ o. retold at (record o { list = list; high = high; stamp = w.next_stamp })) at sound tick left (λ o. refl) (λ o. refl)
+    (λ o fit. record { list = bounded; bytes = fit.bytes; change = let goal : at.tick < at.tick + 1 = omega arith in goal })
 
 pub KeepsJudged-with_list : (w : World) (number : ℕ) (list : List Entry) (high : ℕ) (at : At) → KeepsJudged w (with_list w number list high at)
-KeepsJudged-with_list w number list high at =
-    KeepsJudged-noted w (with_new_stamp w number (λ o. retold at (record o { list = list; high = high; stamp = w.next_stamp })) at) (noted w (SetList number list high at)) (KeepsJudged-with_new_stamp w number (λ o. retold at (record o { list = list; high = high; stamp = w.next_stamp })) at (λ o. refl))
+KeepsJudged-with_list w number list high at = KeepsJudged-with_new_stamp w number (λ o. retold at (record o { list = list; high = high; stamp = w.next_stamp })) at (λ o. refl)
 
 pub IsSound-with_owner : (w : World) (number owner group : ℕ) (at : At) → IsSound w → IsTick w at.tick → w.next_stamp < 2 ^ 63 → IsSound (with_owner w number owner group at)
 IsSound-with_owner w number owner group at sound tick left =
-    IsSound-noted (with_new_stamp w number (λ o. retold at (record o { owner = owner; group = group; stamp = w.next_stamp })) at) (noted w (SetOwner number owner group at))
-    (IsSound-with_new_stamp w number (λ o. retold at (record o { owner = owner; group = group; stamp = w.next_stamp })) at sound tick left (λ o. refl) (λ o. refl)
-    (λ o fit. record { list = fit.list; bytes = fit.bytes; change = let goal : at.tick < at.tick + 1 = omega arith in goal }))
+    IsSound-with_new_stamp w number (λ o. retold at (record o { owner = owner; group = group; stamp = w.next_stamp })) at sound tick left (λ o. refl) (λ o. refl)
+    (λ o fit. record { list = fit.list; bytes = fit.bytes; change = let goal : at.tick < at.tick + 1 = omega arith in goal })
 
 pub KeepsJudged-with_owner : (w : World) (number owner group : ℕ) (at : At) → KeepsJudged w (with_owner w number owner group at)
-KeepsJudged-with_owner w number owner group at =
-    KeepsJudged-noted w (with_new_stamp w number (λ o. retold at (record o { owner = owner; group = group; stamp = w.next_stamp })) at) (noted w (SetOwner number owner group at)) (KeepsJudged-with_new_stamp w number (λ o. retold at (record o { owner = owner; group = group; stamp = w.next_stamp })) at (λ o. refl))
+KeepsJudged-with_owner w number owner group at = KeepsJudged-with_new_stamp w number (λ o. retold at (record o { owner = owner; group = group; stamp = w.next_stamp })) at (λ o. refl)

@@ -25,14 +25,14 @@ IsStamped-restamped stamps fresh number next stamped cases = record {
     fresh_is_new : (k s : ℕ) → stamps k ≡ Some s → s ≡ next → ⊥
     fresh_is_new k s had new = let b : s < next = stamped.below k s had in omega arith
 
--- some objects may go
+-- some objects may be removed
 pub IsStamped-fewer : (stamps fewer : ℕ → Option ℕ) (next : ℕ) → ((k s : ℕ) → fewer k ≡ Some s → stamps k ≡ Some s) → IsStamped stamps next → IsStamped fewer next
 IsStamped-fewer stamps fewer next had stamped = record {
   apart = λ j k s a b. stamped.apart j k s (had j s a) (had k s b);
   below = λ k s a. stamped.below k s (had k s a);
 }
 
--- a value of each object once one more is there
+-- a value of each object after one more is added
 pub record Joins {X : Type 0} (old new : ℕ → Option X) (number : ℕ) (x : X) : Type 0 where
   pub there : new number ≡ Some x
   pub elsewhere : (k : ℕ) → number ≢ k → new k ≡ old k

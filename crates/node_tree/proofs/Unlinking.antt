@@ -1,4 +1,4 @@
--- A sound world stays sound where a name is taken away whose child is no directory with names.
+-- A sound world stays sound when a name is removed whose child isn't a directory with names.
 use Rattle.std.proofs.Common.{◌≡◌, ◌≢◌, ℕ, ◌+◌, ◌<◌, ◌≤◌, ◌^◌, Bool, true, false, not, cond, List, refl, ap, sym, ◌∙◌, subst, arith, Some, None}
 use Rattle.std.specs.Prelude.{Option, IsSome, IfSome, is_some, find, ◌==◌}
 use Rattle.std.specs.Ordering.{nat_cmp}
@@ -23,7 +23,7 @@ use Rattle.node_tree.proofs.Rooted.{Prunes, IsRooted-pruned}
 use Rattle.node_tree.proofs.Setting.{held_in}
 use mathlib.Core.Path.{fun_ext}
 
--- a value of each object once one object has gone, if it went
+-- a value of each object after one object is removed, if it is
 unfoldable pub after : {X : Type 0} → Bool → (ℕ → Option X) → ℕ → ℕ → Option X
 after stays old child k = cond stays (old k) (cond (is_at (nat_cmp child) k) None (old k))
 
@@ -54,7 +54,7 @@ after_some stays old child k x is = sym (after_was stays old child k (ap is_some
 pub lost : {o : Option Kind} → o ≡ None → IsSome o → ⊥
 lost e h = let k : is_some {T = Kind} None ≡ true = subst (λ o. is_some o ≡ true) e h in cc
 
--- a value of each object once one has lost a name
+-- a value of each object after one has lost a name
 pub read_released : {X : Type 0} (read : Object → X) (names : List Name) (child : ℕ) (at : At) (es : List (ℕ × Object)) → ((o : Object) → read (retold at o) ≡ read o)
     → (k : ℕ) → option_map read (lookup (is_at (nat_cmp k)) (released names child at es)) ≡ after (has_name names child) (λ k. option_map read (lookup (is_at (nat_cmp k)) es)) child k
 unfolding after
@@ -65,31 +65,31 @@ read_released read names child at es retelling k =
     ]
 
 module _ (kinds : ℕ → Option Kind) (names : List Name) (rooted : IsRooted kinds names) (directory : ℕ) (name : List ℕ) (child : ℕ)
-    (leads : option_map (λ (n : Name). n.child) (find (is_named directory name) names) ≡ Some child) where
+    (reads : option_map (λ (n : Name). n.child) (find (is_named directory name) names) ≡ Some child) where
   abbrev kept : Name → Bool
   kept n = not (is_named directory name n)
 
-  -- the name that goes
+  -- the name that is removed
   pub goes : Found (λ n. n.child) (is_named directory name) names child
-  goes = found (λ n. n.child) (is_named directory name) names child leads
+  goes = found (λ n. n.child) (is_named directory name) names child reads
 
-  -- no other name is this name
+  -- no other name is equal to it
   pub is_goes : (n : Name) → IsIn n names → kept n ≡ false → n ≡ goes.name
-  is_goes n stands out =
+  is_goes n present out =
       let named : is_named directory name n ≡ true = flipped _ out in
-      rooted.one_child n goes.name stands goes.stands
+      rooted.one_child n goes.name present goes.present
       (named_directory directory name n named ∙ sym (named_directory directory name goes.name goes.passes))
       (named_name directory name n named ∙ sym (named_name directory name goes.name goes.passes))
 
   pub its_child : (n : Name) → IsIn n names → kept n ≡ false → n.child ≡ child
-  its_child n stands out = ap (λ (n : Name). n.child) (is_goes n stands out) ∙ goes.leads
+  its_child n present out = ap (λ (n : Name). n.child) (is_goes n present out) ∙ goes.child_is
 
   -- the child keeps another name
   prunes_name : has_name (filter kept names) child ≡ true → Prunes kinds kinds kept names
   prunes_name has =
       let other = any_passes (λ n. n.child == child) (filter kept names) has in
       let at : other.name.child ≡ child = (Decides-eqb other.name.child child).0 other.passes in
-      let stay = from_filter kept other.name names other.stands in
+      let stay = from_filter kept other.name names other.present in
       record {
         was = λ k h. refl;
         root = refl;
@@ -97,34 +97,34 @@ module _ (kinds : ℕ → Option Kind) (names : List Name) (rooted : IsRooted ki
         held = λ k h apart. let r = rooted.held k h apart in
             elim (kept r.0) as (λ b. kept r.0 ≡ b → (n : Name) × IsIn n (filter kept names) × (n.child ≡ k)) [
               | true ↦ λ is. (r.0, in_filter kept r.0 names r.1 is, r.2)
-              | false ↦ λ is. (other.name, other.stands, at ∙ sym (its_child r.0 r.1 is) ∙ r.2)
+              | false ↦ λ is. (other.name, other.present, at ∙ sym (its_child r.0 r.1 is) ∙ r.2)
             ] refl;
-        gone = λ n stands is. elim (kept n) as (λ b. kept n ≡ b → b ≡ true) [
+        removed = λ n present is. elim (kept n) as (λ b. kept n ≡ b → b ≡ true) [
           | true ↦ λ _. refl
-          | false ↦ λ out. let same : other.name ≡ n = rooted.one_parent other.name n stay.stood stands (at ∙ sym (its_child n stands out)) is in
+          | false ↦ λ out. let same : other.name ≡ n = rooted.one_parent other.name n stay.was_present present (at ∙ sym (its_child n present out)) is in
               let in' : kept n ≡ true = subst (λ n. kept n ≡ true) same stay.passes in cc
         ] refl;
       }
 
-  -- the child goes
+  -- the child is removed
   prunes_child : has_entries names child ≡ false → has_name (filter kept names) child ≡ false → Prunes kinds (after false kinds child) kept names
   prunes_child empty none =
       let apart = λ (k : ℕ) (h : IsSome (after false kinds child k)) (same : child ≡ k). lost (after_there kinds child k same) h in
       record {
         was = λ k h. after_was false kinds child k h;
-        root = after_elsewhere kinds child ROOT (λ same. rooted.root_has_no_name goes.name goes.stands (goes.leads ∙ same));
-        ends = λ n stands passes. (
-          after_elsewhere kinds child n.directory (λ same. none_passes (λ n. n.directory == child) names empty n stands ((Decides-eqb n.directory child).1 (sym same))),
-          after_elsewhere kinds child n.child (λ same. none_passes (λ n. n.child == child) (filter kept names) none n (in_filter kept n names stands passes) ((Decides-eqb n.child child).1 (sym same))),
+        root = after_elsewhere kinds child ROOT (λ same. rooted.root_has_no_name goes.name goes.present (goes.child_is ∙ same));
+        ends = λ n present passes. (
+          after_elsewhere kinds child n.directory (λ same. none_passes (λ n. n.directory == child) names empty n present ((Decides-eqb n.directory child).1 (sym same))),
+          after_elsewhere kinds child n.child (λ same. none_passes (λ n. n.child == child) (filter kept names) none n (in_filter kept n names present passes) ((Decides-eqb n.child child).1 (sym same))),
         );
         held = λ k h not_root. let r = rooted.held k (ap is_some (sym (after_was false kinds child k h)) ∙ h) not_root in
             elim (kept r.0) as (λ b. kept r.0 ≡ b → (n : Name) × IsIn n (filter kept names) × (n.child ≡ k)) [
               | true ↦ λ is. (r.0, in_filter kept r.0 names r.1 is, r.2)
               | false ↦ λ is. absurd (apart k h (sym (its_child r.0 r.1 is) ∙ r.2))
             ] refl;
-        gone = λ n stands is. elim (kept n) as (λ b. kept n ≡ b → b ≡ true) [
+        removed = λ n present is. elim (kept n) as (λ b. kept n ≡ b → b ≡ true) [
           | true ↦ λ _. refl
-          | false ↦ λ out. absurd (apart n.child (ap is_some is) (sym (its_child n stands out)))
+          | false ↦ λ out. absurd (apart n.child (ap is_some is) (sym (its_child n present out)))
         ] refl;
       }
 
@@ -143,7 +143,7 @@ read_without read directory names child at es touching retelling k =
 
 pub IsSound-without_name : (w : World) → IsSound w → (directory : ℕ) (name : List ℕ) (child : ℕ) (at : At) → IsTick w at.tick → child_named w directory name ≡ Some child → has_entries w.names child ≡ false
     → IsSound (without_name w directory name child at)
-IsSound-without_name w sound directory name child at tick leads empty =
+IsSound-without_name w sound directory name child at tick reads empty =
     let due : at.tick < at.tick + 1 = omega arith in
     let names = other_names directory name w.names in
     let stays = has_name names child in
@@ -151,7 +151,7 @@ IsSound-without_name w sound directory name child at tick leads empty =
     let held = IsHeld-touched directory at _ w.next_number (at.tick + 1) due (IsHeld-released names child at w.objects w.next_number (at.tick + 1) due
     (IsHeld-later w.objects w.next_number w.next_tick (at.tick + 1) tick.fresh (held_in w sound))) in
     record {
-      rooted = subst (λ k. IsRooted k names) (sym kinds) (rooted_without (kind_of w) w.names sound.rooted directory name child (child_sought w.names directory name ∙ leads) empty);
+      rooted = subst (λ k. IsRooted k names) (sym kinds) (rooted_without (kind_of w) w.names sound.rooted directory name child (child_sought w.names directory name ∙ reads) empty);
       stamped = IsStamped-fewer (stamp_of w) _ w.next_stamp (λ k s is. after_some stays (stamp_of w) child k s (sym (read_without (λ o. o.stamp) directory names child at w.objects (λ o. refl) (λ o. refl) k) ∙ is)) sound.stamped;
       numbered = held.numbered;
       listed = Rises-filter (λ n. n.cookie) _ 3 w.next_cookie w.names sound.listed;
@@ -167,12 +167,12 @@ KeepsJudged-without_name w directory name child at = record {
   same = λ k j is _. after_some (has_name (other_names directory name w.names) child) _ child k j (sym (read_without judged directory (other_names directory name w.names) child at w.objects (λ o. refl) (λ o. refl) k) ∙ is);
 }
 
--- the child of a name is there
+-- the child of a name exists
 pub live_child : (w : World) → IsSound w → (directory : ℕ) (name : List ℕ) (child : Option ℕ) → child ≡ child_named w directory name → IfSome child (λ child. IsSome (object w child))
 live_child w sound directory name None is = tt
 live_child w sound directory name (Some child) is =
     let n = found (λ n. n.child) (is_named directory name) w.names child (child_sought w.names directory name ∙ sym is) in
-    there (object w child) (subst (λ k. IsSome (kind_of w k)) n.leads (sound.rooted.ends n.name n.stands).1)
+    there (object w child) (subst (λ k. IsSome (kind_of w k)) n.child_is (sound.rooted.ends n.name n.present).1)
   where
     there : (o : Option Object) → IsSome (option_map (λ (o : Object). o.kind) o) → IsSome o
     there None h = h

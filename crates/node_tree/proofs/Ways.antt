@@ -18,7 +18,7 @@ step_up parents left directory here parent apart up =
       | false ↦ λ is. ap (λ o. option_map_or (λ parent. is_met parents left directory parent) o false) up
     ] refl
 
--- the rest of the way meets the directory exactly where the whole way does
+-- the rest of the way meets the directory if and only if the whole way does
 abbrev pub GoesOn : (ℕ → Option ℕ) → ℕ → ℕ → ℕ → ℕ → ℕ → Type 0
 GoesOn parents next counter directory here from = is_met parents (next - counter) directory here ≡ is_met parents next directory from
 

@@ -1,6 +1,5 @@
--- The changes of the world (RFC 8881, sections 5.8, 18.4, 18.9, 18.25, 18.26, 18.30 and 18.32). A
--- change takes a tick, and each object that it changes gets the tick; the changes of one operation
--- share it. Each change is noted.
+-- The changes of the world (RFC 8881, sections 5.8, 18.4, 18.9, 18.25, 18.26, 18.30 and 18.32). A change takes a tick,
+-- and each object that it changes gets the tick. The changes of one operation share it.
 use Rattle.std.specs.Prelude.{ℕ, pos, ◌+◌, ◌-◌, not, ◌&&◌, nat_le, nat_lt, if◌then◌else◌, max, List, [], ◌∷◌, ◌++◌}
 use Rattle.std.specs.Prelude.{length, map, filter, take, replicate, slice_index, Option}
 use Rattle.std.proofs.Common.{lit<}
@@ -15,9 +14,6 @@ use Rattle.acl_list.specs.declared.entry.Kind.TheVariants.{Directory}
 use Rattle.nfs_types.specs.declared.moment.Moment.{Moment}
 use Rattle.node_tree.specs.declared.at.At.{At}
 use Rattle.node_tree.specs.declared.node.NewObject.{NewObject}
-use Rattle.node_tree.specs.Notes.{no_notes}
-use Rattle.node_tree.specs.Noted.{noted}
-use Rattle.node_tree.specs.Steps.{Step, Add, Link, Unlink, Rename, Write, Resize, SetList, SetOwner}
 use Rattle.node_tree.specs.World.{World, Object, Name, child_named, is_one, is_named, has_name}
 
 -- ---- objects
@@ -36,16 +32,16 @@ without number objects = filter (λ e. not (is_at (nat_cmp number) e.0)) objects
 abbrev pub touched : At → Object → Object
 touched at o = record o { change = at.tick; time_modify = at.moment; time_metadata = at.moment }
 
--- a change of a list, an owner, a group or the number of names, or a move
+-- a change of an access control list (ACL), an owner, a group or the number of names, or a move
 abbrev pub retold : At → Object → Object
 retold at o = record o { change = at.tick; time_metadata = at.moment }
 
--- when an object is made: its stamp, and the tick and the moment
+-- how an object is made: its stamp, and its tick and moment
 pub record Birth : Type 0 where
   pub stamp : ℕ
   pub at : At
 
--- a new object, of this kind, bytes, owner, group, list and high bits of the mode
+-- a new object, of this type, bytes, owner, group, ACL and high bits of the mode
 abbrev pub new_object : Kind → List ℕ → ℕ → ℕ → List Entry → ℕ → Birth → Object
 new_object kind bytes owner group list high birth = record {
   kind = kind;
@@ -66,11 +62,11 @@ made new stamp at =
 
 -- ---- a new tree
 
--- the moment of the objects that were there from the start
+-- the moment of the initial objects
 abbrev pub epoch : Moment
 epoch = record { seconds = pos 0; nanoseconds = 0; is_fraction = lit< tt }
 
--- the time of the objects that were there from the start is the epoch
+-- the tick and the moment of an initial object: its moment is the epoch
 abbrev pub from_start : ℕ → At
 from_start tick = record { tick = tick; moment = epoch }
 
@@ -78,7 +74,7 @@ from_start tick = record { tick = tick; moment = epoch }
 abbrev pub root_of : ℕ → ℕ → List Entry → ℕ → Object
 root_of owner group list high = new_object Directory [] owner group list high (record { stamp = 1; at = from_start 1 })
 
--- a root and no other object
+-- a root alone
 abbrev pub alone : Object → World
 alone root = record {
   objects = (1, root) ∷ [];
@@ -87,18 +83,17 @@ alone root = record {
   next_tick = 2;
   next_stamp = 2;
   next_cookie = 3;
-  notes = no_notes;
 }
 
 -- ---- changes
 
--- a change takes a tick, and is noted
-abbrev pub ticked : World → Step → At → World
-ticked w s at = record w { next_tick = at.tick + 1; notes = noted w s }
+-- a change takes a tick
+abbrev pub ticked : World → At → World
+ticked w at = record w { next_tick = at.tick + 1 }
 
 -- ---- names
 
--- a name that is given to a child, by the next cookie
+-- a new name of a child, with the next cookie
 abbrev pub given_name : World → ℕ → List ℕ → ℕ → Name
 given_name w directory name child = record { cookie = w.next_cookie; directory = directory; name = name; child = child }
 
@@ -106,7 +101,7 @@ given_name w directory name child = record { cookie = w.next_cookie; directory =
 abbrev pub other_names : ℕ → List ℕ → List Name → List Name
 other_names directory name names = filter (λ n. not (is_named directory name n)) names
 
--- An object that has lost a name. An object that has lost its last name goes.
+-- An object has lost a name. It is removed if that was its last name.
 abbrev pub released : List Name → ℕ → At → List (ℕ × Object) → List (ℕ × Object)
 released names number at objects =
     if has_name names number then changed number (retold at) objects else without number objects
@@ -114,7 +109,7 @@ released names number at objects =
 -- a new object under a new name (CREATE, OPEN)
 abbrev pub with_new : World → ℕ → List ℕ → Object → At → World
 with_new w directory name o at =
-    record (ticked w (Add directory name o.kind o.bytes o.owner o.group o.list o.high at) at) {
+    record (ticked w at) {
       objects = changed directory (touched at) (insert_entry nat_cmp w.objects w.next_number o);
       names = w.names ++ given_name w directory name w.next_number ∷ [];
       next_number = w.next_number + 1;
@@ -122,9 +117,9 @@ with_new w directory name o at =
       next_cookie = w.next_cookie + 1;
     }
 
--- one more name for an object (LINK)
+-- another name for an object (LINK)
 abbrev pub with_link : World → ℕ → List ℕ → ℕ → At → World
-with_link w directory name number at = record (ticked w (Link directory name number at) at) {
+with_link w directory name number at = record (ticked w at) {
   objects = changed directory (touched at) (changed number (retold at) w.objects);
   names = w.names ++ given_name w directory name number ∷ [];
   next_cookie = w.next_cookie + 1;
@@ -134,7 +129,7 @@ with_link w directory name number at = record (ticked w (Link directory name num
 abbrev pub without_name : World → ℕ → List ℕ → ℕ → At → World
 without_name w directory name child at =
     let names = other_names directory name w.names in
-    record (ticked w (Unlink directory name at) at) {
+    record (ticked w at) {
       objects = changed directory (touched at) (released names child at w.objects);
       names = names;
     }
@@ -143,11 +138,11 @@ abbrev pub unlinked : World → ℕ → List ℕ → At → World
 unlinked w directory name at =
     option_map_or (λ child. without_name w directory name child at) (child_named w directory name) w
 
--- with a given name of a child in place of another one; a target of the given name loses it (RENAME)
+-- with a new name of a child in place of another one; a target of the new name loses it (RENAME)
 abbrev pub with_move : World → ℕ → List ℕ → Name → Option ℕ → At → World
 with_move w from old n target at =
     let names = other_names n.directory n.name (other_names from old w.names) in
-    record (ticked w (Rename from old n.directory n.name at) at) {
+    record (ticked w at) {
       objects =
           changed n.directory (touched at)
           (changed from (touched at)
@@ -156,7 +151,7 @@ with_move w from old n target at =
       next_cookie = w.next_cookie + 1;
     }
 
--- two names of one object stay as they are
+-- between two names of one object nothing changes
 abbrev pub renamed : World → ℕ → List ℕ → ℕ → List ℕ → At → World
 renamed w from old to new at =
     let target = child_named w to new in
@@ -165,7 +160,7 @@ renamed w from old to new at =
 
 -- ---- bytes
 
--- each byte of data in its range, else the old byte, else 0
+-- each byte of the data in their range, else the old byte, else 0
 abbrev pub written : List ℕ → ℕ → List ℕ → List ℕ
 written bytes offset more =
     map
@@ -175,7 +170,7 @@ written bytes offset more =
 
 -- bytes are written into a file
 abbrev pub with_bytes : World → ℕ → ℕ → List ℕ → At → World
-with_bytes w file offset more at = record (ticked w (Write file offset more at) at) {
+with_bytes w file offset more at = record (ticked w at) {
   objects = changed file (λ o. touched at (record o { bytes = written o.bytes offset more })) w.objects;
 }
 
@@ -184,28 +179,28 @@ abbrev pub with_write : World → ℕ → ℕ → List ℕ → At → World
 with_write w file offset [] at = w
 with_write w file offset (byte ∷ more) at = with_bytes w file offset (byte ∷ more) at
 
--- the first bytes, and zeros where there are too few
+-- the first bytes, and zeros if there are too few
 abbrev pub resized : List ℕ → ℕ → List ℕ
 resized bytes size = take size bytes ++ replicate (size - length bytes) 0
 
 -- a size is set, also to the file's own size (SETATTR, OPEN)
 abbrev pub with_size : World → ℕ → ℕ → At → World
-with_size w file size at = record (ticked w (Resize file size at) at) {
+with_size w file size at = record (ticked w at) {
   objects = changed file (λ o. touched at (record o { bytes = resized o.bytes size })) w.objects;
 }
 
--- ---- the list, owner and group of an object
+-- ---- the ACL, owner and group of an object
 
--- a list is set, with the high bits of the mode (SETATTR)
+-- an ACL is set, with the high bits of the mode (SETATTR)
 abbrev pub with_list : World → ℕ → List Entry → ℕ → At → World
-with_list w number list high at = record (ticked w (SetList number list high at) at) {
+with_list w number list high at = record (ticked w at) {
   objects = changed number (λ o. retold at (record o { list = list; high = high; stamp = w.next_stamp })) w.objects;
   next_stamp = w.next_stamp + 1;
 }
 
 -- an owner and a group are set (SETATTR)
 abbrev pub with_owner : World → ℕ → ℕ → ℕ → At → World
-with_owner w number owner group at = record (ticked w (SetOwner number owner group at) at) {
+with_owner w number owner group at = record (ticked w at) {
   objects = changed number (λ o. retold at (record o { owner = owner; group = group; stamp = w.next_stamp })) w.objects;
   next_stamp = w.next_stamp + 1;
 }

@@ -1,4 +1,4 @@
--- The content of an object, by its kind: the kind, and the bytes of a file or the text of a link.
+-- The content of an object, by its type: the type, and the bytes of a file or the text of a symbolic link.
 use Rattle.std.specs.Prelude.{ℕ, List, []}
 use Rattle.acl_list.specs.declared.entry.Kind.{Kind}
 use Rattle.acl_list.specs.declared.entry.Kind.TheVariants as kinds

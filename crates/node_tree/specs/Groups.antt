@@ -1,4 +1,4 @@
--- Names by cookie, and the cookies of the names that lie in one directory or lead to one child.
+-- Names by cookie, and the cookies of the names that are in one directory or belong to one child.
 use Rattle.std.specs.Prelude.{ℕ, ◌≡◌, ◌==◌, ◌<◌, Bool, List, [], length, map, filter, IsSome}
 use Rattle.std.specs.Option.{option_map_or}
 use Rattle.std.specs.Map.{lookup}
@@ -8,11 +8,11 @@ use Rattle.std.specs.Ordering.{nat_cmp}
 use Rattle.node_tree.specs.World.{Name}
 use Rattle.node_tree.specs.Sound.{Rises}
 
--- the cookies of a number
+-- the cookies of a directory or of a child, by its number
 abbrev pub cookies_at : BTreeMap ℕ (BTreeSet ℕ) → ℕ → List ℕ
 cookies_at groups number = option_map_or (λ cookies. cookies.keys) (lookup (is_at (nat_cmp number)) groups.entries) []
 
--- a number has a set only where it has a cookie
+-- a number has a set only if it has a cookie
 abbrev pub AreFilled : BTreeMap ℕ (BTreeSet ℕ) → Type 0
 AreFilled groups =
     (number : ℕ) → IsSome (lookup (is_at (nat_cmp number)) groups.entries) → 0 < length (cookies_at groups number)
@@ -25,12 +25,12 @@ cookies_of passes names = map (λ n. n.cookie) (filter passes names)
 abbrev pub keyed : List Name → List (ℕ × Name)
 keyed names = map (λ n. (n.cookie, n)) names
 
--- Names are kept by their cookies, which rise from 3 on. A directory has the cookies of the names
--- in it, and a child those of its names. No set is empty.
+-- Names are stored by their cookies, which rise from 3 on. A directory has the cookies of the names in it, and a child
+-- those of its names. No set is empty.
 pub record IsListed (entries : List (ℕ × Name)) (by_directory by_child : BTreeMap ℕ (BTreeSet ℕ))
     (names : List Name) : Type 0 where
   pub next : ℕ
-  pub keyed_so : entries ≡ keyed names
+  pub keyed_names : entries ≡ keyed names
   pub rises : Rises (λ n. n.cookie) 3 names next
   pub directories : (number : ℕ) → cookies_at by_directory number ≡ cookies_of (λ n. n.directory == number) names
   pub children : (number : ℕ) → cookies_at by_child number ≡ cookies_of (λ n. n.child == number) names

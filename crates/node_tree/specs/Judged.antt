@@ -1,4 +1,4 @@
--- The attributes of an object that decide access, and the stamp that stands for them.
+-- The attributes of an object that decide access, and the stamp that represents them.
 use Rattle.std.specs.Prelude.{ℕ, ◌≡◌, ◌<◌, ◌≤◌, List, Option, Some}
 use Rattle.std.specs.Option.{option_map}
 use Rattle.acl_list.specs.declared.entry.Entry.{Entry}
@@ -17,8 +17,8 @@ judged o = record { stamp = o.stamp; owner = o.owner; group = o.group; list = o.
 abbrev pub judged_of : World → ℕ → Option Judged
 judged_of w number = option_map judged (object w number)
 
--- An object that has a stamp of before has had it since before, with the same list, owner and group. So access that was
--- decided by a stamp is decided as before.
+-- An object whose stamp is from before has had it since then, with the same access control list, owner and group. So
+-- access that was decided by a stamp is still decided alike.
 pub record KeepsJudged (old new : World) : Type 0 where
   pub stamps_rise : old.next_stamp ≤ new.next_stamp
   pub same : (number : ℕ) (j : Judged) → judged_of new number ≡ Some j → j.stamp < old.next_stamp

@@ -1,4 +1,4 @@
--- The objects after a borrow, where a reference to one of them is lent.
+-- The objects after a borrow, if a reference to one of them is lent.
 use Rattle.std.specs.Prelude.{ℕ, List, Option}
 use Rattle.std.specs.Borrow.{LendsIf, Fml, RattleType, MutBor}
 use Rattle.std.specs.declared.alloc.Allocator.{Ghosts}
@@ -9,7 +9,8 @@ use Rattle.node_tree.specs.World.{Object}
 use Rattle.node_tree.specs.contracts.node.Node as node
 use Rattle.node_tree.specs.contracts.node_table.NodeTable.{the_row}
 
--- once the borrow ends, the number has the last object written through it, and where there is none all is as it was
+-- When the borrow ends, the number has the last object that was written through the reference. If none was lent,
+-- nothing has changed.
 abbrev pub lends_object : (A : RattleType) → Ghosts A.Denot → MutBor (List (ℕ × Object)) → ℕ → Option (MutBor Object)
     → Fml
 lends_object A alloc t number r =

@@ -1,5 +1,4 @@
 pub mod Limits
-pub mod Notes
 pub mod World
 pub mod Ways
 pub mod Changes
@@ -17,7 +16,3 @@ pub mod Sound
 pub mod Sample
 pub mod Restored
 pub mod Parts
-pub mod Steps
-pub mod Forms
-pub mod Ranges
-pub mod Noted

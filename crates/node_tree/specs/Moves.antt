@@ -1,5 +1,5 @@
--- A RENAME that is planned: what it finds in a world before it changes it (RFC 8881, section 18.26).
-use Rattle.std.specs.Prelude.{ℕ, ◌≡◌, ◌≤◌, true, false, List, length, Option, Some}
+-- A planned RENAME: what it finds in a world before it changes it (RFC 8881, section 18.26).
+use Rattle.std.specs.Prelude.{ℕ, ◌≡◌, ◌≤◌, true, false, List, length, Some}
 use Rattle.acl_list.specs.declared.entry.Kind.TheVariants.{Directory}
 use Rattle.node_tree.specs.declared.moved.Plan.{Plan}
 use Rattle.node_tree.specs.declared.moved.Plan.TheVariants.{Same, Move}
@@ -8,8 +8,8 @@ use Rattle.node_tree.specs.World.{World, kind_of, parent_of, child_named, is_one
 use Rattle.node_tree.specs.Refusals.{is_below, may_replace, is_same}
 use Rattle.node_tree.specs.Moving.{Moving}
 
--- The world is one that the move was planned in: both names are found as it says, they are those of
--- two objects, and the child may have the new name.
+-- The move is valid for the world. Both names are found as it states, they belong to two objects, and the child may
+-- have the new name.
 pub record IsMove (w : World) (m : Moving) : Type 0 where
   pub live : kind_of w m.to ≡ Some Directory
   pub short : length m.new ≤ MAX_NAME
@@ -19,7 +19,7 @@ pub record IsMove (w : World) (m : Moving) : Type 0 where
   pub above : is_below (kind_of w) (parent_of w) w.next_number m.child m.to ≡ false
   pub replaces : may_replace (kind_of w) (has_entries w.names) m.child m.target ≡ true
 
--- the move is that of the child of this name to this new name
+-- the move gives the child of this old name this new name
 pub record IsOf (from : ℕ) (old : List ℕ) (to : ℕ) (new : List ℕ) (m : Moving) : Type 0 where
   pub from_is : m.from ≡ from
   pub old_is : m.old ≡ old

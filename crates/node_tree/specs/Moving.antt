@@ -1,4 +1,4 @@
--- A child that gets another name (RFC 8881, section 18.26).
+-- A child that gets a new name (RFC 8881, section 18.26).
 use Rattle.std.specs.Prelude.{ℕ, List, Option}
 
 pub record Moving : Type 0 where
@@ -8,6 +8,6 @@ pub record Moving : Type 0 where
   -- the directory of the new name, and the new name
   pub to : ℕ
   pub new : List ℕ
-  -- the child, and the object that has the new name, if there is one
+  -- the child, and the target that has the new name, if there is one
   pub child : ℕ
   pub target : Option ℕ

@@ -1,4 +1,4 @@
--- The parts of a world in order, each found by the one before it.
+-- The parts of a world in order. Each is found from the one before it.
 use Rattle.std.specs.Prelude.{ℕ, ◌≡◌, nat_lt, List, ◌∷◌, ◌++◌, find, slice_get, Option}
 use Rattle.std.specs.Option.{option_map}
 use Rattle.node_tree.specs.World.{World, Object, Name}
@@ -7,11 +7,11 @@ use Rattle.node_tree.specs.World.{World, Object, Name}
 abbrev pub number_after : World → ℕ → Option ℕ
 number_after w number = option_map (λ e. e.0) (find (λ e. nat_lt number e.0) w.objects)
 
--- the name of the least cookie above another one, in any directory
+-- the name with the least cookie above another one, in any directory
 abbrev pub any_after : World → ℕ → Option Name
 any_after w cookie = find (λ n. nat_lt cookie n.cookie) w.names
 
--- Whoever asks for the part after each part that was found, and first for the one after 0, is given all parts in order.
+-- Asking for the part after 0, and then for the part after each part that was found, returns all parts in order.
 pub record IsReadInOrder (w : World) : Type 0 where
   pub first_object : number_after w 0 ≡ option_map (λ e. e.0) (slice_get w.objects 0)
   pub next_object : (before after : List (ℕ × Object)) (number : ℕ) (o : Object)

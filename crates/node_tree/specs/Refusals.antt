@@ -1,6 +1,5 @@
--- Why a change is refused, or that it isn't: the first reason in the order of the standard's
--- operations (RFC 8881, section 18). Each test is of the parts that it looks at, so that it means
--- the same of a world and of a view of one.
+-- The reason to refuse a change, if there is one: the first in the order of the standard's operations (RFC 8881,
+-- section 18). Each test takes the parts that it reads. So it means the same of a world and of a view of one.
 use Rattle.std.specs.Prelude.{ℕ, ◌+◌, ◌^◌, ◌==◌, Bool, true, ◌&&◌, ◌||◌, not, nat_lt, if◌then◌else◌, List, length}
 use Rattle.std.specs.Prelude.{Option, Some, None, is_some}
 use Rattle.std.specs.Option.{option_map_or, option_or}
@@ -18,45 +17,44 @@ use Rattle.node_tree.specs.Ways.{is_met}
 abbrev pub has_left : ℕ → Bool
 has_left next = nat_lt next (2 ^ 63)
 
--- whether a directory with this many names has room for one more
+-- whether a directory with `names` names has room for one more
 abbrev pub has_room : ℕ → Bool
 has_room names = nat_lt names MAX_NAMES
 
--- whether there is room for one more object beside this many
+-- whether there is room for one more object beside `objects` others
 abbrev pub has_object_room : ℕ → Bool
 has_object_room objects = nat_lt objects MAX_OBJECTS
 
--- whether an object with this many names may have one more
+-- whether an object with `links` names may have one more
 abbrev pub may_link : ℕ → Bool
 may_link links = nat_lt links MAX_LINKS
 
--- whether a directory with this many names may have one more
+-- whether a directory with `names` names may have one more
 abbrev pub may_name : (names next_cookie : ℕ) → Bool
 may_name names next_cookie = has_room names && has_left next_cookie
 
--- whether a directory with this many names may have a new object under one more name, beside this
--- many objects
+-- whether a directory with `names` names may have a new object under one more name, beside `objects` other objects
 abbrev pub may_add : (names objects next_number next_stamp next_cookie : ℕ) → Bool
 may_add names objects next_number next_stamp next_cookie =
     has_room names && has_object_room objects && has_left next_number && has_left next_stamp && has_left next_cookie
 
 -- ---- moves
 
--- whether a child is a directory that another directory is, or lies below
+-- whether a child is a directory, and another directory is that child or is below it
 abbrev pub is_below : (ℕ → Option Kind) → (ℕ → Option ℕ) → (next_number child directory : ℕ) → Bool
 is_below kinds parents next_number child directory =
     is_directory_in kinds child && is_met parents next_number child directory
 
--- Whether a child may replace a target, which may be absent. Only an empty directory can be
--- replaced by a directory, and a directory can't be replaced by any other object.
+-- Whether a child may replace a target, which may be absent. A directory can replace only an empty directory. Any other
+-- object can replace only an object that isn't a directory.
 abbrev pub may_replace : (ℕ → Option Kind) → (ℕ → Bool) → ℕ → Option ℕ → Bool
 may_replace kinds has_entries child None = true
 may_replace kinds has_entries child (Some target) =
     if is_directory_in kinds child then is_directory_in kinds target
     && not (has_entries target) else not (is_directory_in kinds target)
 
--- Whether there is space for a child's new name, of a target that may be absent, in a directory
--- with this many names. A directory that loses a name for it is never too full.
+-- Whether there is space for a child's new name in a directory with `names` names; the target may be absent. A
+-- directory that loses a name by the move is never too full.
 abbrev pub may_move : (names next_cookie from to : ℕ) → Option ℕ → Bool
 may_move names next_cookie from to None = ((from == to) || has_room names) && has_left next_cookie
 may_move names next_cookie from to (Some target) = has_left next_cookie
@@ -84,11 +82,11 @@ unlink_refusal w directory name =
     option_map_or (λ child. if has_entries w.names child then Some NotEmpty else None) (child_named w directory name)
     (Some NoEnt)
 
--- both names of a RENAME are those of one object
+-- both names of a RENAME belong to one object
 abbrev pub is_same : World → ℕ → List ℕ → ℕ → List ℕ → Bool
 is_same w from old to new = is_one (child_named w from old) (child_named w to new)
 
--- a child gets the name of a target, which may be absent, whatever space there is
+-- a child gets the name of a target, which may be absent; space isn't checked
 abbrev pub move_refusal : World → (child to : ℕ) → Option ℕ → Option TreeFault
 move_refusal w child to target =
     if is_one (Some child) target then None
@@ -96,17 +94,17 @@ move_refusal w child to target =
     else if may_replace (kind_of w) (has_entries w.names) child target then None
     else Some Exist
 
--- RENAME, whatever space there is
+-- RENAME, without a check of space
 abbrev pub plan_refusal : World → ℕ → List ℕ → ℕ → List ℕ → Option TreeFault
 plan_refusal w from old to new =
     option_map_or (λ child. move_refusal w child to (child_named w to new)) (child_named w from old) (Some NoEnt)
 
--- the space of a child's new name
+-- the refusal of a child's new name for space
 abbrev pub space_refusal : World → (from to : ℕ) → Option ℕ → Option TreeFault
 space_refusal w from to target =
     if may_move (name_count w.names to) w.next_cookie from to target then None else Some NoSpc
 
--- RENAME: two names of one object take no space
+-- RENAME: between two names of one object it takes no space
 abbrev pub rename_refusal : World → ℕ → List ℕ → ℕ → List ℕ → Option TreeFault
 rename_refusal w from old to new =
     option_or (plan_refusal w from old to new)

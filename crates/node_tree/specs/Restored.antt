@@ -1,6 +1,6 @@
--- A tree that is put together again from what a checkpoint says. It says the tree's counters, its
--- objects by rising number and its names by rising cookie, each object before its names.
-use Rattle.std.specs.Prelude.{ℕ, zero, suc, ◌+◌, ◌^◌, ◌≤◌, ◌≡◌, ◌≢◌, ◌==◌, Bool, true, false, ◌&&◌, ◌||◌, not, nat_le}
+-- A tree that is restored from a checkpoint. The checkpoint has the tree's counters, its objects by rising number and
+-- its names by rising cookie, each object before its names.
+use Rattle.std.specs.Prelude.{ℕ, zero, suc, ◌+◌, ◌^◌, ◌≤◌, ◌≡◌, ◌≢◌, ◌==◌, Bool, false, ◌&&◌, ◌||◌, not, nat_le}
 use Rattle.std.specs.Prelude.{nat_lt, if◌then◌else◌, List, [], ◌∷◌, ◌++◌, length, map, Option, Some, is_some, IsSome}
 use Rattle.std.specs.List.{list_any, list_all}
 use Rattle.std.specs.Option.{option_map_or}
@@ -12,20 +12,18 @@ use Rattle.acl_shape.specs.Bounds.{fits}
 use Rattle.node_tree.specs.declared.node.NewObject.{NewObject}
 use Rattle.node_tree.specs.declared.node.Kept.{Kept}
 use Rattle.node_tree.specs.Limits.{ROOT, MAX_NAME, MAX_OBJECTS}
-use Rattle.node_tree.specs.Notes.{no_notes}
 use Rattle.node_tree.specs.World.{World, Object, Name, object, kind_of, child_named, is_directory_at, has_name}
 use Rattle.node_tree.specs.World.{name_count, link_count, parent_of}
 use Rattle.node_tree.specs.Refusals.{has_room, may_link}
 use Rattle.node_tree.specs.Sound.{IsIn, IsStamped, IsFit, IsLimited, IsCounted, Rises, stamp_of, most_bytes}
 
--- the world as far as it is put together, with the least number and the least cookie that may come
--- next
+-- the world restored so far, with the least number and the least cookie that may come next
 pub record Begun : Type 0 where
   pub world : World
   pub number : ℕ
   pub cookie : ℕ
 
--- the object that a checkpoint says
+-- an object as a checkpoint has it
 abbrev pub kept_object : {A : Type 0} → NewObject A → Kept → Object
 kept_object new kept = record {
   kind = new.kind;
@@ -52,7 +50,6 @@ begun next_number next_tick next_stamp next_cookie = record {
     next_tick = next_tick;
     next_stamp = next_stamp;
     next_cookie = next_cookie;
-    notes = no_notes;
   };
   number = ROOT;
   cookie = 3;
@@ -72,7 +69,7 @@ with_name b n = record { world = put_name b.world n; number = b.number; cookie =
 
 -- ---- tests
 
--- the counters of some tree
+-- whether some tree has these counters
 abbrev pub counters_fit : (next_number next_tick next_stamp next_cookie : ℕ) → Bool
 counters_fit next_number next_tick next_stamp next_cookie =
     nat_le ROOT next_number && nat_le 3 next_cookie && nat_le next_number (2 ^ 63) && nat_le next_tick (2 ^ 63)
@@ -107,24 +104,24 @@ name_fits b n =
     && (is_directory_at b.world n.directory && has_room (name_count b.world.names n.directory)
     && not (is_some (child_named b.world n.directory n.name)))
 
--- whether the way up leads to the root in less than this many steps
-unfoldable pub leads_up : (ℕ → Option ℕ) → ℕ → ℕ → Bool
-leads_up parents zero from = false
-leads_up parents (suc steps) from =
-    (from == ROOT) || option_map_or (λ parent. leads_up parents steps parent) (parents from) false
+-- whether the way up reaches the root in fewer than this number of steps
+unfoldable pub climbs_to_root : (ℕ → Option ℕ) → ℕ → ℕ → Bool
+climbs_to_root parents zero from = false
+climbs_to_root parents (suc steps) from =
+    (from == ROOT) || option_map_or (λ parent. climbs_to_root parents steps parent) (parents from) false
 
 -- whether the object has a place in the tree
 abbrev pub is_placed : World → ℕ → Bool
 is_placed w number =
-    if is_directory_at w number then leads_up (parent_of w) (length w.objects) number else has_name w.names number
+    if is_directory_at w number then climbs_to_root (parent_of w) (length w.objects) number else has_name w.names number
 
 -- whether there is a root, and each object has a place
 abbrev pub is_whole : World → Bool
 is_whole w = is_directory_at w ROOT && list_all (is_placed w) (map (λ e. e.0) w.objects)
 
--- ---- what is kept meanwhile
+-- ---- the invariant meanwhile
 
--- names of objects that are there; some objects may not have theirs yet
+-- the names belong to existing objects; some objects may not have their names yet
 pub record IsHung (kinds : ℕ → Option Kind) (names : List Name) : Type 0 where
   pub root_has_no_name : (n : Name) → IsIn n names → n.child ≢ ROOT
   pub ends : (n : Name) → IsIn n names → (kinds n.directory ≡ Some Directory) × IsSome (kinds n.child)
@@ -132,7 +129,7 @@ pub record IsHung (kinds : ℕ → Option Kind) (names : List Name) : Type 0 whe
   pub one_parent : (m n : Name) → IsIn m names → IsIn n names → m.child ≡ n.child → kinds n.child ≡ Some Directory
       → m ≡ n
 
--- the world as far as it is put together, with its numbers and its stamps
+-- the world restored so far, with its numbers and its stamps
 pub record IsBegun (w : World) (number cookie : ℕ) (numbers stamps : List ℕ) : Type 0 where
   pub hung : IsHung (kind_of w) w.names
   pub stamped : IsStamped (stamp_of w) w.next_stamp

@@ -1,10 +1,9 @@
--- The sample tree: in the root a file `notes` and a directory `pub`, each with the list of its mode.
+-- The sample tree: in the root a file `notes` and a directory `pub`, each with the access control list of its mode.
 use Rattle.std.specs.Prelude.{ℕ, List, [], ◌∷◌, codes}
 use Rattle.acl_list.specs.declared.entry.Kind.{Kind}
 use Rattle.acl_list.specs.declared.entry.Kind.TheVariants.{File, Directory}
 use Rattle.acl_shape.specs.Mode.{set_mode}
 use Rattle.node_tree.specs.Limits.{ROOT}
-use Rattle.node_tree.specs.Notes.{no_notes}
 use Rattle.node_tree.specs.World.{World, Object}
 use Rattle.node_tree.specs.Changes.{new_object, from_start}
 
@@ -25,5 +24,4 @@ sample = record {
   next_tick = 4;
   next_stamp = 4;
   next_cookie = 5;
-  notes = no_notes;
 }

@@ -1,4 +1,4 @@
--- A sound world is a tree of directories, within the limits.
+-- A sound world is one tree of directories, within the limits.
 use Rattle.std.specs.Prelude.{ℕ, zero, suc, ◌+◌, ◌^◌, ◌<◌, ◌≤◌, ◌≡◌, ◌≢◌, ◌⊎◌, List, [], ◌∷◌, length, Option, Some}
 use Rattle.std.specs.Prelude.{IsSome}
 use Rattle.std.specs.Option.{option_map}
@@ -8,12 +8,12 @@ use Rattle.acl_shape.specs.Bounds.{IsBounded}
 use Rattle.node_tree.specs.Limits.{ROOT, MAX_BYTES, MAX_TEXT, MAX_NAME, MAX_NAMES, MAX_OBJECTS, MAX_LINKS}
 use Rattle.node_tree.specs.World.{World, Object, Name, object, kind_of, name_count, link_count}
 
--- the name is in this list
+-- the name is one of these
 abbrev pub IsIn : Name → List Name → Type 0
 IsIn n [] = ⊥
 IsIn n (m ∷ names) = (n ≡ m) ⊎ IsIn n names
 
--- this many names lead up from the object to the root
+-- a chain of names of this length goes up from the object to the root
 abbrev pub Climbs : List Name → ℕ → ℕ → Type 0
 Climbs names zero number = number ≡ ROOT
 Climbs names (suc steps) number = (n : Name) × IsIn n names × (n.child ≡ number) × Climbs names steps n.directory
@@ -33,7 +33,7 @@ pub record IsRooted (kinds : ℕ → Option Kind) (names : List Name) : Type 0 w
 abbrev pub stamp_of : World → ℕ → Option ℕ
 stamp_of w number = option_map (λ o. o.stamp) (object w number)
 
--- no two objects have one stamp, and each is below the next
+-- no two objects have the same stamp, and each stamp is below the next
 pub record IsStamped (stamps : ℕ → Option ℕ) (next : ℕ) : Type 0 where
   pub apart : (j k s : ℕ) → stamps j ≡ Some s → stamps k ≡ Some s → j ≡ k
   pub below : (k s : ℕ) → stamps k ≡ Some s → s < next
@@ -49,19 +49,19 @@ most_bytes File = MAX_BYTES
 most_bytes Directory = 0
 most_bytes Link = MAX_TEXT
 
--- an object within the limits, changed before the next tick
+-- the object is within the limits, and was changed before the next tick
 pub record IsFit (next_tick : ℕ) (o : Object) : Type 0 where
   pub list : IsBounded o.list
   pub bytes : length o.bytes ≤ most_bytes o.kind
   pub change : o.change < next_tick
 
--- no directory has too many names, no object too many, and none is too long
+-- no directory has too many names, no object has too many, and no name is too long
 pub record IsLimited (names : List Name) : Type 0 where
   pub directories : (number : ℕ) → name_count names number ≤ MAX_NAMES
   pub links : (number : ℕ) → link_count names number ≤ MAX_LINKS
   pub short : (n : Name) → IsIn n names → length n.name ≤ MAX_NAME
 
--- no counter goes past 2 ^ 63
+-- no counter is above 2 ^ 63
 pub record IsCounted (w : World) : Type 0 where
   pub numbers : w.next_number ≤ 2 ^ 63
   pub ticks : w.next_tick ≤ 2 ^ 63
@@ -78,13 +78,13 @@ pub record IsSound (w : World) : Type 0 where
   pub limited : IsLimited w.names
   pub counted : IsCounted w
 
--- The tick of an operation: the next one before its first call, and the last one taken in each further call.
+-- The tick of an operation: the next one before its first change, and the last one taken in each further change.
 pub record IsTick (w : World) (tick : ℕ) : Type 0 where
   pub due : tick ≤ w.next_tick
   pub fresh : w.next_tick ≤ tick + 1
   pub left : tick < 2 ^ 63
 
--- the name of a directory that has the least cookie above a given one
+-- the name in a directory that has the least cookie above a given one
 pub record IsNextName (w : World) (directory cookie : ℕ) (n : Name) : Type 0 where
   pub here : n.directory ≡ directory
   pub above : cookie < n.cookie

@@ -1,7 +1,6 @@
--- The world of a file server: objects by number, names by cookie, and the counters (RFC 8881,
--- sections 4.2, 5.8 and 18.23). An object has no path. A directory holds no names itself: they are
--- kept beside the objects.
-use Rattle.std.specs.Prelude.{◌≡◌, ℕ, Bool, false, ◌==◌, ◌&&◌, nat_lt, nat_eq, if◌then◌else◌, List, [], length}
+-- The world of a file server: objects by number, names by cookie, and the counters (RFC 8881, sections 4.2, 5.8 and
+-- 18.23). An object has no path. A directory holds no names itself: they are kept beside the objects.
+use Rattle.std.specs.Prelude.{◌≡◌, ℕ, Bool, true, false, ◌==◌, ◌&&◌, nat_lt, nat_eq, if◌then◌else◌, List, [], length}
 use Rattle.std.specs.Prelude.{count_by, filter, find, take, drop, Option, Some, None}
 use Rattle.std.specs.List.{list_any}
 use Rattle.std.specs.Option.{option_map, option_map_or}
@@ -11,24 +10,24 @@ use Rattle.std.specs.Ordering.{nat_cmp}
 use Rattle.std.specs.Cmp.Lexicographic.{pointwise}
 use Rattle.acl_list.specs.declared.entry.Entry.{Entry}
 use Rattle.acl_list.specs.declared.entry.Kind.{Kind}
+use Rattle.acl_list.specs.declared.entry.Kind.TheVariants as kinds
 use Rattle.acl_shape.specs.Inherited.{is_directory}
 use Rattle.nfs_types.specs.declared.moment.Moment.{Moment}
-use Rattle.node_tree.specs.Notes.{Notes}
 
 pub record Object : Type 0 where
   pub kind : Kind
-  -- the bytes of a file, or the text of a link
+  -- the bytes of a file, or the text of a symbolic link
   pub bytes : List ℕ
   pub owner : ℕ
   pub group : ℕ
   pub list : List Entry
-  -- the bits 07000 of the mode, for which no entry stands
+  -- the bits 07000 of the mode, which the access control list (ACL) doesn't represent
   pub high : ℕ
   -- the tick of the last change
   pub change : ℕ
   pub time_modify : Moment
   pub time_metadata : Moment
-  -- the stamp, which changes whenever the list, the owner or the group is set
+  -- the stamp, which changes whenever the ACL, the owner or the group is set
   pub stamp : ℕ
 
 -- a child under a name in a directory
@@ -46,8 +45,6 @@ pub record World : Type 0 where
   pub next_tick : ℕ
   pub next_stamp : ℕ
   pub next_cookie : ℕ
-  -- the changes that were noted for a store, which nothing else depends on
-  pub notes : Notes
 
 -- ---- objects
 
@@ -58,14 +55,23 @@ object w number = lookup (is_at (nat_cmp number)) w.objects
 abbrev pub kind_of : World → ℕ → Option Kind
 kind_of w number = option_map (λ o. o.kind) (object w number)
 
--- whether the number is a directory's, by the kinds of objects
+-- whether the number is a directory's, by the types of objects
 abbrev pub is_directory_in : (ℕ → Option Kind) → ℕ → Bool
 is_directory_in kinds number = option_map_or is_directory (kinds number) false
 
 abbrev pub is_directory_at : World → ℕ → Bool
 is_directory_at w number = is_directory_in (kind_of w) number
 
--- the bytes of a file, or the text of a link
+abbrev pub is_file : Kind → Bool
+is_file kinds.File = true
+is_file kinds.Directory = false
+is_file kinds.Link = false
+
+-- whether the number is a file's
+abbrev pub is_file_at : World → ℕ → Bool
+is_file_at w number = option_map_or is_file (kind_of w number) false
+
+-- the bytes of a file, or the text of a symbolic link
 abbrev pub bytes_of : World → ℕ → List ℕ
 bytes_of w number = option_map_or (λ o. o.bytes) (object w number) []
 
@@ -83,7 +89,7 @@ is_named directory name n = (n.directory == directory) && pointwise nat_eq n.nam
 abbrev pub names_in : List Name → ℕ → List Name
 names_in names directory = filter (λ n. n.directory == directory) names
 
--- the child of a name, by the names in a directory
+-- the child of a name, given the names in a directory
 abbrev pub child_in : List Name → List ℕ → Option ℕ
 child_in names name = option_map (λ n. n.child) (find (λ n. pointwise nat_eq n.name name) names)
 
@@ -91,7 +97,7 @@ child_in names name = option_map (λ n. n.child) (find (λ n. pointwise nat_eq n
 abbrev pub child_named : World → ℕ → List ℕ → Option ℕ
 child_named w directory name = child_in (names_in w.names directory) name
 
--- whether two names lead to one object, by the children of both
+-- whether two names belong to one object, given the child of each
 abbrev pub is_one : Option ℕ → Option ℕ → Bool
 is_one (Some child) (Some target) = child == target
 is_one (Some child) None = false
@@ -101,7 +107,7 @@ is_one None target = false
 abbrev pub name_after : World → ℕ → ℕ → Option Name
 name_after w directory cookie = find (λ n. (n.directory == directory) && nat_lt cookie n.cookie) w.names
 
--- a name that is found by its cookie is any that a directory lists with this cookie
+-- a name that is found by its cookie is any name that a directory lists with this cookie
 abbrev pub FindsAgain : World → ℕ → Option Name → Type 0
 FindsAgain w cookie found =
     (directory last : ℕ) (n : Name) → name_after w directory last ≡ Some n → n.cookie ≡ cookie → found ≡ Some n

@@ -5,7 +5,7 @@ ghost use Rattle.node_tree.specs.Changes.{epoch};
 
 use nfs_types::Moment;
 
-/// The moment of the objects that were there from the start.
+/// The moment of the initial objects.
 pub const EPOCH: Moment = Moment {
     seconds: 0,
     nanoseconds: 0,
@@ -20,7 +20,7 @@ pub struct At {
     pub moment: Moment,
 }
 
-/// The tick and the time of the objects that were there from the start.
+/// The tick and the time of an initial object.
 pub(crate) fn from_start(tick: u64) -> At
     ensures { result ≡ record { tick = tick; moment = epoch } }
 {

@@ -5,10 +5,10 @@ ghost use Rattle.std.specs.Prelude.{slice_index, length, take, drop, IfOk};
 use std::alloc::{AllocError, Allocator, Global};
 use std::marker::Model;
 
-/// How many bytes a block has.
+/// The byte count of a block.
 pub const BLOCK: usize = 4096;
 
-/// As many bytes as a block has.
+/// The bytes of one block.
 #[derive(Debug, Drop)]
 pub struct Block<A: Allocator = Global> {
     bytes: Vec<u8, A>,
@@ -25,7 +25,7 @@ impl<A: Allocator> Model for Block<A> {
 }
 
 impl<A: Allocator> Block<A> {
-    /// A block of zeros. `Err`: there is no memory for it.
+    /// A block of zeros. `Err`: an allocation fails.
     pub fn zeros(alloc: A) -> Result<Self, AllocError>
         ensures { IfOk result (λ b. (k : ℕ) → slice_index b k ≡ 0) }
     {
@@ -34,10 +34,10 @@ impl<A: Allocator> Block<A> {
         Ok(Block { bytes })
     }
 
-    /// Writes the part of some data that falls into the block. The block begins at `first`, and the data at `offset`.
+    /// Writes the part of the data that is in the block. The block begins at `first`, and the data at `offset`.
     pub fn write(&mut self, first: usize, offset: usize, more: &[u8])
         requires few { offset + length more.now < 2 ^ 32 }
-        requires behind { first < offset + length more.now }
+        requires reaches { first < offset + length more.now }
         requires before { offset < first + 4096 }
         ensures { (k : ℕ) → k < 4096 → slice_index self.new k ≡
             (if nat_le offset (first + k) && nat_lt (first + k) (offset + length more.now)
@@ -46,7 +46,7 @@ impl<A: Allocator> Block<A> {
         write_part(&mut self.bytes, first, offset, more);
     }
 
-    /// Sets the bytes from a place on to zeros.
+    /// Sets the bytes from an index on to zeros.
     pub fn clear_from(&mut self, at: usize)
         requires { at ≤ 4096 }
         ensures { (k : ℕ) → slice_index self.new k ≡ (if nat_lt k at then slice_index self.old k else 0) }
@@ -54,11 +54,11 @@ impl<A: Allocator> Block<A> {
         clear(&mut self.bytes, at, BLOCK);
     }
 
-    /// Copies the part of the block that falls into a stretch. The block begins at `first`, and the
-    /// stretch at `offset`.
+    /// Copies the part of the block that is in a range of the file. The block begins at `first`, and the range at
+    /// `offset`.
     pub fn read(&self, first: usize, offset: usize, buffer: &mut [u8])
         requires fits { offset + length buffer.old < 2 ^ 64 }
-        requires behind { first < offset + length buffer.old }
+        requires reaches { first < offset + length buffer.old }
         requires before { offset < first + 4096 }
         ensures len { length buffer.new ≡ length buffer.old }
         ensures bytes { (k : ℕ) → slice_index buffer.new k ≡
@@ -72,10 +72,10 @@ impl<A: Allocator> Block<A> {
     }
 }
 
-/// Sets the part of an absent block that falls into a stretch to zeros.
+/// Sets the part of an absent block that is in a range of the file to zeros.
 pub fn read_absent(first: usize, offset: usize, buffer: &mut [u8])
     requires fits { offset + length buffer.old < 2 ^ 64 }
-    requires behind { first < offset + length buffer.old }
+    requires reaches { first < offset + length buffer.old }
     requires before { offset < first + 4096 }
     ensures len { length buffer.new ≡ length buffer.old }
     ensures bytes { (k : ℕ) → slice_index buffer.new k ≡
@@ -88,7 +88,7 @@ pub fn read_absent(first: usize, offset: usize, buffer: &mut [u8])
     clear(buffer, from, from + (end - start));
 }
 
-/// Writes data over the bytes at a place.
+/// Overwrites the bytes at an offset with data.
 fn overwrite(bytes: &mut [u8], offset: usize, more: &[u8])
     requires { offset + length more.now ≤ length bytes.old }
     ensures len { length bytes.new ≡ length bytes.old }
@@ -99,7 +99,7 @@ fn overwrite(bytes: &mut [u8], offset: usize, more: &[u8])
     bytes[offset..offset + more.len()].copy_from_slice(more);
 }
 
-/// Sets the bytes from a place on, up to another place, to zeros.
+/// Sets the bytes from `start` up to `end` to zeros.
 fn clear(bytes: &mut [u8], start: usize, end: usize)
     requires order { start ≤ end }
     requires inside { end ≤ length bytes.old }
@@ -110,7 +110,7 @@ fn clear(bytes: &mut [u8], start: usize, end: usize)
     bytes[start..end].fill(0);
 }
 
-/// The bytes from a place on, up to another place.
+/// The bytes from `start` up to `end`.
 #[tactic(auto, using(crate::proofs::Placing::part_reads))]
 fn part(bytes: &[u8], start: usize, end: usize) -> &[u8]
     requires order { start ≤ end }
@@ -121,11 +121,11 @@ fn part(bytes: &[u8], start: usize, end: usize) -> &[u8]
     &bytes[start..end]
 }
 
-/// Writes the part of some data that falls into a block. The block begins at `first`, and the data at `offset`.
+/// Writes the part of the data that is in a block. The block begins at `first`, and the data at `offset`.
 fn write_part(bytes: &mut [u8], first: usize, offset: usize, more: &[u8])
     requires whole { length bytes.old ≡ 4096 }
     requires few { offset + length more.now < 2 ^ 32 }
-    requires behind { first < offset + length more.now }
+    requires reaches { first < offset + length more.now }
     requires before { offset < first + 4096 }
     ensures len { length bytes.new ≡ length bytes.old }
     ensures bytes { (k : ℕ) → k < 4096 → slice_index bytes.new k ≡

@@ -1,4 +1,4 @@
-//! The bytes of a file, in blocks by their number. A block that was never written is absent, and reads as zeros.
+//! The bytes of a file, in blocks by number. A block that was never written is absent, and reads as zeros.
 ghost use Rattle.std.specs.Prelude.{◌≡◌, ◌+◌, ◌-◌, ◌*◌, ◌/◌, ◌%◌, ◌<◌, ◌≤◌, ◌^◌, ◌&&◌, ◌++◌, ◌==◌, ℕ, [], true, false};
 ghost use Rattle.std.specs.Prelude.{nat_le, nat_lt, if◌then◌else◌, slice_index, length, take, drop, IfOk, OnOk, OnErr};
 ghost use Rattle.std.specs.Prelude.{◌≢◌, map};
@@ -29,7 +29,7 @@ impl<A: Allocator> Model for Blocks<A> {
     ghost invariant = { λ b. AreWithin b.blocks.entries b.size };
 }
 
-/// Puts a block of zeros where there is none. `Err`: there is no memory for it.
+/// Puts a block of zeros if the block is absent. `Err`: an allocation fails.
 fn put_zeros<A: Allocator + Copy>(
     blocks: &mut BTreeMap<usize, Block<A>, A>,
     alloc: A,
@@ -48,7 +48,8 @@ fn put_zeros<A: Allocator + Copy>(
     Ok(())
 }
 
-/// Puts blocks of zeros where there are none, which changes no byte. `Err`: there is no memory for all of them.
+/// Puts blocks of zeros in place of absent ones, which changes no byte. `Err`: an allocation fails before all of them
+/// are put.
 fn put_all_zeros<A: Allocator + Copy>(
     blocks: &mut BTreeMap<usize, Block<A>, A>,
     alloc: A,
@@ -65,12 +66,12 @@ fn put_all_zeros<A: Allocator + Copy>(
     Ok(())
 }
 
-/// Takes blocks away: their bytes are zeros then.
+/// Removes blocks: their bytes are zeros then.
 fn remove_all<A: Allocator>(blocks: &mut BTreeMap<usize, Block<A>, A>, from: usize, to: usize)
     requires { from ≤ to }
     ensures bytes { (i : ℕ) → byte_at blocks.new.entries i ≡
         (if nat_le from (i / 4096) && nat_lt (i / 4096) to then 0 else byte_at blocks.old.entries i) }
-    ensures gone { (k : ℕ) → is_held blocks.new.entries k ≡
+    ensures removed { (k : ℕ) → is_held blocks.new.entries k ≡
         (if nat_le from k && nat_lt k to then false else is_held blocks.old.entries k) }
 {
     for number in from..to {
@@ -78,8 +79,8 @@ fn remove_all<A: Allocator>(blocks: &mut BTreeMap<usize, Block<A>, A>, from: usi
     }
 }
 
-/// Sets the bytes of a block from a place of the file on to zeros.
-fn clear_behind<A: Allocator>(blocks: &mut BTreeMap<usize, Block<A>, A>, at: usize)
+/// Sets the bytes of a block from an offset of the file on to zeros.
+fn clear_after<A: Allocator>(blocks: &mut BTreeMap<usize, Block<A>, A>, at: usize)
     ensures bytes { (i : ℕ) → byte_at blocks.new.entries i ≡
         (if (i / 4096 == at / 4096) && nat_le at i then 0 else byte_at blocks.old.entries i) }
     ensures held { (k : ℕ) → is_held blocks.new.entries k ≡ is_held blocks.old.entries k }
@@ -89,8 +90,8 @@ fn clear_behind<A: Allocator>(blocks: &mut BTreeMap<usize, Block<A>, A>, at: usi
     }
 }
 
-/// Takes away the bytes from a size on, up to another size: whole blocks go, and the rest of the
-/// last one becomes zeros.
+/// Removes the bytes from a size on, up to another size: whole blocks are removed, and the rest of the last one becomes
+/// zeros.
 fn cut<A: Allocator>(blocks: &mut BTreeMap<usize, Block<A>, A>, held: usize, size: usize)
     requires { AreWithin blocks.old.entries held }
     ensures bytes { (i : ℕ) → byte_at blocks.new.entries i ≡
@@ -101,10 +102,10 @@ fn cut<A: Allocator>(blocks: &mut BTreeMap<usize, Block<A>, A>, held: usize, siz
         return;
     }
     remove_all(blocks, size.div_ceil(BLOCK), held.div_ceil(BLOCK));
-    clear_behind(blocks, size);
+    clear_after(blocks, size);
 }
 
-/// Writes the part of some data that falls into a block that is there.
+/// Writes the part of the data that is in a block, which is present.
 fn write_block<A: Allocator>(
     blocks: &mut BTreeMap<usize, Block<A>, A>,
     number: usize,
@@ -112,7 +113,7 @@ fn write_block<A: Allocator>(
     more: &[u8],
 )
     requires few { offset + length more.now < 2 ^ 32 }
-    requires behind { number * 4096 < offset + length more.now }
+    requires reaches { number * 4096 < offset + length more.now }
     requires before { offset < number * 4096 + 4096 }
     requires there { is_held blocks.old.entries number ≡ true }
     ensures bytes { (i : ℕ) → byte_at blocks.new.entries i ≡
@@ -125,7 +126,7 @@ fn write_block<A: Allocator>(
     }
 }
 
-/// Writes data into blocks that are there.
+/// Writes data into blocks that are present.
 fn write_blocks<A: Allocator>(
     blocks: &mut BTreeMap<usize, Block<A>, A>,
     offset: usize,
@@ -148,7 +149,7 @@ fn write_blocks<A: Allocator>(
     }
 }
 
-/// Copies the part of a block that falls into the stretch of the file that a buffer stands for.
+/// Copies the part of a block that is in the range of the file that a buffer represents.
 fn read_block<A: Allocator>(
     blocks: &BTreeMap<usize, Block<A>, A>,
     number: usize,
@@ -156,7 +157,7 @@ fn read_block<A: Allocator>(
     buffer: &mut [u8],
 )
     requires fits { offset + length buffer.old < 2 ^ 64 }
-    requires behind { number * 4096 < offset + length buffer.old }
+    requires reaches { number * 4096 < offset + length buffer.old }
     requires before { offset < number * 4096 + 4096 }
     ensures len { length buffer.new ≡ length buffer.old }
     ensures bytes { (k : ℕ) → slice_index buffer.new k ≡
@@ -169,7 +170,7 @@ fn read_block<A: Allocator>(
     }
 }
 
-/// Copies a stretch of the file.
+/// Copies a range of the file.
 fn read_blocks<A: Allocator>(
     blocks: &BTreeMap<usize, Block<A>, A>,
     offset: usize,
@@ -185,14 +186,14 @@ fn read_blocks<A: Allocator>(
 }
 
 impl<A: Allocator> Blocks<A> {
-    /// How many bytes there are.
+    /// The byte count.
     pub fn len(&self) -> usize
         ensures { result ≡ length self.now }
     {
         self.size
     }
 
-    /// Sets the size: cuts, or adds zeros. It takes no memory.
+    /// Sets the size: truncates, or appends zeros. It allocates no memory.
     pub fn resize(&mut self, size: usize)
         ensures { self.new ≡ resized self.old size }
     {
@@ -200,7 +201,7 @@ impl<A: Allocator> Blocks<A> {
         self.size = size;
     }
 
-    /// Copies the bytes at an offset into a buffer, as far as both go, and answers how many.
+    /// Copies the bytes at an offset into a buffer, as far as both reach, and returns the count.
     pub fn read(&self, offset: usize, buffer: &mut [u8]) -> usize
         ensures count { result ≡ length (take (length buffer.old) (drop offset self.now)) }
         ensures copied { buffer.new ≡ take (length buffer.old) (drop offset self.now) ++ drop result buffer.old }
@@ -224,7 +225,7 @@ impl<A: Allocator + Copy> Blocks<A> {
         }
     }
 
-    /// A file of these bytes. `Err`: there is no memory for it.
+    /// A file of these bytes. `Err`: an allocation fails.
     pub fn from_slice(alloc: A, bytes: &[u8]) -> Result<Self, AllocError>
         requires { length bytes.now < 2 ^ 32 }
         ensures { IfOk result (λ blocks. blocks ≡ bytes.now) }
@@ -234,7 +235,7 @@ impl<A: Allocator + Copy> Blocks<A> {
         Ok(blocks)
     }
 
-    /// Writes data at an offset, and zeros between the end and it. `Err`: there is no memory, and nothing has changed.
+    /// Writes data at an offset, and zeros between the end and it. `Err`: an allocation fails, and nothing has changed.
     pub fn write(&mut self, alloc: A, offset: usize, more: &[u8]) -> Result<(), AllocError>
         requires { offset + length more.now < 2 ^ 32 }
         ensures ok { OnOk result (self.new ≡ written self.old offset more.now) }

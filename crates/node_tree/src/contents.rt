@@ -9,18 +9,18 @@ use crate::blocks::Blocks;
 use acl_list::Kind;
 use std::alloc::{AllocError, Allocator, Global};
 
-/// The content of an object, by its kind.
+/// The content of an object, by its type.
 #[derive(Debug, Drop)]
 pub enum Contents<A: Allocator = Global> {
     /// The bytes of a file.
     File(Blocks<A>),
     /// A directory has no bytes.
     Directory,
-    /// The text of a link.
+    /// The text of a symbolic link.
     Link(Vec<u8, A>),
 }
 
-/// Copies the bytes at an offset into a buffer, as far as both go, and answers how many.
+/// Copies the bytes at an offset into a buffer, as far as both reach, and returns the count.
 fn read_text(text: &[u8], offset: usize, buffer: &mut [u8]) -> usize
     ensures count { result ≡ length (take (length buffer.old) (drop offset text.now)) }
     ensures copied { buffer.new ≡ take (length buffer.old) (drop offset text.now) ++ drop result buffer.old }
@@ -34,7 +34,7 @@ fn read_text(text: &[u8], offset: usize, buffer: &mut [u8]) -> usize
 }
 
 impl<A: Allocator> Contents<A> {
-    /// The kind of the object.
+    /// The type of the object.
     pub fn kind(&self) -> Kind
         ensures { result ≡ kind_held self.now }
     {
@@ -45,7 +45,7 @@ impl<A: Allocator> Contents<A> {
         }
     }
 
-    /// How many bytes there are.
+    /// The byte count.
     pub fn size(&self) -> usize
         ensures { result ≡ length (bytes_held self.now) }
     {
@@ -56,7 +56,7 @@ impl<A: Allocator> Contents<A> {
         }
     }
 
-    /// Copies the bytes at an offset into a buffer, as far as both go, and answers how many.
+    /// Copies the bytes at an offset into a buffer, as far as both reach, and returns the count.
     pub fn read(&self, offset: usize, buffer: &mut [u8]) -> usize
         ensures count { result ≡ length (take (length buffer.old) (drop offset (bytes_held self.now))) }
         ensures copied { buffer.new ≡ take (length buffer.old) (drop offset (bytes_held self.now)) ++
@@ -69,7 +69,7 @@ impl<A: Allocator> Contents<A> {
         }
     }
 
-    /// Sets the size of a file: cuts, or adds zeros. It takes no memory.
+    /// Sets the size of a file: truncates it, or appends zeros. It allocates no memory.
     pub fn resize(&mut self, size: usize)
         requires { kind_held self.old ≡ kinds.File }
         ensures kind { kind_held self.new ≡ kinds.File }
@@ -82,7 +82,7 @@ impl<A: Allocator> Contents<A> {
 }
 
 impl<A: Allocator + Copy> Contents<A> {
-    /// The content of a new object of a kind. `Err`: there is no memory for the bytes of a file.
+    /// The content of a new object of this type. `Err`: an allocation for the bytes of a file fails.
     pub fn made(alloc: A, kind: Kind, bytes: Vec<u8, A>) -> Result<Self, AllocError>
         requires { length bytes.items ≤ most_bytes kind }
         ensures kind { IfOk result (λ contents. kind_held contents ≡ kind) }
@@ -95,8 +95,8 @@ impl<A: Allocator + Copy> Contents<A> {
         }
     }
 
-    /// Writes data into a file at an offset, and zeros between the end and it. `Err`: there is no
-    /// memory, and nothing has changed.
+    /// Writes data into a file at an offset, and zeros between the end and it. `Err`: an allocation fails, and nothing
+    /// has changed.
     pub fn write(&mut self, alloc: A, offset: usize, more: &[u8]) -> Result<(), AllocError>
         requires few { offset + length more.now < 2 ^ 32 }
         requires file { kind_held self.old ≡ kinds.File }

@@ -10,7 +10,7 @@ use std::alloc::{AllocError, Allocator};
 use std::collections::{BTreeMap, BTreeSet};
 use std::ops::Bound;
 
-/// How many cookies a number has.
+/// The number of cookies of a directory or a child, which is given by its number.
 pub fn count<A: Allocator>(groups: &BTreeMap<u64, BTreeSet<u64, A>, A>, number: u64) -> usize
     ensures { result ≡ length (cookies_at groups.now number) }
 {
@@ -20,7 +20,7 @@ pub fn count<A: Allocator>(groups: &BTreeMap<u64, BTreeSet<u64, A>, A>, number: 
     }
 }
 
-/// The least cookie of a number.
+/// The least cookie of a directory or a child.
 pub fn first<A: Allocator>(groups: &BTreeMap<u64, BTreeSet<u64, A>, A>, number: u64) -> Option<u64>
     ensures { result ≡ slice_get (cookies_at groups.now number) 0 }
 {
@@ -33,7 +33,7 @@ fn least<A: Allocator>(cookies: &BTreeSet<u64, A>) -> Option<u64>
     cookies.first().copied()
 }
 
-/// The least cookie of a number above another cookie.
+/// The least cookie of a directory or a child above another cookie.
 pub fn next_after<A: Allocator>(
     groups: &BTreeMap<u64, BTreeSet<u64, A>, A>,
     number: u64,
@@ -73,7 +73,7 @@ fn take_cookie<A: Allocator>(cookies: &mut BTreeSet<u64, A>, cookie: u64)
     cookies.remove(&cookie);
 }
 
-/// One more cookie for a number. `Err`: there is no memory for it, and nothing has changed.
+/// Adds a cookie for a directory or a child. `Err`: an allocation fails, and nothing has changed.
 #[tactic(auto, using(crate::proofs::Filled::some_inserted))]
 pub fn put<A: Allocator + Copy>(
     groups: &mut BTreeMap<u64, BTreeSet<u64, A>, A>,
@@ -95,7 +95,7 @@ pub fn put<A: Allocator + Copy>(
     Ok(())
 }
 
-/// One cookie less for a number. The set of the number goes with its last cookie.
+/// Removes a cookie of a directory or a child. The set is removed with its last cookie.
 pub fn take<A: Allocator>(groups: &mut BTreeMap<u64, BTreeSet<u64, A>, A>, number: u64, cookie: u64)
     ensures taken { (q : ℕ) → cookies_at groups.new q ≡
         (if q == number then remove_key (is_at (nat_cmp cookie)) (cookies_at groups.old q)

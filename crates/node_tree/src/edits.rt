@@ -1,4 +1,4 @@
-//! Edits of the objects.
+//! Changes of the objects.
 ghost use Rattle.std.specs.Prelude.{◌≡◌, ◌+◌, ◌<◌, ◌^◌, ◌==◌, if◌then◌else◌, length, OnOk, OnErr, Some};
 ghost use Rattle.std.specs.Option.{option_map, option_map_or};
 ghost use Rattle.std.specs.Map.{lookup};
@@ -20,7 +20,7 @@ pub fn touch<A: Allocator>(objects: &mut NodeTable<A>, number: u64, at: At)
     }
 }
 
-/// A change of a list, an owner, a group or the number of names, or a move.
+/// A change of an access control list (ACL), an owner, a group or the number of names, or a move.
 pub fn retell<A: Allocator>(objects: &mut NodeTable<A>, number: u64, at: At)
     ensures { objects.new ≡ changed number (retold at) objects.old }
 {
@@ -29,7 +29,7 @@ pub fn retell<A: Allocator>(objects: &mut NodeTable<A>, number: u64, at: At)
     }
 }
 
-/// An object has lost a name. It stays if it has another name, or goes.
+/// An object has lost a name. It stays if it has another name, else it is removed.
 #[tactic(auto, using(crate::proofs::Objects::removal_facts, std::proofs::lemmas::Map::Steps::set_value_same))]
 pub fn release<A: Allocator>(objects: &mut NodeTable<A>, number: u64, stays: bool, at: At)
     ensures { objects.new ≡ (if stays then changed number (retold at) objects.old else without number objects.old) }
@@ -44,7 +44,8 @@ pub fn release<A: Allocator>(objects: &mut NodeTable<A>, number: u64, stays: boo
     }
 }
 
-/// A child has another name, and a target of that name has lost it. The target stays if it has another name, or goes.
+/// A child has a new name, and a target of that name has lost it. The target stays if it has another name, else it is
+/// removed.
 pub fn move_child<A: Allocator>(
     objects: &mut NodeTable<A>,
     from: u64,
@@ -67,7 +68,7 @@ pub fn move_child<A: Allocator>(
     touch(objects, to, at);
 }
 
-/// Writes data into a file. `Err`: there is no memory, and nothing has changed.
+/// Writes data into a file. `Err`: an allocation fails, and nothing has changed.
 #[tactic(auto, using(std::proofs::lemmas::Map::Steps::set_value_same))]
 pub fn write<A: Allocator + Copy>(
     objects: &mut NodeTable<A>,
@@ -89,7 +90,7 @@ pub fn write<A: Allocator + Copy>(
     Ok(())
 }
 
-/// Sets the size of a file. It takes no memory.
+/// Sets the size of a file. It allocates no memory.
 pub fn resize<A: Allocator>(objects: &mut NodeTable<A>, number: u64, size: usize, at: At)
     requires { option_map (λ o. o.kind) (lookup (is_at (nat_cmp number)) objects.old) ≡ Some Kind.File }
     ensures { objects.new ≡ changed number (λ o. touched at (record o { bytes = resized o.bytes size })) objects.old }
@@ -99,7 +100,7 @@ pub fn resize<A: Allocator>(objects: &mut NodeTable<A>, number: u64, size: usize
     }
 }
 
-/// Sets the list of an object.
+/// Sets the ACL of an object.
 pub fn set_list<A: Allocator>(
     objects: &mut NodeTable<A>,
     number: u64,

@@ -56,7 +56,7 @@ impl<A: Allocator> DirEntry<A> {
         self.name.as_slice()
     }
 
-    /// The number of the object.
+    /// The object number of the child.
     pub fn child(&self) -> u64
         ensures { result ≡ self.now.child }
     {

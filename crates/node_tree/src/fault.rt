@@ -1,11 +1,11 @@
-//! Why a change is refused.
+//! The reasons to refuse a change.
 ghost use Rattle.std.specs.Prelude.{◌≡◌};
 ghost use Rattle.node_tree.specs.declared.fault.TreeFault.TheVariants.{Memory};
 
 use std::alloc::AllocError;
 use thiserror::Error;
 
-/// Why a change was refused. The tree is then as it was.
+/// Why a change was refused. The tree is unchanged then.
 #[derive(Clone, Copy, Debug, PartialEq, Eq, Error)]
 pub enum TreeFault {
     /// NFS4ERR_EXIST: the name is taken.
@@ -17,7 +17,7 @@ pub enum TreeFault {
     /// NFS4ERR_NOTEMPTY: the directory has names.
     #[error("the directory isn't empty")]
     NotEmpty,
-    /// NFS4ERR_INVAL: a directory would come to lie below itself.
+    /// NFS4ERR_INVAL: a directory would be below itself.
     #[error("the directory would lie below itself")]
     Inval,
     /// NFS4ERR_FBIG: the file would have more than [`crate::MAX_BYTES`] bytes.
@@ -30,7 +30,7 @@ pub enum TreeFault {
     /// [`crate::MAX_OBJECTS`] objects, or a counter is at its end.
     #[error("no room left")]
     NoSpc,
-    /// There is no memory for the change.
+    /// An allocation fails.
     #[error("out of memory")]
     Memory,
 }

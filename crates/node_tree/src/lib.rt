@@ -1,6 +1,7 @@
 //! The objects and names of a file server, as one tree of directories (RFC 8881, sections 4, 5.8 and 18).
 //!
-//! [`Tree`] refuses a change that would break the tree or pass a limit, and stays as it was. It doesn't check access.
+//! [`Tree`] refuses a change that would break the tree or exceed a limit, and is unchanged then. It doesn't check
+//! access.
 #![tactic(auto)]
 
 mod at;
@@ -11,7 +12,6 @@ mod cookie_sets;
 mod edits;
 mod entry;
 mod fault;
-mod forms;
 mod laws;
 mod limits;
 mod moved;
@@ -20,7 +20,6 @@ mod name_list;
 mod name_table;
 mod node;
 mod node_table;
-mod notes;
 mod restoring;
 mod sample;
 mod store;
@@ -30,14 +29,12 @@ pub use acl_list::{AclList, Entry, Kind};
 pub use at::{At, EPOCH};
 pub use entry::DirEntry;
 pub use fault::TreeFault;
-pub use forms::{EntryForm, EntryKindForm, KindForm, ListForm, WhoForm};
-pub use laws::{parts_are_read_in_order, way_up_tells_what_lies_below};
+pub use laws::{parts_are_read_in_order, way_up_shows_what_lies_below};
 pub use limits::{
     MAX_BYTES, MAX_LINKS, MAX_NAME, MAX_NAMES, MAX_OBJECTS, MAX_TEXT, ROOT, most_bytes,
 };
 pub use moved::{Move, Plan};
 pub use nfs_types::Moment;
 pub use node::{Kept, NewObject, Node};
-pub use notes::Notes;
 pub use restoring::{RestoreFault, Restoring};
 pub use tree::Tree;

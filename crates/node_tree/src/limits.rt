@@ -4,13 +4,13 @@ ghost use Rattle.node_tree.specs.Sound.{most_bytes};
 
 use acl_list::Kind;
 
-/// The number of the root: all other directories lie below it.
+/// The object number of the root: all other directories are below it.
 pub const ROOT: u64 = 1;
 
 /// The most bytes of a file, the attribute `maxfilesize`.
 pub const MAX_BYTES: u64 = 1_048_576;
 
-/// The most bytes of a link's text.
+/// The most bytes of a symbolic link's text.
 pub const MAX_TEXT: u64 = 1024;
 
 /// The most bytes of a name.
@@ -25,7 +25,7 @@ pub const MAX_OBJECTS: usize = 16_384;
 /// The most names of an object, the attribute `maxlink`.
 pub const MAX_LINKS: usize = 1000;
 
-/// The most bytes of an object: those of a file, or of a link's text. A directory has none.
+/// The most bytes of an object: those of a file, or of a symbolic link's text. A directory has none.
 pub fn most_bytes(kind: Kind) -> u64
     ensures { result ≡ most_bytes kind }
 {

@@ -1,11 +1,11 @@
-//! A RENAME that is planned, before it is carried out.
+//! A planned RENAME, before it is carried out.
 ghost use Rattle.std.specs.Prelude.{◌≡◌, Some};
 ghost use Rattle.node_tree.specs.World.{is_one};
 
 use std::marker::Model;
 
-/// A child that gets another name, with what both names are found to be (RENAME: RFC 8881, section 18.26).
-/// [`crate::Tree::plan_rename`] alone gives one.
+/// A child that gets a new name, with the objects found for both names (RENAME: RFC 8881, section 18.26). Only
+/// [`crate::Tree::plan_rename`] returns one.
 #[derive(Debug, Drop)]
 pub struct Move<'a> {
     /// The number of the child's directory.
@@ -56,7 +56,7 @@ impl<'a> Move<'a> {
 /// A RENAME that isn't refused.
 #[derive(Debug, Drop)]
 pub enum Plan<'a> {
-    /// Both names are those of one object: nothing is to be done.
+    /// Both names belong to one object: there is nothing to do.
     Same,
     /// The child gets the new name.
     Move(Move<'a>),

@@ -41,8 +41,8 @@ fn take_name<A: Allocator>(names: &mut BTreeMap<Vec<u8, A>, u64, A>, name: &[u8]
     names.remove(name)
 }
 
-/// Gives a name of a directory a cookie, and answers its old cookie. `Err`: there is no memory for
-/// it, and nothing has changed.
+/// Gives a name of a directory a cookie, and returns its old cookie. `Err`: an allocation fails, and nothing has
+/// changed.
 pub fn put<A: Allocator + Copy>(
     index: &mut BTreeMap<u64, BTreeMap<Vec<u8, A>, u64, A>, A>,
     alloc: A,
@@ -66,8 +66,8 @@ pub fn put<A: Allocator + Copy>(
     Ok(None)
 }
 
-/// Takes a name of a directory away. The map of the directory goes with its last name. Answers the
-/// cookie that the name had.
+/// Removes a name of a directory. The map of the directory is removed with its last name. Returns the cookie of the
+/// name.
 pub fn take<A: Allocator>(
     index: &mut BTreeMap<u64, BTreeMap<Vec<u8, A>, u64, A>, A>,
     directory: u64,
@@ -89,7 +89,7 @@ pub fn take<A: Allocator>(
     cookie
 }
 
-/// Takes a name of a directory away, unless it is this other name. Answers the cookie that it had.
+/// Removes a name of a directory, unless it is this other name. Returns its cookie.
 pub fn take_other<A: Allocator>(
     index: &mut BTreeMap<u64, BTreeMap<Vec<u8, A>, u64, A>, A>,
     from: u64,

@@ -51,7 +51,7 @@ fn put_entry<A: Allocator + Copy>(
     Ok(())
 }
 
-/// The entry of the least cookie above another one.
+/// The entry with the least cookie above another one.
 fn entry_above<A: Allocator>(
     entries: &BTreeMap<u64, DirEntry<A>, A>,
     cookie: u64,
@@ -67,7 +67,7 @@ fn entry_above<A: Allocator>(
     }
 }
 
-/// One cookie less for a directory and for a child.
+/// Removes a cookie of a directory and of a child.
 fn take_both<A: Allocator>(
     by_directory: &mut BTreeMap<u64, BTreeSet<u64, A>, A>,
     by_child: &mut BTreeMap<u64, BTreeSet<u64, A>, A>,
@@ -101,8 +101,8 @@ impl<A: Allocator> NameList<A> {
     pub fn list_after(&self, directory: u64, cookie: u64) -> Option<&DirEntry<A>>
         ensures { option_copied result ≡ find (λ n. (n.directory == directory) && nat_lt cookie n.cookie) self.now }
     {
-        // Names of a directory that were made one after the other also stand so among all: then the
-        // next of all is the next of the directory, and one search finds it.
+        // Names of a directory that were made one after the other are also adjacent among all names. Then the next name
+        // of all is the next one of the directory, and one search finds it.
         if let Some(next) = self.after(cookie) {
             if next.directory() == directory {
                 return Some(next);
@@ -145,14 +145,14 @@ impl<A: Allocator> NameList<A> {
         self.first_of(child).map(|entry| entry.directory())
     }
 
-    /// How many names an object has.
+    /// The number of names of an object.
     pub fn link_count(&self, number: u64) -> usize
         ensures { result ≡ link_count self.now number }
     {
         cookie_sets::count(&self.by_child, number)
     }
 
-    /// How many names a directory has.
+    /// The number of names in a directory.
     pub fn name_count(&self, directory: u64) -> usize
         ensures { result ≡ name_count self.now directory }
     {
@@ -173,7 +173,7 @@ impl<A: Allocator + Copy> NameList<A> {
         }
     }
 
-    /// One more name, with a cookie above all others. `Err`: there is no memory for it, and nothing has changed.
+    /// Adds a name, with a cookie above all others. `Err`: an allocation fails, and nothing has changed.
     pub fn push(
         &mut self,
         alloc: A,
@@ -202,7 +202,7 @@ impl<A: Allocator + Copy> NameList<A> {
         Ok(())
     }
 
-    /// Takes the name of a cookie away.
+    /// Removes the name of a cookie.
     pub fn remove(&mut self, cookie: u64)
         ensures { self.new ≡ filter (λ n. not (n.cookie == cookie)) self.old }
     {

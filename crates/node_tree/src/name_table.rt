@@ -33,7 +33,7 @@ impl<A: Allocator> Model for NameTable<A> {
     ghost invariant = { λ n. IsKept n.index n.list };
 }
 
-/// Takes the name of a cookie away, if there is one.
+/// Removes the name of a cookie, if there is one.
 fn remove_found<A: Allocator + Copy>(names: &mut NameList<A>, cookie: Option<u64>)
     ensures { names.new ≡ option_map_or (λ k. filter (λ n. not (n.cookie == k)) names.old) cookie names.old }
 {
@@ -75,14 +75,14 @@ impl<A: Allocator> NameTable<A> {
         self.list.after(cookie)
     }
 
-    /// The directory of the first name that an object has.
+    /// The directory of the first name of an object.
     pub fn directory_of(&self, number: u64) -> Option<u64>
         ensures { result ≡ option_map (λ n. n.directory) (find (λ n. n.child == number) self.now) }
     {
         self.list.directory_of(number)
     }
 
-    /// How many names an object has.
+    /// The number of names of an object.
     pub fn link_count(&self, number: u64) -> usize
         ensures { result ≡ link_count self.now number }
     {
@@ -97,7 +97,7 @@ impl<A: Allocator> NameTable<A> {
         0 < self.link_count(number)
     }
 
-    /// How many names a directory has.
+    /// The number of names in a directory.
     pub fn name_count(&self, directory: u64) -> usize
         ensures { result ≡ name_count self.now directory }
     {
@@ -125,8 +125,8 @@ impl<A: Allocator + Copy> NameTable<A> {
         }
     }
 
-    /// One more name, which isn't there, with a cookie above all others. `Err`: there is no memory
-    /// for it, and nothing has changed.
+    /// Adds a name that doesn't exist yet, with a cookie above all others. `Err`: an allocation fails, and nothing has
+    /// changed.
     pub fn push(
         &mut self,
         alloc: A,
@@ -152,7 +152,7 @@ impl<A: Allocator + Copy> NameTable<A> {
         Ok(())
     }
 
-    /// Takes a name away.
+    /// Removes a name.
     pub fn remove(&mut self, directory: u64, name: &[u8])
         ensures { self.new ≡ other_names directory name.now self.old }
     {
@@ -160,8 +160,8 @@ impl<A: Allocator + Copy> NameTable<A> {
         remove_found(&mut self.list, cookie);
     }
 
-    /// Another name for a child in place of two, of which any may be absent, with a cookie above
-    /// all others. `Err`: there is no memory for it, and nothing has changed.
+    /// Replaces two names, either of which may be absent, by a new name of a child, with a cookie above all others.
+    /// `Err`: an allocation fails, and nothing has changed.
     pub fn replace(
         &mut self,
         alloc: A,

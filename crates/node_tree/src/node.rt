@@ -18,19 +18,19 @@ use std::marker::Model;
 pub struct NewObject<A: Allocator = Global> {
     /// The type of the object.
     pub kind: Kind,
-    /// The bytes of a file, or the text of a link. A directory has none.
+    /// The bytes of a file, or the text of a symbolic link. A directory has none.
     pub bytes: Vec<u8, A>,
-    /// The number of the owner.
+    /// The user ID of the owner.
     pub owner: u32,
-    /// The number of the owner's group.
+    /// The group ID of the owner's group.
     pub group: u32,
-    /// The list, within the bounds of [`acl_shape::is_bounded`].
+    /// The access control list (ACL), within the bounds of [`acl_shape::is_bounded`].
     pub list: AclList<A>,
     /// The bits 0o7000 of the mode.
     pub high: u32,
 }
 
-/// The attributes of an object that a checkpoint keeps beside its parts.
+/// The attributes of an object that a checkpoint stores beside its parts.
 #[derive(Clone, Copy, Debug, PartialEq, Eq)]
 pub struct Kept {
     /// The tick of the last change.
@@ -43,7 +43,7 @@ pub struct Kept {
     pub stamp: u64,
 }
 
-/// An object of a tree: its attributes, also those that decide access. [`crate::Tree::read`] gives its bytes.
+/// An object of a tree: its attributes, including those that decide access. [`crate::Tree::read`] reads its bytes.
 #[derive(Debug, Drop)]
 pub struct Node<A: Allocator = Global> {
     contents: Contents<A>,
@@ -92,28 +92,28 @@ impl<A: Allocator> Node<A> {
         matches!(self.kind(), Kind::Directory)
     }
 
-    /// How many bytes a file has, or the text of a link.
+    /// The byte count of a file, or of the text of a symbolic link.
     pub fn size(&self) -> u64
         ensures { result ≡ length self.now.bytes }
     {
         self.contents.size() as u64
     }
 
-    /// The number of the owner.
+    /// The user ID of the owner.
     pub fn owner(&self) -> u32
         ensures { result ≡ self.now.owner }
     {
         self.owner
     }
 
-    /// The number of the owner's group.
+    /// The group ID of the owner's group.
     pub fn group(&self) -> u32
         ensures { result ≡ self.now.group }
     {
         self.group
     }
 
-    /// The list.
+    /// The ACL.
     pub fn list(&self) -> &AclList<A>
         ensures { result.now ≡ self.now.list }
     {
@@ -148,14 +148,14 @@ impl<A: Allocator> Node<A> {
         self.time_metadata
     }
 
-    /// The stamp. It changes whenever the list, the owner or the group is set, and no other object ever has it.
+    /// The stamp. It changes whenever the ACL, the owner or the group is set, and no other object ever has it.
     pub fn stamp(&self) -> u64
         ensures { result ≡ self.now.stamp }
     {
         self.stamp
     }
 
-    /// Copies the bytes at an offset into a buffer, as far as both go, and answers how many.
+    /// Copies the bytes at an offset into a buffer, as far as both reach, and returns the count.
     pub(crate) fn read(&self, offset: usize, buffer: &mut [u8]) -> usize
         ensures count { result ≡ length (take (length buffer.old) (drop offset self.now.bytes)) }
         ensures copied { buffer.new ≡ take (length buffer.old) (drop offset self.now.bytes) ++ drop result buffer.old }
@@ -172,7 +172,7 @@ impl<A: Allocator> Node<A> {
         self.time_metadata = at.moment;
     }
 
-    /// A change of a list, an owner, a group or the number of names, or a move.
+    /// A change of an ACL, an owner, a group or the number of names, or a move.
     pub(crate) fn retell(&mut self, at: At)
         ensures { self.new ≡ retold at self.old }
     {
@@ -180,7 +180,7 @@ impl<A: Allocator> Node<A> {
         self.time_metadata = at.moment;
     }
 
-    /// Sets the list with the high bits of the mode.
+    /// Sets the ACL with the high bits of the mode.
     pub(crate) fn set_list(&mut self, list: AclList<A>, high: u32, stamp: u64, at: At)
         ensures { self.new ≡ retold at (record self.old { list = list; high = high; stamp = stamp }) }
     {
@@ -200,7 +200,7 @@ impl<A: Allocator> Node<A> {
         self.retell(at);
     }
 
-    /// Sets the size of a file: cuts, or adds zeros. It takes no memory.
+    /// Sets the size of a file: truncates it, or appends zeros. It allocates no memory.
     pub(crate) fn resize(&mut self, size: usize, at: At)
         requires { self.old.kind ≡ kinds.File }
         ensures { self.new ≡ touched at (record self.old { bytes = resized self.old.bytes size }) }
@@ -211,7 +211,7 @@ impl<A: Allocator> Node<A> {
 }
 
 impl<A: Allocator + Copy> Node<A> {
-    /// A new object. `Err`: there is no memory for the bytes of a file.
+    /// A new object. `Err`: an allocation for the bytes of a file fails.
     pub(crate) fn made(alloc: A, new: NewObject<A>, stamp: u64, at: At) -> Result<Self, AllocError>
         requires { length new.bytes.items ≤ most_bytes new.kind }
         ensures { IfOk result (λ node. node ≡ made new stamp at) }
@@ -229,7 +229,7 @@ impl<A: Allocator + Copy> Node<A> {
         })
     }
 
-    /// An object of before. `Err`: there is no memory for the bytes of a file.
+    /// An object from a checkpoint. `Err`: an allocation for the bytes of a file fails.
     pub(crate) fn kept(alloc: A, new: NewObject<A>, kept: Kept) -> Result<Self, AllocError>
         requires { length new.bytes.items ≤ most_bytes new.kind }
         ensures { IfOk result (λ node. node ≡ kept_object new kept) }
@@ -247,8 +247,8 @@ impl<A: Allocator + Copy> Node<A> {
         })
     }
 
-    /// Writes data into a file at an offset, and zeros between the end and it. `Err`: there is no
-    /// memory, and nothing has changed.
+    /// Writes data into a file at an offset, and zeros between the end and it. `Err`: an allocation fails, and nothing
+    /// has changed.
     pub(crate) fn write(
         &mut self,
         alloc: A,

@@ -55,7 +55,7 @@ fn above<A: Allocator>(places: &BTreeMap<u64, usize, A>, number: u64) -> Option<
     }
 }
 
-/// Puts an object into the next place, for which there is room.
+/// Puts an object into the next place, which is allocated already.
 fn fill<A: Allocator>(nodes: &mut Slab<Node<A>, A>, node: Node<A>)
     requires { HasRoomFor nodes.old 1 }
     ensures updates { Updates nodes.old nodes.new nodes.old.vacant_key (Some node) }
@@ -64,7 +64,7 @@ fn fill<A: Allocator>(nodes: &mut Slab<Node<A>, A>, node: Node<A>)
     nodes.insert_reserved(node);
 }
 
-/// Takes the object of a place away.
+/// Removes the object of a place.
 fn free<A: Allocator>(nodes: &mut Slab<Node<A>, A>, place: usize)
     requires { ContainsKey nodes.old place }
     ensures updates { Updates nodes.old nodes.new place None }
@@ -88,7 +88,7 @@ impl<A: Allocator> NodeTable<A> {
         }
     }
 
-    /// How many objects there are.
+    /// The number of objects.
     pub fn len(&self) -> usize
         ensures { result ≡ length self.now }
     {
@@ -112,7 +112,7 @@ impl<A: Allocator> NodeTable<A> {
         above(&self.places, number)
     }
 
-    /// The object of a number, to be changed.
+    /// A mutable reference to the object of a number.
     pub fn get_mut(&mut self, number: u64) -> Option<&mut Node<A>>
         ensures* writes_back { sem 𝓛 (lends_object A.row A.Allocator self.entry number result) }
         ensures value { option_copied_mut result ≡ lookup (is_at (nat_cmp number)) self.old }
@@ -123,7 +123,7 @@ impl<A: Allocator> NodeTable<A> {
         }
     }
 
-    /// One more object, of a number that has none. `Err`: there is no memory for it, and nothing has changed.
+    /// Adds an object, under a number that has none. `Err`: an allocation fails, and nothing has changed.
     pub fn insert(&mut self, number: u64, node: Node<A>) -> Result<(), AllocError>
     where
         A: Copy,
@@ -138,7 +138,7 @@ impl<A: Allocator> NodeTable<A> {
         Ok(())
     }
 
-    /// Takes an object away.
+    /// Removes an object.
     pub fn remove(&mut self, number: u64)
         ensures { self.new ≡ without number self.old }
     {

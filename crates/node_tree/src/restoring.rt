@@ -1,4 +1,4 @@
-//! A tree that is put together again from what a checkpoint says.
+//! A tree that is restored from a checkpoint.
 ghost use Rattle.std.specs.Prelude.{◌≡◌, ◌++◌, ◌∷◌, [], IfOk, OnOk, IfSome, IsOkUnless, true, false, is_some};
 ghost use Rattle.std.specs.List.{list_any};
 ghost use Rattle.std.specs.BTreeMap.{is_at};
@@ -20,13 +20,13 @@ use std::collections::BTreeSet;
 use std::marker::Model;
 use thiserror::Error;
 
-/// Why no tree is put together.
+/// Why no tree is restored.
 #[derive(Clone, Copy, Debug, PartialEq, Eq, Error)]
 pub enum RestoreFault {
-    /// The parts as they are said make no sound tree.
+    /// The parts make no sound tree.
     #[error("no sound tree")]
     Unsound,
-    /// There is no memory for it.
+    /// An allocation fails.
     #[error("out of memory")]
     Memory,
 }
@@ -39,8 +39,8 @@ impl From<AllocError> for RestoreFault {
     }
 }
 
-/// The objects and names that were said so far: objects by rising number, names by rising cookie,
-/// each object before its names.
+/// The objects and names restored so far: objects by rising number, names by rising cookie, each object before its
+/// names.
 #[derive(Debug, Drop)]
 pub struct Restoring<A: Allocator = Global> {
     store: Store<A>,
@@ -83,7 +83,7 @@ fn note_stamp<A: Allocator + Copy>(
     Ok(())
 }
 
-/// Whether a list is within its bounds.
+/// Whether an access control list is within its bounds.
 fn list_fits<A: Allocator>(list: &AclList<A>) -> bool
     ensures { result ≡ fits list.now }
 {
@@ -101,7 +101,7 @@ fn is_fit<A: Allocator>(next_tick: u64, next_stamp: u64, new: &NewObject<A>, kep
 }
 
 impl<A: Allocator + Copy> Restoring<A> {
-    /// Begins with the counters. `None`: no tree has these.
+    /// Begins with the counters. `None`: no tree has these counters.
     pub fn begin(
         alloc: A,
         next_number: u64,
@@ -139,7 +139,8 @@ impl<A: Allocator + Copy> Restoring<A> {
                 && !self.stamps.contains(&kept.stamp))
     }
 
-    /// One more object. Its number is above those that were said. `Unsound`: no tree has it with what was said.
+    /// Adds an object. Its number is above those before it. `Unsound`: no tree has it together with the parts before
+    /// it.
     pub fn object(
         mut self,
         number: u64,
@@ -176,7 +177,7 @@ impl<A: Allocator + Copy> Restoring<A> {
                 && !self.store.find(directory, name).is_some())
     }
 
-    /// One more name. Its cookie is above those that were said. `Unsound`: no tree has it with what was said.
+    /// Adds a name. Its cookie is above those before it. `Unsound`: no tree has it together with the parts before it.
     pub fn name(
         mut self,
         cookie: u64,
@@ -212,7 +213,7 @@ impl<A: Allocator + Copy> Restoring<A> {
         self.store.is_directory(ROOT) && self.store.all_placed(&self.numbers)
     }
 
-    /// The tree that was said. `None`: there is no root, or some object has no place below it.
+    /// The tree of these parts. `None`: there is no root, or some object has no place below it.
     pub fn finish(self) -> Option<Tree<A>>
         ensures whole { is_some result ≡ is_whole self.world }
         ensures value { IfSome result (λ tree. tree ≡ self.world) }

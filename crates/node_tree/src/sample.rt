@@ -53,7 +53,7 @@ fn names<A: Allocator + Copy>(alloc: A) -> Result<NameTable<A>, AllocError>
 }
 
 impl<A: Allocator + Copy> Store<A> {
-    /// The sample tree. `Err`: there is no memory for it.
+    /// The sample tree. `Err`: an allocation fails.
     pub fn sample(alloc: A) -> Result<Self, AllocError>
         ensures { IfOk result (λ store. store ≡ sample) }
     {

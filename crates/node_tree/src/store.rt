@@ -7,14 +7,9 @@ ghost use Rattle.std.specs.Option.{option_copied, option_map_or};
 ghost use Rattle.node_tree.specs.World.{object, kind_of, bytes_at, child_named, name_after, is_named, is_directory_at};
 ghost use Rattle.node_tree.specs.World.{has_name, has_entries, name_count, link_count, parent_of};
 ghost use Rattle.std.specs.List.{list_all};
-ghost use Rattle.node_tree.specs.Restored.{kept_object, put_object, put_name, child_fits, leads_up, is_placed};
+ghost use Rattle.node_tree.specs.Restored.{kept_object, put_object, put_name, child_fits, climbs_to_root, is_placed};
 ghost use Rattle.node_tree.specs.Parts.{number_after, any_after};
 ghost use Rattle.node_tree.specs.Ways.{is_within};
-ghost use Rattle.node_tree.specs.Notes.{no_notes, begun_notes, cleared, note};
-ghost use Rattle.node_tree.specs.Noted.{quietly, CutsTo};
-ghost use Rattle.node_tree.specs.Steps.{Add, Link, Unlink, Rename, Write, Resize, SetList, SetOwner};
-ghost use Rattle.node_tree.specs.Forms.{spelled};
-ghost use Rattle.node_tree.specs.Ranges.{in_range};
 ghost use Rattle.node_tree.specs.Changes.{alone, made, changed, touched, retold, without, released, other_names};
 ghost use Rattle.node_tree.specs.Changes.{written, resized, given_name, with_new, with_link, without_name, with_move};
 ghost use Rattle.node_tree.specs.Changes.{with_bytes, with_size, with_list, with_owner};
@@ -31,8 +26,7 @@ use crate::limits::{MAX_LINKS, MAX_NAMES, MAX_OBJECTS, ROOT};
 use crate::name_table::NameTable;
 use crate::node::{Kept, NewObject, Node};
 use crate::node_table::NodeTable;
-use crate::notes::{Mark, Notes};
-use acl_list::{AclList, Entry, Kind};
+use acl_list::{AclList, Kind};
 use std::alloc::{AllocError, Allocator, Global};
 use std::marker::Model;
 
@@ -49,8 +43,6 @@ pub struct Store<A: Allocator = Global> {
     next_tick: u64,
     next_stamp: u64,
     next_cookie: u64,
-    /// The changes since notes were begun.
-    notes: Notes<A>,
 }
 
 impl<A: Allocator> Model for Store<A> {
@@ -65,7 +57,6 @@ impl<A: Allocator> Model for Store<A> {
       next_tick = s.next_tick;
       next_stamp = s.next_stamp;
       next_cookie = s.next_cookie;
-      notes = s.notes;
     } };
 }
 
@@ -131,14 +122,14 @@ impl<A: Allocator + Copy> Store<A> {
         self.names.has_entries(directory)
     }
 
-    /// How many names a directory has.
+    /// The number of names in a directory.
     pub fn name_count(&self, directory: u64) -> usize
         ensures { result ≡ name_count self.now.names directory }
     {
         self.names.name_count(directory)
     }
 
-    /// How many names an object has.
+    /// The number of names of an object.
     pub fn link_count(&self, number: u64) -> usize
         ensures { result ≡ link_count self.now.names number }
     {
@@ -155,7 +146,7 @@ impl<A: Allocator + Copy> Store<A> {
         self.names.directory_of(number)
     }
 
-    /// Whether an object is a directory or lies below it.
+    /// Whether an object is a directory or is below it.
     pub fn is_within(&self, directory: u64, number: u64) -> bool
         ensures { result ≡ is_within self.now directory number }
     {
@@ -204,7 +195,7 @@ impl<A: Allocator + Copy> Store<A> {
         self.next_number < END && self.next_stamp < END && self.next_cookie < END
     }
 
-    /// Whether there is a cookie left.
+    /// Whether a cookie is left.
     pub fn has_cookie(&self) -> bool
         ensures { result ≡ has_left self.now.next_cookie }
     {
@@ -233,7 +224,7 @@ impl<A: Allocator + Copy> Store<A> {
         self.next_tick
     }
 
-    /// The stamp of the next object, list or owner.
+    /// The stamp of the next object, access control list (ACL) or owner.
     pub fn next_stamp(&self) -> u64
         ensures { result ≡ self.now.next_stamp }
     {
@@ -241,7 +232,7 @@ impl<A: Allocator + Copy> Store<A> {
     }
 }
 
-// Why a change is refused.
+// The reasons to refuse a change.
 impl<A: Allocator + Copy> Store<A> {
     /// Why a directory may not get a new object under a name.
     pub fn add_fault(&self, directory: u64, name: &[u8]) -> Option<TreeFault>
@@ -256,7 +247,7 @@ impl<A: Allocator + Copy> Store<A> {
         Some(TreeFault::NoSpc)
     }
 
-    /// Why an object may not get a further name.
+    /// Why an object may not get another name.
     pub fn link_fault(&self, directory: u64, name: &[u8], number: u64) -> Option<TreeFault>
         ensures { result ≡ link_refusal self.now directory name.now number }
     {
@@ -272,7 +263,7 @@ impl<A: Allocator + Copy> Store<A> {
         Some(TreeFault::NoSpc)
     }
 
-    /// Whether a child is a directory that another directory is, or lies below.
+    /// Whether a child is a directory, and another directory is that child or is below it.
     pub fn is_below(&self, child: u64, directory: u64) -> bool
         ensures { result ≡ is_below (kind_of self.now) (parent_of self.now) self.now.next_number child directory }
     {
@@ -293,7 +284,7 @@ impl<A: Allocator + Copy> Store<A> {
         }
     }
 
-    /// Whether there is space for a child's new name, of a target that may be absent.
+    /// Whether there is space for a child's new name; its target may be absent.
     pub fn may_move(&self, from: u64, to: u64, target: Option<u64>) -> bool
         ensures { result ≡ may_move (name_count self.now.names to) self.now.next_cookie from to target }
     {
@@ -306,7 +297,7 @@ impl<A: Allocator + Copy> Store<A> {
 
 // Changes.
 impl<A: Allocator + Copy> Store<A> {
-    /// A root and no other object.
+    /// A root alone.
     pub fn new(alloc: A, root: Node<A>) -> Result<Self, AllocError>
         ensures { IfOk result (λ store. store ≡ alone root) }
     {
@@ -315,7 +306,7 @@ impl<A: Allocator + Copy> Store<A> {
         Ok(Store::from_start(alloc, objects, NameTable::new(alloc), 2, 3))
     }
 
-    /// The objects that are there from the start. The numbers, ticks and stamps go on from one number.
+    /// The initial objects. Numbers, ticks and stamps continue from one number.
     pub fn from_start(
         alloc: A,
         objects: NodeTable<A>,
@@ -330,7 +321,6 @@ impl<A: Allocator + Copy> Store<A> {
           next_tick = next;
           next_stamp = next;
           next_cookie = next_cookie;
-          notes = no_notes;
         } }
     {
         Store {
@@ -341,11 +331,10 @@ impl<A: Allocator + Copy> Store<A> {
             next_tick: next,
             next_stamp: next,
             next_cookie,
-            notes: Notes::none(alloc),
         }
     }
 
-    /// A new object under a new name.
+    /// Adds a new object under a new name.
     pub fn add(
         &mut self,
         directory: u64,
@@ -363,7 +352,7 @@ impl<A: Allocator + Copy> Store<A> {
         requires numbered { Rises (λ e. e.0) 1 self.old.objects self.old.next_number }
         ensures number { IfOk result (λ number. number ≡ self.old.next_number) }
         ensures ok { OnOk result (self.new ≡
-            quietly self.old (with_new self.old directory name.now (made new self.old.next_stamp at) at)) }
+            with_new self.old directory name.now (made new self.old.next_stamp at) at) }
         ensures err { OnErr result (self.new ≡ self.old) }
     {
         let node = Node::made(self.alloc, new, self.next_stamp, at)?;
@@ -382,7 +371,7 @@ impl<A: Allocator + Copy> Store<A> {
         Ok(number)
     }
 
-    /// One more name for an object.
+    /// Adds a name for an object.
     pub fn link(
         &mut self,
         directory: u64,
@@ -394,7 +383,7 @@ impl<A: Allocator + Copy> Store<A> {
         requires cookies { self.old.next_cookie < 2 ^ 63 }
         requires absent { child_named self.old directory name.now ≡ None }
         requires listed { Rises (λ n. n.cookie) 3 self.old.names self.old.next_cookie }
-        ensures ok { OnOk result (self.new ≡ quietly self.old (with_link self.old directory name.now number at)) }
+        ensures ok { OnOk result (self.new ≡ with_link self.old directory name.now number at) }
         ensures err { OnErr result (self.new ≡ self.old) }
     {
         self.names
@@ -406,10 +395,10 @@ impl<A: Allocator + Copy> Store<A> {
         Ok(())
     }
 
-    /// Takes a name away. Its child goes with its last name.
+    /// Removes a name. Its child is removed with its last name.
     pub fn unlink(&mut self, directory: u64, name: &[u8], child: u64, at: At)
         requires { at.tick < 2 ^ 63 }
-        ensures { self.new ≡ quietly self.old (without_name self.old directory name.now child at) }
+        ensures { self.new ≡ without_name self.old directory name.now child at }
     {
         self.names.remove(directory, name);
         let stays = self.names.has_name(child);
@@ -418,7 +407,7 @@ impl<A: Allocator + Copy> Store<A> {
         self.next_tick = at.tick + 1;
     }
 
-    /// Gives a child another name in place of the old one. Another target of the new name loses it.
+    /// Gives a child a new name in place of the old one. Another target of the new name loses it.
     pub fn rename(
         &mut self,
         from: u64,
@@ -434,7 +423,7 @@ impl<A: Allocator + Copy> Store<A> {
         requires listed { Rises (λ n. n.cookie) 3 self.old.names self.old.next_cookie }
         requires other { target ≢ Some child }
         ensures ok { OnOk result (self.new ≡
-            quietly self.old (with_move self.old from old.now (given_name self.old to new.now child) target at)) }
+            with_move self.old from old.now (given_name self.old to new.now child) target at) }
         ensures err { OnErr result (self.new ≡ self.old) }
     {
         self.names
@@ -446,7 +435,7 @@ impl<A: Allocator + Copy> Store<A> {
         Ok(())
     }
 
-    /// Whether an object that may be there has a name.
+    /// Whether an object, if there is one, has a name.
     fn has_link(&self, number: Option<u64>) -> bool
         ensures { result ≡ option_map_or (λ number. has_name self.now.names number) number false }
     {
@@ -456,7 +445,7 @@ impl<A: Allocator + Copy> Store<A> {
         }
     }
 
-    /// Copies the bytes of an object at an offset into a buffer, as far as both go, and answers how many.
+    /// Copies the bytes of an object at an offset into a buffer, as far as both reach, and returns the count.
     pub fn read(&self, number: u64, offset: u64, buffer: &mut [u8]) -> usize
         ensures count { result ≡ length (bytes_at self.now number offset (length buffer.old)) }
         ensures copied { buffer.new ≡ bytes_at self.now number offset (length buffer.old) ++ drop result buffer.old }
@@ -472,7 +461,7 @@ impl<A: Allocator + Copy> Store<A> {
         requires ticks { at.tick < 2 ^ 63 }
         requires few { offset + length more.now < 2 ^ 32 }
         requires file { kind_of self.old file ≡ Some Kind.File }
-        ensures ok { OnOk result (self.new ≡ quietly self.old (with_bytes self.old file offset more.now at)) }
+        ensures ok { OnOk result (self.new ≡ with_bytes self.old file offset more.now at) }
         ensures err { OnErr result (self.new ≡ self.old) }
     {
         edits::write(&mut self.objects, self.alloc, file, offset, more, at)?;
@@ -480,21 +469,21 @@ impl<A: Allocator + Copy> Store<A> {
         Ok(())
     }
 
-    /// Sets the size of a file: it is cut, or zeros are added. It takes no memory.
+    /// Sets the size of a file: it is truncated, or zeros are appended. It allocates no memory.
     pub fn resize(&mut self, file: u64, size: usize, at: At)
         requires ticks { at.tick < 2 ^ 63 }
         requires file { kind_of self.old file ≡ Some Kind.File }
-        ensures { self.new ≡ quietly self.old (with_size self.old file size at) }
+        ensures { self.new ≡ with_size self.old file size at }
     {
         edits::resize(&mut self.objects, file, size, at);
         self.next_tick = at.tick + 1;
     }
 
-    /// Sets a list with the high bits of the mode.
+    /// Sets an ACL with the high bits of the mode.
     pub fn set_list(&mut self, number: u64, list: AclList<A>, high: u32, at: At)
         requires stamps { self.old.next_stamp < 2 ^ 63 }
         requires ticks { at.tick < 2 ^ 63 }
-        ensures { self.new ≡ quietly self.old (with_list self.old number list high at) }
+        ensures { self.new ≡ with_list self.old number list high at }
     {
         edits::set_list(&mut self.objects, number, list, high, self.next_stamp, at);
         self.next_tick = at.tick + 1;
@@ -505,7 +494,7 @@ impl<A: Allocator + Copy> Store<A> {
     pub fn set_owner(&mut self, number: u64, owner: u32, group: u32, at: At)
         requires stamps { self.old.next_stamp < 2 ^ 63 }
         requires ticks { at.tick < 2 ^ 63 }
-        ensures { self.new ≡ quietly self.old (with_owner self.old number owner group at) }
+        ensures { self.new ≡ with_owner self.old number owner group at }
     {
         edits::set_owner(&mut self.objects, number, owner, group, self.next_stamp, at);
         self.next_tick = at.tick + 1;
@@ -513,7 +502,7 @@ impl<A: Allocator + Copy> Store<A> {
     }
 }
 
-// A store is put together from what a checkpoint says.
+// A store is restored from a checkpoint.
 impl<A: Allocator + Copy> Store<A> {
     /// No objects and no names.
     pub fn empty(
@@ -530,7 +519,6 @@ impl<A: Allocator + Copy> Store<A> {
           next_tick = next_tick;
           next_stamp = next_stamp;
           next_cookie = next_cookie;
-          notes = no_notes;
         } }
     {
         Store {
@@ -541,7 +529,6 @@ impl<A: Allocator + Copy> Store<A> {
             next_tick,
             next_stamp,
             next_cookie,
-            notes: Notes::none(alloc),
         }
     }
 
@@ -559,7 +546,7 @@ impl<A: Allocator + Copy> Store<A> {
         self.next_cookie
     }
 
-    /// One more object, of a number above all others.
+    /// Adds an object, with a number above all others.
     pub fn put_object(
         &mut self,
         number: u64,
@@ -575,7 +562,7 @@ impl<A: Allocator + Copy> Store<A> {
         Ok(())
     }
 
-    /// One more name, which isn't there, with a cookie above all others.
+    /// Adds a name that doesn't exist yet, with a cookie above all others.
     pub fn put_name(
         &mut self,
         cookie: u64,
@@ -606,9 +593,9 @@ impl<A: Allocator + Copy> Store<A> {
         }
     }
 
-    /// Whether the way up from an object leads to the root.
-    fn leads_up(&self, number: u64) -> bool
-        ensures { result ≡ leads_up (parent_of self.now) (length self.now.objects) number }
+    /// Whether the way up from an object reaches the root.
+    fn climbs_to_root(&self, number: u64) -> bool
+        ensures { result ≡ climbs_to_root (parent_of self.now) (length self.now.objects) number }
     {
         let mut here = number;
         for _ in 0..self.objects.len() {
@@ -628,7 +615,7 @@ impl<A: Allocator + Copy> Store<A> {
         ensures { result ≡ is_placed self.now number }
     {
         if self.is_directory(number) {
-            self.leads_up(number)
+            self.climbs_to_root(number)
         } else {
             self.names.has_name(number)
         }
@@ -644,145 +631,5 @@ impl<A: Allocator + Copy> Store<A> {
             }
         }
         true
-    }
-}
-
-// Changes are noted.
-impl<A: Allocator + Copy> Store<A> {
-    /// Begins notes, with room for this many bytes. `Err`: there is no memory for it, and nothing has changed.
-    pub fn begin_notes(&mut self, room: usize) -> Result<(), AllocError>
-        ensures ok { OnOk result (self.new ≡ record self.old { notes = begun_notes room }) }
-        ensures err { OnErr result (self.new ≡ self.old) }
-    {
-        self.notes = Notes::new(self.alloc, room)?;
-        Ok(())
-    }
-
-    /// The changes that were noted, one after the other. `None`: one was lost, or none are kept.
-    pub fn notes(&self) -> Option<&[u8]>
-        ensures { MatchOption result (self.now.notes.is_lost ≡ true)
-            (λ bytes. (self.now.notes.is_lost ≡ false) × (bytes.now ≡ self.now.notes.bytes)) }
-    {
-        self.notes.bytes()
-    }
-
-    /// Forgets what was noted.
-    pub fn clear_notes(&mut self)
-        ensures { self.new ≡ record self.old { notes = cleared self.old.notes } }
-    {
-        self.notes.clear();
-    }
-
-    /// Notes that an object was made, and answers where the notes were before.
-    pub fn note_add(&mut self, directory: u64, name: &[u8], new: &NewObject<A>, at: At) -> Mark
-        requires name { length name.now ≤ 255 }
-        requires bytes { length new.now.bytes.items ≤ 1048576 }
-        requires list { length new.now.list ≤ 64 }
-        ensures noted { self.new
-            ≡ record self.old {
-              notes = note self.old.notes
-                  (in_range
-                  (Add directory name.now new.now.kind new.now.bytes.items new.now.owner new.now.group new.now.list
-                  new.now.high at))
-                  (spelled
-                  (Add directory name.now new.now.kind new.now.bytes.items new.now.owner new.now.group new.now.list
-                  new.now.high at));
-            } }
-        ensures mark { (result.len ≡ length self.old.notes.bytes) × (result.was_lost ≡ self.old.notes.is_lost) }
-    {
-        let mark = self.notes.mark();
-        self.notes.add(directory, name, new, at);
-        mark
-    }
-
-    /// Takes back what was noted after a mark.
-    pub fn cut_notes(&mut self, mark: Mark)
-        requires { mark.len ≤ length self.old.notes.bytes }
-        ensures { CutsTo self.old self.new mark.len mark.was_lost }
-    {
-        self.notes.cut(mark);
-    }
-
-    /// Notes that an object got a further name.
-    pub fn note_link(&mut self, directory: u64, name: &[u8], number: u64, at: At)
-        requires { length name.now ≤ 255 }
-        ensures { self.new
-            ≡ record self.old {
-              notes = note self.old.notes (in_range (Link directory name.now number at))
-                  (spelled (Link directory name.now number at));
-            } }
-    {
-        self.notes.link(directory, name, number, at);
-    }
-
-    /// Notes that a name was taken away.
-    pub fn note_unlink(&mut self, directory: u64, name: &[u8], at: At)
-        requires { length name.now ≤ 255 }
-        ensures { self.new
-            ≡ record self.old {
-              notes = note self.old.notes (in_range (Unlink directory name.now at))
-                  (spelled (Unlink directory name.now at));
-            } }
-    {
-        self.notes.unlink(directory, name, at);
-    }
-
-    /// Notes that a child got another name.
-    pub fn note_rename(&mut self, from: u64, old: &[u8], to: u64, new: &[u8], at: At)
-        requires old { length old.now ≤ 255 }
-        requires new { length new.now ≤ 255 }
-        ensures { self.new
-            ≡ record self.old {
-              notes = note self.old.notes (in_range (Rename from old.now to new.now at))
-                  (spelled (Rename from old.now to new.now at));
-            } }
-    {
-        self.notes.rename(from, old, to, new, at);
-    }
-
-    /// Notes that data were written.
-    pub fn note_write(&mut self, file: u64, offset: u64, more: &[u8], at: At)
-        requires { length more.now ≤ 1048576 }
-        ensures { self.new
-            ≡ record self.old {
-              notes = note self.old.notes (in_range (Write file offset more.now at))
-                  (spelled (Write file offset more.now at));
-            } }
-    {
-        self.notes.write(file, offset, more, at);
-    }
-
-    /// Notes that a size was set.
-    pub fn note_resize(&mut self, file: u64, size: u64, at: At)
-        ensures { self.new
-            ≡ record self.old {
-              notes = note self.old.notes (in_range (Resize file size at))
-                  (spelled (Resize file size at));
-            } }
-    {
-        self.notes.resize(file, size, at);
-    }
-
-    /// Notes that a list was set.
-    pub fn note_set_list(&mut self, number: u64, list: &[Entry], high: u32, at: At)
-        requires { length list.now ≤ 64 }
-        ensures { self.new
-            ≡ record self.old {
-              notes = note self.old.notes (in_range (SetList number list.now high at))
-                  (spelled (SetList number list.now high at));
-            } }
-    {
-        self.notes.set_list(number, list, high, at);
-    }
-
-    /// Notes that an owner and a group were set.
-    pub fn note_set_owner(&mut self, number: u64, owner: u32, group: u32, at: At)
-        ensures { self.new
-            ≡ record self.old {
-              notes = note self.old.notes (in_range (SetOwner number owner group at))
-                  (spelled (SetOwner number owner group at));
-            } }
-    {
-        self.notes.set_owner(number, owner, group, at);
     }
 }

@@ -1,4 +1,4 @@
-//! The tree: the changes that it refuses, and that it stays a tree.
+//! The tree: the changes that it refuses, and the invariant that it stays a tree.
 ghost use Rattle.std.specs.Prelude.{◌≡◌, ◌≢◌, ◌<◌, ◌≤◌, ◌^◌, ◌++◌, ◌==◌, [], find, length, drop, MatchOption, OnOk};
 ghost use Rattle.std.specs.Prelude.{OnErr, IfOk, IsOk, IsOkUnless, IfSome, IsSome, Some, true, false};
 ghost use Rattle.std.specs.Option.{option_copied};
@@ -12,7 +12,6 @@ ghost use Rattle.node_tree.specs.Refusals.{add_refusal, link_refusal, unlink_ref
 ghost use Rattle.node_tree.specs.Refusals.{rename_refusal, write_refusal, resize_refusal};
 ghost use Rattle.node_tree.specs.Moves.{IsMove, IsPlan};
 ghost use Rattle.node_tree.specs.Judged.{KeepsJudged};
-ghost use Rattle.node_tree.specs.Notes.{begun_notes, cleared};
 ghost use Rattle.node_tree.specs.Parts.{number_after, any_after};
 ghost use Rattle.node_tree.specs.Sample.{sample};
 ghost use Rattle.node_tree.specs.Sound.{IsSound, IsTick, IsNextName, most_bytes};
@@ -46,7 +45,7 @@ impl<A: Allocator> Model for Tree<A> {
     ghost invariant = { λ t. IsSound t.store };
 }
 
-// Look-ups. None takes memory.
+// Look-ups. None allocates memory.
 impl<A: Allocator + Copy> Tree<A> {
     /// The number of the root.
     pub fn root(&self) -> u64
@@ -57,7 +56,7 @@ impl<A: Allocator + Copy> Tree<A> {
         ROOT
     }
 
-    /// The tick of the next operation that changes anything. It is below 2^63 where one is left.
+    /// The tick of the next operation that changes anything. It is below 2^63 if one is left.
     pub fn next_tick(&self) -> u64
         ensures value { result ≡ self.now.next_tick }
         ensures tick { result < 2 ^ 63 → IsTick self.now result }
@@ -65,14 +64,15 @@ impl<A: Allocator + Copy> Tree<A> {
         self.store.next_tick()
     }
 
-    /// The stamp of the next object, list or owner. It is below 2^63 where one is left.
+    /// The stamp of the next object, access control list (ACL) or owner. It is below 2^63 if one is left.
     pub fn next_stamp(&self) -> u64
         ensures { result ≡ self.now.next_stamp }
     {
         self.store.next_stamp()
     }
 
-    /// The object of a number. [`Tree::links`] tells the number of its names, [`Tree::parent`] where a directory lies.
+    /// The object of a number. [`Tree::links`] returns the number of its names, [`Tree::parent`] the parent of a
+    /// directory.
     pub fn object(&self, number: u64) -> Option<&Node<A>>
         ensures value { option_copied result ≡ object self.now number }
         ensures sound { IsSound self.now }
@@ -80,7 +80,7 @@ impl<A: Allocator + Copy> Tree<A> {
         self.store.object(number)
     }
 
-    /// How many names an object has: none the root, one each other directory.
+    /// The number of names of an object: 0 of the root, 1 of each other directory.
     pub fn links(&self, number: u64) -> usize
         ensures value { result ≡ link_count self.now.names number }
         ensures few { result ≤ MAX_LINKS }
@@ -111,9 +111,8 @@ impl<A: Allocator + Copy> Tree<A> {
         self.store.find(directory, name)
     }
 
-    /// The next name of a directory after a cookie, by rising cookie (READDIR: RFC 8881, section
-    /// 18.23). No name has the cookies 0 to 2, and the name of the cookie that is sent may have
-    /// gone.
+    /// The next name of a directory after a cookie, by rising cookie (READDIR: RFC 8881, section 18.23). No name has
+    /// the cookies 0 to 2, and the name of the cookie that is sent may have been removed.
     pub fn list_after(&self, directory: u64, cookie: u64) -> Option<&DirEntry<A>>
         ensures value { option_copied result ≡ name_after self.now directory cookie }
         ensures next { IfSome (option_copied result) (IsNextName self.now directory cookie) }
@@ -121,8 +120,8 @@ impl<A: Allocator + Copy> Tree<A> {
         self.store.list_after(directory, cookie)
     }
 
-    /// The name of a cookie, in any directory: where [`Tree::list_after`] gave a name of this cookie,
-    /// that name again, without a search of the directory. No two names ever have one cookie.
+    /// The name of a cookie, in any directory. If [`Tree::list_after`] returned a name with this cookie, it is that
+    /// name again, found without a search of the directory. No two names ever have the same cookie.
     pub fn name_by_cookie(&self, cookie: u64) -> Option<&DirEntry<A>>
         ensures value { option_copied result ≡ find (λ n. n.cookie == cookie) self.now.names }
         ensures again { FindsAgain self.now cookie (option_copied result) }
@@ -130,13 +129,13 @@ impl<A: Allocator + Copy> Tree<A> {
         self.store.name_by_cookie(cookie)
     }
 
-    /// Plans that a child gets another name, in the same directory or in another (RENAME: RFC 8881,
-    /// section 18.26). Between two names of one object nothing is to be done, [`Plan::Same`].
+    /// Plans that a child gets a new name, in the same directory or in another (RENAME: RFC 8881, section 18.26).
+    /// Between two names of one object there is nothing to do, [`Plan::Same`].
     ///
-    /// Refused, the first of these. There is no child of the old name, [`TreeFault::NoEnt`]. It is a
-    /// directory that the directory of the new name is, or lies below, [`TreeFault::Inval`]. There is
-    /// a target, and the two are neither both no directories nor both directories with the target
-    /// empty, [`TreeFault::Exist`].
+    /// Refused for the first of these reasons. There is no child of the old name, [`TreeFault::NoEnt`]. The child is a
+    /// directory, and the directory of the new name is the child or is below it, [`TreeFault::Inval`]. There is a
+    /// target that the child can't replace, [`TreeFault::Exist`]. A directory can replace only an empty directory. Any
+    /// other object can replace only an object that isn't a directory.
     pub fn plan_rename<'a>(
         &self,
         from: u64,
@@ -173,9 +172,8 @@ impl<A: Allocator + Copy> Tree<A> {
         }))
     }
 
-    /// Copies the bytes of a file, or the text of a link, at an offset into a buffer, as far as
-    /// both go (READ, READLINK: RFC 8881, sections 18.22 and 18.24). It answers how many it copied.
-    /// The rest of the buffer stays.
+    /// Copies the bytes of a file, or the text of a symbolic link, at an offset into a buffer, as far as both reach. It
+    /// returns the count. The rest of the buffer stays. READ and READLINK use it (RFC 8881, sections 18.22 and 18.24).
     pub fn read(&self, number: u64, offset: u64, buffer: &mut [u8]) -> usize
         ensures count { result ≡ length (bytes_at self.now number offset (length buffer.old)) }
         ensures copied { buffer.new ≡ bytes_at self.now number offset (length buffer.old) ++ drop result buffer.old }
@@ -184,7 +182,7 @@ impl<A: Allocator + Copy> Tree<A> {
     }
 }
 
-// The parts in order, as a checkpoint has them. None takes memory.
+// The parts in order, as a checkpoint has them. None of these calls allocates memory.
 impl<A: Allocator + Copy> Tree<A> {
     /// The number of the next object. No number is above 2^63.
     pub fn next_number(&self) -> u64
@@ -200,46 +198,19 @@ impl<A: Allocator + Copy> Tree<A> {
         self.store.next_cookie()
     }
 
-    /// The least number above another one that has an object. No object has the number 0. So the
-    /// objects of a tree are those of the number after 0, the number after that, and so on.
+    /// The least number above another one that has an object. No object has the number 0. So the objects of a tree are
+    /// that of the number after 0, that of the number after that one, and so on.
     pub fn number_after(&self, number: u64) -> Option<u64>
         ensures { result ≡ number_after self.now number }
     {
         self.store.number_after(number)
     }
 
-    /// The name of the least cookie above another one, in any directory. No name has the cookie 0.
+    /// The name with the least cookie above another one, in any directory. No name has the cookie 0.
     pub fn any_after(&self, cookie: u64) -> Option<&DirEntry<A>>
         ensures { option_copied result ≡ any_after self.now cookie }
     {
         self.store.any_after(cookie)
-    }
-}
-
-// The changes are noted for a store. Nothing else depends on it.
-impl<A: Allocator + Copy> Tree<A> {
-    /// Begins notes: from now on each change is noted, in this many bytes, where there is room for
-    /// it. `Err`: there is no memory for them, and nothing has changed.
-    pub fn begin_notes(&mut self, room: usize) -> Result<(), AllocError>
-        ensures ok { OnOk result (self.new ≡ record self.old { notes = begun_notes room }) }
-        ensures err { OnErr result (self.new ≡ self.old) }
-    {
-        self.store.begin_notes(room)
-    }
-
-    /// The changes that were noted, one after the other. `None`: one of them had no room, or none are kept.
-    pub fn notes(&self) -> Option<&[u8]>
-        ensures { MatchOption result (self.now.notes.is_lost ≡ true)
-            (λ bytes. (self.now.notes.is_lost ≡ false) × (bytes.now ≡ self.now.notes.bytes)) }
-    {
-        self.store.notes()
-    }
-
-    /// Forgets what was noted, and whether a change was lost, once a record or a checkpoint has it.
-    pub fn clear_notes(&mut self)
-        ensures { self.new ≡ record self.old { notes = cleared self.old.notes } }
-    {
-        self.store.clear_notes();
     }
 }
 
@@ -253,10 +224,10 @@ impl<A: Allocator> Tree<A> {
     }
 }
 
-// Changes. Each grows first, and a refusal leaves all as it was.
+// Changes. Each allocates first, and a refusal leaves everything unchanged.
 impl<A: Allocator + Copy> Tree<A> {
-    /// A root alone, with a list within the bounds of [`acl_shape::is_bounded`]. Its times are the
-    /// epoch. `Err`: there is no memory for it.
+    /// A root alone, with an ACL within the bounds of [`acl_shape::is_bounded`]. Its times are the epoch. `Err`: an
+    /// allocation fails.
     pub fn new(
         alloc: A,
         owner: u32,
@@ -280,8 +251,8 @@ impl<A: Allocator + Copy> Tree<A> {
         })
     }
 
-    /// The sample tree: in the root a file `notes` and a directory `pub`, each with the list of its
-    /// mode. Its times are the epoch. `Err`: there is no memory for it.
+    /// The sample tree: in the root a file `notes` and a directory `pub`, each with the ACL of its mode. Its times are
+    /// the epoch. `Err`: an allocation fails.
     pub fn sample(alloc: A) -> Result<Self, AllocError>
         ensures { IfOk result (λ tree. tree ≡ sample) }
     {
@@ -291,13 +262,12 @@ impl<A: Allocator + Copy> Tree<A> {
         })
     }
 
-    /// Makes a new object under a new name of at most 255 bytes, and answers its number (CREATE,
-    /// OPEN: RFC 8881, sections 18.4 and 18.16). It takes a number, a stamp and a cookie. The
-    /// directory's times are set.
+    /// Creates an object under a new name of at most 255 bytes, and returns its number (CREATE, OPEN: RFC 8881,
+    /// sections 18.4 and 18.16). It takes a number, a stamp and a cookie. The directory's times are set.
     ///
-    /// Refused, the first of these. The name is taken, [`TreeFault::Exist`]. The directory has
-    /// [`crate::MAX_NAMES`] names, there are [`crate::MAX_OBJECTS`] objects, or a number, stamp or
-    /// cookie would be 2^63, [`TreeFault::NoSpc`]. There is no memory, [`TreeFault::Memory`].
+    /// Refused for the first of these reasons. The name is taken, [`TreeFault::Exist`]. The directory has
+    /// [`crate::MAX_NAMES`] names, there are [`crate::MAX_OBJECTS`] objects, or a number, stamp or cookie would be
+    /// 2^63, [`TreeFault::NoSpc`]. An allocation fails, [`TreeFault::Memory`].
     pub fn add(
         &mut self,
         directory: u64,
@@ -321,24 +291,15 @@ impl<A: Allocator + Copy> Tree<A> {
         if let Some(fault) = self.store.add_fault(directory, name) {
             return Err(fault);
         }
-        let mark = self.store.note_add(directory, name, &new, at);
-        match self.store.add(directory, name, new, at) {
-            Ok(number) => Ok(number),
-            Err(_) => {
-                self.store.cut_notes(mark);
-                Err(TreeFault::Memory)
-            }
-        }
+        Ok(self.store.add(directory, name, new, at)?)
     }
 
-    /// Gives an object that is no directory a new name of at most 255 bytes (LINK: RFC 8881,
-    /// section 18.9). It takes a cookie. The directory's times are set, and the object's
-    /// `time_metadata`.
+    /// Gives an object that isn't a directory a new name of at most 255 bytes (LINK: RFC 8881, section 18.9). It takes
+    /// a cookie. The directory's times are set, and the object's `time_metadata`.
     ///
-    /// Refused, the first of these. The name is taken, [`TreeFault::Exist`]. The object has
-    /// [`crate::MAX_LINKS`] names, [`TreeFault::MLink`]. The directory has [`crate::MAX_NAMES`]
-    /// names, or the cookie would be 2^63, [`TreeFault::NoSpc`]. There is no memory,
-    /// [`TreeFault::Memory`].
+    /// Refused for the first of these reasons. The name is taken, [`TreeFault::Exist`]. The object has
+    /// [`crate::MAX_LINKS`] names, [`TreeFault::MLink`]. The directory has [`crate::MAX_NAMES`] names, or the cookie
+    /// would be 2^63, [`TreeFault::NoSpc`]. An allocation fails, [`TreeFault::Memory`].
     pub fn link(
         &mut self,
         directory: u64,
@@ -361,16 +322,14 @@ impl<A: Allocator + Copy> Tree<A> {
             return Err(fault);
         }
         self.store.link(directory, name, number, at)?;
-        self.store.note_link(directory, name, number, at);
         Ok(())
     }
 
-    /// Takes a name away. Its child goes with its last name (REMOVE: RFC 8881, section 18.25). The
-    /// directory's times are set, and the `time_metadata` of a child that has other names. It takes
-    /// no memory.
+    /// Removes a name. Its child is removed with its last name (REMOVE: RFC 8881, section 18.25). The directory's times
+    /// are set, and the `time_metadata` of a child that has other names. It allocates no memory.
     ///
-    /// Refused: there is no such name, [`TreeFault::NoEnt`]; it is that of a directory that has
-    /// names, [`TreeFault::NotEmpty`].
+    /// Refused: the name doesn't exist, [`TreeFault::NoEnt`]; its child is a directory that has names,
+    /// [`TreeFault::NotEmpty`].
     pub fn unlink(&mut self, directory: u64, name: &[u8], at: At) -> Result<(), TreeFault>
         requires tick { IsTick self.old at.tick }
         ensures refused { MatchOption (unlink_refusal self.old directory name.now) (IsOk result)
@@ -386,22 +345,20 @@ impl<A: Allocator + Copy> Tree<A> {
             return Err(TreeFault::NotEmpty);
         }
         self.store.unlink(directory, name, child, at);
-        self.store.note_unlink(directory, name, at);
         Ok(())
     }
 
-    /// Gives a child another name, in the same directory or in another (RENAME: RFC 8881, section
-    /// 18.26). It takes a cookie. The times of both directories are set, and the `time_metadata` of
-    /// the child and of a target that has other names. Nothing changes between two names of one
-    /// object.
+    /// Gives a child a new name, in the same directory or in another (RENAME: RFC 8881, section 18.26). It takes a
+    /// cookie. The times of both directories are set, and the `time_metadata` of the child and of a target that has
+    /// other names. Nothing changes between two names of one object.
     ///
     /// | The child | The target | |
     /// |---|---|---|
     /// | any | absent | the child has the new name |
-    /// | no directory | no directory | the child has the new name, and the target has lost it |
-    /// | a directory | an empty directory | the child has the new name, and the target is gone |
+    /// | not a directory | not a directory | the child has the new name, and the target has lost it |
+    /// | a directory | an empty directory | the child has the new name, and the target is removed |
     ///
-    /// Refused, the first of these: as [`Tree::plan_rename`] and then as [`Tree::carry_out`].
+    /// Refused as by [`Tree::plan_rename`], and then as by [`Tree::carry_out`].
     pub fn rename(
         &mut self,
         from: u64,
@@ -425,11 +382,11 @@ impl<A: Allocator + Copy> Tree<A> {
         }
     }
 
-    /// Does what [`Tree::plan_rename`] found, in a world where that is still so.
+    /// Carries out the move that [`Tree::plan_rename`] returned, in a world in which its facts still hold.
     ///
-    /// Refused, the first of these. The new name has no target and its directory, another one, has
-    /// [`crate::MAX_NAMES`] names, or the cookie would be 2^63, [`TreeFault::NoSpc`]. There is no
-    /// memory, [`TreeFault::Memory`].
+    /// Refused for the first of these reasons. The new name has no target and is in another directory, which has
+    /// [`crate::MAX_NAMES`] names, or the cookie would be 2^63, [`TreeFault::NoSpc`]. An allocation fails,
+    /// [`TreeFault::Memory`].
     pub fn carry_out(&mut self, moved: Move<'_>, at: At) -> Result<(), TreeFault>
         requires tick { IsTick self.old at.tick }
         requires planned { IsMove self.old moved }
@@ -452,12 +409,11 @@ impl<A: Allocator + Copy> Tree<A> {
             return Err(TreeFault::NoSpc);
         }
         self.store.rename(from, old, to, new, child, target, at)?;
-        self.store.note_rename(from, old, to, new, at);
         Ok(())
     }
 
-    /// Writes data into a file, and zeros between its end and the offset (WRITE: RFC 8881, section
-    /// 18.32). The file's times are set. No data change nothing, at any offset, and take no memory.
+    /// Writes data into a file, and zeros between its end and the offset (WRITE: RFC 8881, section 18.32). The file's
+    /// times are set. Writing no data changes nothing, at any offset, and allocates no memory.
     ///
     /// Refused: the data would end above [`crate::MAX_BYTES`], [`TreeFault::FBig`]; [`TreeFault::Memory`].
     pub fn write(&mut self, file: u64, offset: u64, more: &[u8], at: At) -> Result<(), TreeFault>
@@ -477,12 +433,11 @@ impl<A: Allocator + Copy> Tree<A> {
             return Err(TreeFault::FBig);
         }
         self.store.write(file, offset as usize, more, at)?;
-        self.store.note_write(file, offset, more, at);
         Ok(())
     }
 
-    /// Sets the size of a file, also to its own size: it is cut, or zeros are added (SETATTR, OPEN: RFC 8881, section
-    /// 18.30). The file's times are set. It takes memory only where the file grows.
+    /// Sets the size of a file, also to its own size: it is truncated, or zeros are appended (SETATTR, OPEN: RFC 8881,
+    /// section 18.30). The file's times are set. It allocates memory only if the file grows.
     ///
     /// Refused: the size is above [`crate::MAX_BYTES`], [`TreeFault::FBig`]; [`TreeFault::Memory`].
     pub fn resize(&mut self, file: u64, size: u64, at: At) -> Result<(), TreeFault>
@@ -500,13 +455,12 @@ impl<A: Allocator + Copy> Tree<A> {
             return Err(TreeFault::FBig);
         }
         self.store.resize(file, size as usize, at);
-        self.store.note_resize(file, size, at);
         Ok(())
     }
 
-    /// Sets the list of an object, within the bounds of [`acl_shape::is_bounded`], with the high
-    /// bits of its mode (SETATTR: RFC 8881, section 18.30). It takes a stamp and no memory. The
-    /// object's `time_metadata` is set.
+    /// Sets the ACL of an object, within the bounds of [`acl_shape::is_bounded`], with the high bits of its mode
+    /// (SETATTR: RFC 8881, section 18.30). It takes a stamp and allocates no memory. The object's `time_metadata` is
+    /// set.
     pub fn set_list(&mut self, number: u64, list: AclList<A>, high: u32, at: At)
         requires tick { IsTick self.old at.tick }
         requires stamps { self.old.next_stamp < 2 ^ 63 }
@@ -514,12 +468,11 @@ impl<A: Allocator + Copy> Tree<A> {
         ensures value { self.new ≡ with_list self.old number list high at }
         ensures judged { KeepsJudged self.old self.new }
     {
-        self.store.note_set_list(number, list.as_slice(), high, at);
         self.store.set_list(number, list, high, at);
     }
 
-    /// Sets the owner and the group of an object (SETATTR: RFC 8881, section 18.30). It takes a
-    /// stamp and no memory. The object's `time_metadata` is set.
+    /// Sets the owner and the group of an object (SETATTR: RFC 8881, section 18.30). It takes a stamp and allocates no
+    /// memory. The object's `time_metadata` is set.
     pub fn set_owner(&mut self, number: u64, owner: u32, group: u32, at: At)
         requires tick { IsTick self.old at.tick }
         requires stamps { self.old.next_stamp < 2 ^ 63 }
@@ -527,6 +480,5 @@ impl<A: Allocator + Copy> Tree<A> {
         ensures judged { KeepsJudged self.old self.new }
     {
         self.store.set_owner(number, owner, group, at);
-        self.store.note_set_owner(number, owner, group, at);
     }
 }

@@ -2,13 +2,13 @@
 use Rattle.std.proofs.Common.{◌≡◌, ℕ, ◌++◌, Some, refl, ap, arith}
 use Rattle.rpc_record.specs.Identity.{Identity}
 use Rattle.acl_list.specs.Places as places
-use Rattle.acl_list.specs.Deciding.{mention, mentioned}
+use Rattle.acl_list.specs.Deciding.{first_match, match_of}
 use Rattle.acl_list.specs.Verdicts.{verdict, verdict_on_bit}
 use Rattle.acl_list.specs.declared.mask.TheConstants.{ADD_FILE}
 use Rattle.acl_list.specs.declared.answer.Verdict.{Verdict}
 use Rattle.acl_list.specs.declared.answer.Verdict.TheVariants.{Granted, Denied, Missing}
-use Rattle.acl_list.specs.declared.answer.Mention.{Mention}
-use Rattle.acl_list.specs.declared.answer.Mention.TheVariants.{Unmentioned, AllowedBy, DeniedBy}
+use Rattle.acl_list.specs.declared.answer.FirstMatch.{FirstMatch}
+use Rattle.acl_list.specs.declared.answer.FirstMatch.TheVariants.{Unmatched, AllowedBy, DeniedBy}
 use Rattle.acl_list.proofs.OneBit.{verdict-bit}
 use Rattle.node_tree.specs.Judged.{Judged}
 use Rattle.access_rows.specs.declared.demand.Demand.TheVariants.{Bits, Removal}
@@ -17,7 +17,7 @@ use Rattle.access_guard.specs.Decisions.{answer, removal, decision, is_granted}
 use Rattle.access_guard.specs.Lists.{Lists, names}
 use Rattle.access_guard.specs.Lines.{lines, demand_lines, deny_lines}
 use Rattle.acl_reasons.specs.Reasons.{reason_of, denied_bit, reason}
-use Rattle.acl_reasons.specs.Removals.{by_mentions, removal_reason}
+use Rattle.acl_reasons.specs.Removals.{by_first_matches, removal_reason}
 use Rattle.reason_laws.specs.Traced.{side_of, decided, decided_removal, traced}
 
 answer-reason : (object mask : ℕ) (bit : ℕ → ℕ) (v : Verdict)
@@ -38,30 +38,30 @@ pub lines-reason : (lists : Lists) (caller : Identity) (op object mask : ℕ) (j
 lines-reason lists caller op object mask j there =
     ap (traced lists caller op (Bits object mask)) (decision-reason lists caller object mask j there)
 
--- of a removal, by the mention of ADD_FILE on the parent
-removal-reason : (parent target : ℕ) (on_target on_parent add : Mention)
+-- of a removal, by the access control entry that decides ADD_FILE on the parent
+removal-reason : (parent target : ℕ) (on_target on_parent add : FirstMatch)
     → removal parent target on_target on_parent (verdict_on_bit places.add_file add)
-    ≡ decided_removal parent target (by_mentions on_target on_parent (verdict_on_bit places.add_file add))
+    ≡ decided_removal parent target (by_first_matches on_target on_parent (verdict_on_bit places.add_file add))
 removal-reason parent target (AllowedBy i) on_parent add = refl
 removal-reason parent target (DeniedBy i) (AllowedBy j) add = refl
 removal-reason parent target (DeniedBy i) (DeniedBy j) add = refl
-removal-reason parent target (DeniedBy i) Unmentioned add = refl
-removal-reason parent target Unmentioned (AllowedBy j) add = refl
-removal-reason parent target Unmentioned (DeniedBy j) add = refl
-removal-reason parent target Unmentioned Unmentioned (AllowedBy k) = refl
-removal-reason parent target Unmentioned Unmentioned (DeniedBy k) = refl
-removal-reason parent target Unmentioned Unmentioned Unmentioned = refl
+removal-reason parent target (DeniedBy i) Unmatched add = refl
+removal-reason parent target Unmatched (AllowedBy j) add = refl
+removal-reason parent target Unmatched (DeniedBy j) add = refl
+removal-reason parent target Unmatched Unmatched (AllowedBy k) = refl
+removal-reason parent target Unmatched Unmatched (DeniedBy k) = refl
+removal-reason parent target Unmatched Unmatched Unmatched = refl
 
 pub decision-removal : (lists : Lists) (caller : Identity) (parent target : ℕ) (p t : Judged)
     → lists parent ≡ Some p → lists target ≡ Some t
     → decision lists caller (Removal parent target)
     ≡ decided_removal parent target (removal_reason (side_of p) (side_of t) caller)
 decision-removal lists caller parent target p t on_parent on_target =
-    let on_p = λ (place : ℕ). mentioned (mention (names p caller) p.list place) in
+    let on_p = λ (place : ℕ). match_of (first_match (names p caller) p.list place) in
     let add : verdict (names p caller) p.list ADD_FILE ≡ verdict_on_bit places.add_file (on_p places.add_file) =
     verdict-bit (names p caller) p.list places.add_file (omega arith) in
     rw (on_parent, on_target, add)
-    (removal-reason parent target (mentioned (mention (names t caller) t.list places.delete)) (on_p places.delete_child)
+    (removal-reason parent target (match_of (first_match (names t caller) t.list places.delete)) (on_p places.delete_child)
     (on_p places.add_file))
 
 pub lines-removal : (lists : Lists) (caller : Identity) (op parent target : ℕ) (p t : Judged)

@@ -23,13 +23,13 @@ use Rattle.acl_reasons.specs.declared.removal.RemovalReason.TheVariants.{AddFile
 abbrev pub side_of : Judged → Side
 side_of j = record { owner = j.owner; group = j.group; list = j.list }
 
--- of bits of an object
+-- the decision on bits of an object
 abbrev pub decided : ℕ → ℕ → Reason → Decision
 decided object mask Granted = decisions.Granted
 decided object mask (Denied index bit) = decisions.Refused object mask (causes.ByEntry index)
 decided object mask (Missing bit) = decisions.Refused object mask (causes.Missing bit)
 
--- of the removal of a target from a parent
+-- the decision on the removal of a target from a parent
 abbrev pub decided_removal : ℕ → ℕ → RemovalReason → Decision
 decided_removal parent target (ByDelete index) = decisions.Granted
 decided_removal parent target (ByDeleteChild index) = decisions.Granted
@@ -39,6 +39,7 @@ decided_removal parent target (DeleteDenied index) = decisions.Refused target DE
 decided_removal parent target (AddFileDenied index) = decisions.Refused parent ADD_FILE (causes.ByEntry index)
 decided_removal parent target AddFileMissing = decisions.Refused parent ADD_FILE (causes.Missing ADD_FILE)
 
--- the lines of a demand by a decision: those of the entries that watch, and then the DENY line of a refusal
+-- the lines of a demand by a decision: those of the access control entries (ACEs) that watch, and then the DENY line of
+-- a refusal
 abbrev pub traced : Lists → Identity → ℕ → Demand → Decision → List Line
 traced lists caller op demand d = demand_lines lists caller op (is_granted d) demand ++ deny_lines caller op d

@@ -10,8 +10,8 @@ ghost use Rattle.acl_reasons.specs.Reasons.{reason};
 ghost use Rattle.acl_reasons.specs.Removals.{removal_reason};
 ghost use Rattle.reason_laws.specs.Traced.{side_of, decided, decided_removal, traced};
 
-/// The guard's decision on bits of an object is what their reason says. Its DENY line names the
-/// entry or the bit of the reason.
+/// The guard's decision on bits of an object follows from the reason of its access control list (ACL). Its DENY line
+/// names the access control entry (ACE) or the bit of the reason.
 pub fn reasons_are_decisions()
     ensures decision { (lists : Lists) (caller : Identity) (object mask : ℕ) (j : Judged) → lists object ≡ Some j →
         decision lists caller (Bits object mask) ≡ decided object mask (reason (names j caller) j.list mask) }
@@ -20,8 +20,8 @@ pub fn reasons_are_decisions()
         (decided object mask (reason (names j caller) j.list mask)) }
 {}
 
-/// The guard's decision on a removal is what its reason says. Its DENY line names the object, the
-/// bit and the entry of the reason.
+/// The guard's decision on a removal follows from its reason. Its DENY line names the object, the bit and the ACE of
+/// the reason.
 pub fn removal_reasons_are_decisions()
     ensures decision { (lists : Lists) (caller : Identity) (parent target : ℕ) (p t : Judged) →
         lists parent ≡ Some p → lists target ≡ Some t →

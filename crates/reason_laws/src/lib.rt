@@ -1,4 +1,5 @@
-//! Laws that tie the reasons of lists to the guard's decisions and lines (RFC 8881, sections 6.2.1 and 6.2.1.3.2).
+//! Laws that tie the reasons of access control lists (ACLs) to the guard's decisions and lines (RFC 8881, sections
+//! 6.2.1 and 6.2.1.3.2).
 #![tactic(auto)]
 
 mod laws;

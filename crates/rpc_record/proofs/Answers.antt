@@ -12,20 +12,20 @@ use Rattle.rpc_record.specs.declared.answered.ReplyFault.{ReplyFault}
 use Rattle.rpc_record.specs.declared.answered.ReplyFault.TheVariants.{Header, Another}
 use Rattle.rpc_record.specs.declared.reply.Reply.{Reply}
 use Rattle.rpc_record.specs.declared.reply.Reply.TheVariants.{Success, ProgUnavail, ProgMismatch, ProcUnavail, GarbageArgs, RpcMismatch, AuthError}
-use Rattle.rpc_record.specs.Answered.{answered, begun, ended, accepted_as, denied_as, without_results, body_says, beginning, reply_body, ReplyResult}
+use Rattle.rpc_record.specs.Answered.{answered, begun, ended, accepted_as, denied_as, without_results, body_result, beginning, reply_body, ReplyResult}
 use Rattle.rpc_record.specs.AnsweredViews.{read_as}
 use Rattle.rpc_record.proofs.Replies.{reply_spelled}
 
 -- a reply that is read part by part
-parts : (xid : ℕ) (bytes behind_xid behind_kind rest : List ℕ) (told kind : ℕ) (body : Value reply_body) → read_at uint bytes ≡ Ok (told, behind_xid) → read_at uint behind_xid ≡ Ok (kind, behind_kind)
-    → read_at reply_body behind_kind ≡ Ok (body, rest) → told ≡ xid → kind ≡ 1 → answered xid bytes ≡ ended body rest
-unfolding body_says
-parts xid bytes behind_xid behind_kind rest told kind body first second third same is =
+parts : (xid : ℕ) (bytes after_xid after_kind rest : List ℕ) (reply kind : ℕ) (body : Value reply_body) → read_at uint bytes ≡ Ok (reply, after_xid) → read_at uint after_xid ≡ Ok (kind, after_kind)
+    → read_at reply_body after_kind ≡ Ok (body, rest) → reply ≡ xid → kind ≡ 1 → answered xid bytes ≡ ended body rest
+unfolding body_result
+parts xid bytes after_xid after_kind rest reply kind body first second third same is =
     ap (λ (r : Read ℕ). begun xid (r >>= λ x. read_at uint x.1 >>= λ y. Ok ((x.0, y.0), y.1))) first
-    ∙ ap (λ (r : Read ℕ). begun xid (r >>= λ y. Ok ((told, y.0), y.1))) second
-    ∙ ap (λ (k : ℕ). begun xid (Ok ((told, k), behind_kind))) is
-    ∙ ap (λ (k : Bool). if not k then Err (Another told) else body_says (read_at reply_body behind_kind)) (eq-eqb told xid same)
-    ∙ ap body_says third
+    ∙ ap (λ (r : Read ℕ). begun xid (r >>= λ y. Ok ((reply, y.0), y.1))) second
+    ∙ ap (λ (k : ℕ). begun xid (Ok ((reply, k), after_kind))) is
+    ∙ ap (λ (k : Bool). if not k then Err (Another reply) else body_result (read_at reply_body after_kind)) (eq-eqb reply xid same)
+    ∙ ap body_result third
 
 both_are : (a b c d : ℕ) → a ≡ b → c ≡ d → Path (ℕ × ℕ) (a, c) (b, d)
 both_are a b c d e f = λ i. (e i, f i)
@@ -34,11 +34,11 @@ both_are a b c d e f = λ i. (e i, f i)
 pair_read : (s t : Xdr) (bytes middle rest : List ℕ) (v : Value s) (w : Value t) → read_at s bytes ≡ Ok (v, middle) → read_at t middle ≡ Ok (w, rest) → read_at (pair s t) bytes ≡ Ok ((v, w), rest)
 pair_read s t bytes middle rest v w first second = rw (first, second) refl
 
-put_together : (xid : ℕ) (bytes behind_xid behind_kind rest : List ℕ) (told kind : ℕ) (body : Value reply_body) → read_at uint bytes ≡ Ok (told, behind_xid) → read_at uint behind_xid ≡ Ok (kind, behind_kind)
-    → read_at reply_body behind_kind ≡ Ok (body, rest) → told ≡ xid → kind ≡ 1 → read_at reply_message bytes ≡ Ok ((xid, (1, body)), rest)
-put_together xid bytes behind_xid behind_kind rest told kind body first second third same is =
-    pair_read uint (pair uint reply_body) bytes behind_xid rest told (kind, body) first (pair_read uint reply_body behind_xid behind_kind rest kind body second third)
-    ∙ ap (λ (p : ℕ × ℕ). Ok ((p.0, (p.1, body)), rest)) (both_are told xid kind 1 same is)
+put_together : (xid : ℕ) (bytes after_xid after_kind rest : List ℕ) (reply kind : ℕ) (body : Value reply_body) → read_at uint bytes ≡ Ok (reply, after_xid) → read_at uint after_xid ≡ Ok (kind, after_kind)
+    → read_at reply_body after_kind ≡ Ok (body, rest) → reply ≡ xid → kind ≡ 1 → read_at reply_message bytes ≡ Ok ((xid, (1, body)), rest)
+put_together xid bytes after_xid after_kind rest reply kind body first second third same is =
+    pair_read uint (pair uint reply_body) bytes after_xid rest reply (kind, body) first (pair_read uint reply_body after_xid after_kind rest kind body second third)
+    ∙ ap (λ (p : ℕ × ℕ). Ok ((p.0, (p.1, body)), rest)) (both_are reply xid kind 1 same is)
 
 pair_parts : (s t : Xdr) (bytes rest : List ℕ) (v : Value s) (w : Value t) → read_at (pair s t) bytes ≡ Ok ((v, w), rest) → (middle : List ℕ) × (read_at s bytes ≡ Ok (v, middle)) × (read_at t middle ≡ Ok (w, rest))
 pair_parts s t bytes rest v w e =
@@ -57,31 +57,31 @@ whole xid bytes rest body e =
 pub given : (xid : ℕ) (verifier : Value auth) (bytes found : List ℕ) → Begins reply_message (xid, (1, inl (verifier, inl tt))) bytes found → answered xid bytes ≡ Ok found
 given xid verifier bytes found h = whole xid bytes found (inl (verifier, inl tt)) (read_from_begins reply_message (xid, (1, inl (verifier, inl tt))) bytes found h)
 
-says : (xid : ℕ) (reply : Reply) (found : List ℕ) (body : Value reply_body) → view_of_reply xid reply ≡ (xid, (1, body)) → ended body found ≡ read_as reply found → xid < 2 ^ 32
+body_is_read : (xid : ℕ) (reply : Reply) (found : List ℕ) (body : Value reply_body) → view_of_reply xid reply ≡ (xid, (1, body)) → ended body found ≡ read_as reply found → xid < 2 ^ 32
     → answered xid (reply_bytes xid reply ++ found) ≡ read_as reply found
-says xid reply found body e is h =
+body_is_read xid reply found body e is h =
     whole xid (reply_bytes xid reply ++ found) found body (again reply_message (view_of_reply xid reply) (reply_bytes xid reply) found (reply_spelled xid reply h) ∙ ap (λ (v : Value reply_message). Ok (v, found)) e) ∙ is
 
 pub replied : (xid : ℕ) (reply : Reply) (found : List ℕ) → xid < 2 ^ 32 → answered xid (reply_bytes xid reply ++ found) ≡ read_as reply found
-replied xid Success found h = says xid Success found _ refl refl h
-replied xid ProgUnavail found h = says xid ProgUnavail found _ refl refl h
-replied xid ProgMismatch found h = says xid ProgMismatch found _ refl refl h
-replied xid ProcUnavail found h = says xid ProcUnavail found _ refl refl h
-replied xid GarbageArgs found h = says xid GarbageArgs found _ refl refl h
-replied xid RpcMismatch found h = says xid RpcMismatch found _ refl refl h
-replied xid (AuthError why) found h = says xid (AuthError why) found _ refl refl h
+replied xid Success found h = body_is_read xid Success found _ refl refl h
+replied xid ProgUnavail found h = body_is_read xid ProgUnavail found _ refl refl h
+replied xid ProgMismatch found h = body_is_read xid ProgMismatch found _ refl refl h
+replied xid ProcUnavail found h = body_is_read xid ProcUnavail found _ refl refl h
+replied xid GarbageArgs found h = body_is_read xid GarbageArgs found _ refl refl h
+replied xid RpcMismatch found h = body_is_read xid RpcMismatch found _ refl refl h
+replied xid (AuthError why) found h = body_is_read xid (AuthError why) found _ refl refl h
 
--- ---- results stand after a reply that was accepted and ended by SUCCESS
+-- ---- results follow a reply that was accepted and ended by SUCCESS
 
 same_ok : (rest found : List ℕ) → Path ReplyResult (Ok rest) (Ok found) → rest ≡ found
 same_ok rest found e = cc
 
 -- the parts, put together
-joined : (xid told kind : ℕ) (bytes rest found : List ℕ) (body : Value reply_body) → kind ≡ 1 → told ≡ xid → read_at beginning bytes ≡ Ok ((told, kind), rest) → read_at reply_body rest ≡ Ok (body, found)
+joined : (xid reply kind : ℕ) (bytes rest found : List ℕ) (body : Value reply_body) → kind ≡ 1 → reply ≡ xid → read_at beginning bytes ≡ Ok ((reply, kind), rest) → read_at reply_body rest ≡ Ok (body, found)
     → read_at reply_message bytes ≡ Ok ((xid, (1, body)), found)
-joined xid told kind bytes rest found body is same first second =
-    let a = pair_parts uint uint bytes rest told kind first in
-    put_together xid bytes a.0 rest found told kind body a.1 a.2 second same is
+joined xid reply kind bytes rest found body is same first second =
+    let a = pair_parts uint uint bytes rest reply kind first in
+    put_together xid bytes a.0 rest found reply kind body a.1 a.2 second same is
 
 no_results : (fault : ReplyFault) (rest found : List ℕ) → without_results fault rest ≡ Ok found → ⊥
 no_results fault [] found e = absurd cc
@@ -103,24 +103,24 @@ success_of (inr (inl (inr (inl why)))) rest found e = absurd (no_results _ rest 
 success_of (inr (inl (inr (inr v)))) rest found e = absurd v
 success_of (inr (inr v)) rest found e = absurd v
 
-body_of : (bytes found : List ℕ) (r : Read (Value reply_body)) → read_at reply_body bytes ≡ r → body_says r ≡ Ok found → (verifier : Value auth) × (read_at reply_body bytes ≡ Ok (inl (verifier, inl tt), found))
-unfolding body_says
+body_of : (bytes found : List ℕ) (r : Read (Value reply_body)) → read_at reply_body bytes ≡ r → body_result r ≡ Ok found → (verifier : Value auth) × (read_at reply_body bytes ≡ Ok (inl (verifier, inl tt), found))
+unfolding body_result
 body_of bytes found (Ok (body, rest)) is e = let s = success_of body rest found e in (s.0, is ∙ ap (λ (x : Value reply_body × List ℕ). Ok x) s.1)
 body_of bytes found (Err fault) is e = absurd cc
 
-abbrev told_by : ℕ → ℕ → ℕ → Bool → Bool → List ℕ → ReplyResult
-told_by xid told kind is_reply is_same rest = if not is_reply then Err Header else if not is_same then Err (Another told) else body_says (read_at reply_body rest)
+abbrev reply_result : ℕ → ℕ → ℕ → Bool → Bool → List ℕ → ReplyResult
+reply_result xid reply kind is_reply is_same rest = if not is_reply then Err Header else if not is_same then Err (Another reply) else body_result (read_at reply_body rest)
 
-told_of : (xid told kind : ℕ) (a b : Bool) (bytes rest found : List ℕ) → (kind == 1) ≡ a → (told == xid) ≡ b → read_at beginning bytes ≡ Ok ((told, kind), rest) → told_by xid told kind a b rest ≡ Ok found
+result_of_reply : (xid reply kind : ℕ) (a b : Bool) (bytes rest found : List ℕ) → (kind == 1) ≡ a → (reply == xid) ≡ b → read_at beginning bytes ≡ Ok ((reply, kind), rest) → reply_result xid reply kind a b rest ≡ Ok found
     → (verifier : Value auth) × (read_at reply_message bytes ≡ Ok ((xid, (1, inl (verifier, inl tt))), found))
-told_of xid told kind false b bytes rest found is same read e = absurd cc
-told_of xid told kind true false bytes rest found is same read e = absurd cc
-told_of xid told kind true true bytes rest found is same read e =
+result_of_reply xid reply kind false b bytes rest found is same read e = absurd cc
+result_of_reply xid reply kind true false bytes rest found is same read e = absurd cc
+result_of_reply xid reply kind true true bytes rest found is same read e =
     let s = body_of rest found (read_at reply_body rest) refl e in
-    (s.0, joined xid told kind bytes rest found (inl (s.0, inl tt)) (eqb-true kind 1 is) (eqb-true told xid same) read s.1)
+    (s.0, joined xid reply kind bytes rest found (inl (s.0, inl tt)) (eqb-true kind 1 is) (eqb-true reply xid same) read s.1)
 
 begun_of : (xid : ℕ) (bytes found : List ℕ) (r : Read (Value beginning)) → read_at beginning bytes ≡ r → begun xid r ≡ Ok found → (verifier : Value auth) × (read_at reply_message bytes ≡ Ok ((xid, (1, inl (verifier, inl tt))), found))
-begun_of xid bytes found (Ok ((told, kind), rest)) is e = told_of xid told kind (kind == 1) (told == xid) bytes rest found refl refl is e
+begun_of xid bytes found (Ok ((reply, kind), rest)) is e = result_of_reply xid reply kind (kind == 1) (reply == xid) bytes rest found refl refl is e
 begun_of xid bytes found (Err fault) is e = absurd cc
 
 pub gives : (xid : ℕ) (bytes found : List ℕ) → answered xid bytes ≡ Ok found → (verifier : Value auth) × Begins reply_message (xid, (1, inl (verifier, inl tt))) bytes found

@@ -17,7 +17,7 @@ use Rattle.rpc_record.specs.Call.{opening, target, auth, authsys, asked, targete
 use Rattle.rpc_record.specs.Calling.{call_message, further_groups, parms_of, auth_of, call_of, call_bytes, call_len}
 use Rattle.rpc_record.proofs.GroupSets.{the_set}
 
--- ---- the groups besides the gid
+-- ---- the groups without the gid
 
 abbrev pub besides : ℕ → ℕ → Bool
 besides gid group = not (group == gid)
@@ -39,7 +39,7 @@ pub fewer : (gid : ℕ) (groups : List ℕ) → IsTrue (has_group groups gid) �
 fewer gid [] h = absurd cc
 fewer gid (g ∷ groups) h = fewer_by (g == gid) (has_group groups gid) g (filter (besides gid) groups) groups (at_most gid groups) (fewer gid groups) h
 
--- of the first groups, with one more that isn't the gid
+-- among the first groups, with one more that isn't the gid
 pub room_for : (gid : ℕ) (groups : List ℕ) (i : ℕ) → i < length groups → length groups ≤ 17 → IsTrue (has_group groups gid) → eqb (get_or groups i 0) gid ≡ false
     → length (filter (besides gid) (take i groups)) < 16
 room_for gid groups i at few member other =
@@ -73,7 +73,7 @@ held_by : (b : Bool) (gid q : ℕ) (groups : List ℕ) → (gid == q) ≡ b → 
 held_by true gid q groups e h = subst (λ (k : ℕ). has_group groups k ≡ true) (eqb-true gid q e) h
 held_by false gid q groups e h = refl
 
--- a caller that holds its gid is the caller of the credential that is written for it
+-- a caller whose groups include its gid is the caller of the credential that is written for it
 pub same_groups : (caller : Identity) → IsStrictlyIncreasing caller.groups → IsTrue (is_member caller caller.gid) → identity caller.uid caller.gid (further_groups caller) ≡ caller
 same_groups caller rising member =
     let set : IsSetOf caller.groups (caller.gid ∷ further_groups caller) =
@@ -115,7 +115,7 @@ pub call_len_is : (xid : ℕ) (caller : Option Identity) → length (call_bytes 
 call_len_is xid None = ap length (null_words xid)
 call_len_is xid (Some caller) = ap length (compound_words xid caller (20 + 4 * length (further_groups caller)) refl) ∙ omega (arith, length_words (further_groups caller), length-append (flat_map (to_be_bytes w32) (further_groups caller)) (flat_map (to_be_bytes w32) (0 ∷ 0 ∷ [])))
 
--- ---- parts that are written one after the other, where there is room for all
+-- ---- parts that are written one after the other, if there is room for all
 
 pub appended : {E : Type 0} (old new : Buffer) (item : List ℕ) (r : Result (Unit {0}) E) → Puts old new item r → length item ≤ old.room → Appends old new item
 appended old new item (Ok done) h fits = h
@@ -125,12 +125,12 @@ pub is_put : {E : Type 0} (old new : Buffer) (item : List ℕ) (r : Result (Unit
 is_put old new item (Ok done) h fits = refl
 is_put old new item (Err full) h fits = absurd (omega (arith, h.0, fits))
 
-pub behind : {E : Type 0} (a b c : Buffer) (front back : List ℕ) (r : Result (Unit {0}) E) → Appends a b front → Puts b c back r → length (front ++ back) ≤ a.room → Puts a c (front ++ back) r
-behind a b c front back (Ok done) h k fits = record {
-  behind = k.behind ∙ ap (λ (t : List ℕ). t ++ back) h.behind ∙ append_assoc a.bytes front back;
-  less_room = omega (arith, h.less_room, k.less_room, length-append front back);
+pub appends_rest : {E : Type 0} (a b c : Buffer) (prefix back : List ℕ) (r : Result (Unit {0}) E) → Appends a b prefix → Puts b c back r → length (prefix ++ back) ≤ a.room → Puts a c (prefix ++ back) r
+appends_rest a b c prefix back (Ok done) h k fits = record {
+  appended = k.appended ∙ ap (λ (t : List ℕ). t ++ back) h.appended ∙ append_assoc a.bytes prefix back;
+  less_room = omega (arith, h.less_room, k.less_room, length-append prefix back);
 }
-behind a b c front back (Err full) h k fits = absurd (omega (arith, h.less_room, k.0, length-append front back, fits))
+appends_rest a b c prefix back (Err full) h k fits = absurd (omega (arith, h.less_room, k.0, length-append prefix back, fits))
 
 pub four : {E : Type 0} (a b c d e : Buffer) (w1 w2 w3 w4 : List ℕ) (r1 r2 r3 r4 : Result (Unit {0}) E) → Puts a b w1 r1 → Puts b c w2 r2 → Puts c d w3 r3 → Puts d e w4 r4
     → length w1 + (length w2 + (length w3 + length w4)) ≤ a.room → Puts a e (w1 ++ (w2 ++ (w3 ++ w4))) r4
@@ -141,7 +141,7 @@ four a b c d e w1 w2 w3 w4 r1 r2 r3 r4 h1 h2 h3 h4 fits =
     let p1 = appended a b w1 r1 h1 (omega (arith, fits)) in
     let p2 = appended b c w2 r2 h2 (omega (arith, fits, p1.less_room)) in
     let p3 = appended c d w3 r3 h3 (omega (arith, fits, p1.less_room, p2.less_room)) in
-    behind a b e w1 (w2 ++ (w3 ++ w4)) r4 p1 (behind b c e w2 (w3 ++ w4) r4 p2 (behind c d e w3 w4 r4 p3 h4 (omega (arith, fits, l3, p1.less_room, p2.less_room))) (omega (arith, fits, l3, l2, p1.less_room))) (omega (arith, fits, l3, l2, l1))
+    appends_rest a b e w1 (w2 ++ (w3 ++ w4)) r4 p1 (appends_rest b c e w2 (w3 ++ w4) r4 p2 (appends_rest c d e w3 w4 r4 p3 h4 (omega (arith, fits, l3, p1.less_room, p2.less_room))) (omega (arith, fits, l3, l2, p1.less_room))) (omega (arith, fits, l3, l2, l1))
 
 pub words_of : (xid : ℕ) (caller : Identity) (parms uid gid count : ℕ) (fs : List ℕ) → fs ≡ further_groups caller → parms ≡ 20 + 4 * length fs → uid ≡ caller.uid → gid ≡ caller.gid → count ≡ length fs
     → call_bytes xid (Some caller) ≡ flat_map (to_be_bytes w32) (xid ∷ 0 ∷ 2 ∷ 100003 ∷ 4 ∷ 1 ∷ []) ++ (flat_map (to_be_bytes w32) (1 ∷ parms ∷ 0 ∷ 0 ∷ uid ∷ gid ∷ count ∷ [])
@@ -153,7 +153,7 @@ words_of xid caller parms uid gid count fs groups is same_uid same_gid counted =
     ∙ ap (λ (u : ℕ). flat_map (to_be_bytes w32) (xid ∷ 0 ∷ 2 ∷ 100003 ∷ 4 ∷ 1 ∷ []) ++ (flat_map (to_be_bytes w32) (1 ∷ parms ∷ 0 ∷ 0 ∷ uid ∷ u ∷ length fs ∷ []) ++ (flat_map (to_be_bytes w32) fs ++ flat_map (to_be_bytes w32) (0 ∷ 0 ∷ [])))) (sym same_gid)
     ∙ ap (λ (u : ℕ). flat_map (to_be_bytes w32) (xid ∷ 0 ∷ 2 ∷ 100003 ∷ 4 ∷ 1 ∷ []) ++ (flat_map (to_be_bytes w32) (1 ∷ parms ∷ 0 ∷ 0 ∷ uid ∷ gid ∷ u ∷ []) ++ (flat_map (to_be_bytes w32) fs ++ flat_map (to_be_bytes w32) (0 ∷ 0 ∷ [])))) (sym counted)
 
--- ---- a call that is written is read again
+-- ---- a call that is written is read back
 
 pub all_fit : (ns : List ℕ) → ((i : ℕ) → Fits w32 (get_or ns i 0)) → AllByRecursion (λ n. n < 2 ^ 32) ns
 all_fit [] h = tt

@@ -10,7 +10,7 @@ use Rattle.std.proofs.lemmas.Slice.{take-put_mid, drop-put_mid}
 use borrow.Rule.Slice.PartMut.{put_mid, mid_of}
 use Rattle.rpc_record.specs.Identity.{has_group, with_group, group_set, IsSetOf, identity}
 
--- ---- a value goes to its place among the first ones
+-- ---- a value moves to its place among the first ones
 
 mid_is : (places : List ℕ) (len at value : ℕ) → at ≤ len → len < length places
     → mid_of at (len + 1 - at) (set places len value) ≡ drop at (take len places) ++ value ∷ []
@@ -23,14 +23,14 @@ mid_is places len at value among room =
     ∙ take_more_set (drop at places) (len - at) value (omega (arith, length-drop at places))
     ∙ ap (λ (t : List ℕ). t ++ value ∷ []) (sym (drop-take at (len - at) places) ∙ ap (λ (n : ℕ). drop at (take n places)) i)
 
-rotated : (front : List ℕ) (value : ℕ) (part ys : List ℕ) → part ≡ front ++ value ∷ []
-    → ys ≡ drop (length part - 1) part ++ take (length part - 1) part → ys ≡ value ∷ front
-rotated front value part ys e h =
-    let n : length part - 1 ≡ length front = omega (arith, ap length e, length-append front (value ∷ [])) in
+rotated : (prefix : List ℕ) (value : ℕ) (part ys : List ℕ) → part ≡ prefix ++ value ∷ []
+    → ys ≡ drop (length part - 1) part ++ take (length part - 1) part → ys ≡ value ∷ prefix
+rotated prefix value part ys e h =
+    let n : length part - 1 ≡ length prefix = omega (arith, ap length e, length-append prefix (value ∷ [])) in
     h ∙ ap (λ (k : ℕ). drop k part ++ take k part) n
-    ∙ ap (λ (t : List ℕ). drop (length front) t ++ take (length front) t) e
-    ∙ ap (λ (t : List ℕ). t ++ take (length front) (front ++ value ∷ [])) (drop_at front (value ∷ []) (length front) refl)
-    ∙ ap (λ (t : List ℕ). value ∷ t) (take_at front (value ∷ []) (length front) refl)
+    ∙ ap (λ (t : List ℕ). drop (length prefix) t ++ take (length prefix) t) e
+    ∙ ap (λ (t : List ℕ). t ++ take (length prefix) (prefix ++ value ∷ [])) (drop_at prefix (value ∷ []) (length prefix) refl)
+    ∙ ap (λ (t : List ℕ). value ∷ t) (take_at prefix (value ∷ []) (length prefix) refl)
 
 module _ (places : List ℕ) (len at value : ℕ) (among : at ≤ len) (room : len < length places) (ys : List ℕ)
     (turned : ys ≡ drop (length (mid_of at (len + 1 - at) (set places len value)) - 1) (mid_of at (len + 1 - at) (set places len value))
@@ -47,8 +47,8 @@ module _ (places : List ℕ) (len at value : ℕ) (among : at ≤ len) (room : l
       ∙ ap (λ (t : List ℕ). t ++ ys) (take-set-le at places len value among ∙ sym (take-take at len places among))
       ∙ ap (λ (t : List ℕ). take at (take len places) ++ t) ys_are
 
-  pub behind : drop (len + 1) (put_mid at (len + 1 - at) (set places len value) ys) ≡ drop (len + 1) places
-  behind =
+  pub rest : drop (len + 1) (put_mid at (len + 1 - at) (set places len value) ys) ≡ drop (len + 1) places
+  rest =
       drop-put_mid at (len + 1 - at) (set places len value) ys (len + 1) (omega arith) (omega (arith, length-set places len value)) count
       ∙ drop-set-lt (len + 1) places len value (omega arith)
 
@@ -240,11 +240,11 @@ set_more groups sent g s = record {
 -- ---- the steps of the code
 
 -- after one more group there is one zero less
-pub zeros_behind : (old new : List ℕ) (len : ℕ) → drop len old ≡ replicate (17 - len) 0 → drop (len + 1) new ≡ drop (len + 1) old → drop (len + 1) new ≡ replicate (17 - (len + 1)) 0
-zeros_behind old new len zeros behind =
-    behind ∙ sym (drop-drop 1 len old) ∙ ap (drop 1) zeros ∙ drop-replicate 1 (17 - len) 0 ∙ ap (λ (n : ℕ). replicate n 0) (let e : 17 - len - 1 ≡ 17 - (len + 1) = omega arith in e)
+pub zeros_after : (old new : List ℕ) (len : ℕ) → drop len old ≡ replicate (17 - len) 0 → drop (len + 1) new ≡ drop (len + 1) old → drop (len + 1) new ≡ replicate (17 - (len + 1)) 0
+zeros_after old new len zeros rest =
+    rest ∙ sym (drop-drop 1 len old) ∙ ap (drop 1) zeros ∙ drop-replicate 1 (17 - len) 0 ∙ ap (λ (n : ℕ). replicate n 0) (let e : 17 - len - 1 ≡ 17 - (len + 1) = omega arith in e)
 
--- the search found no such group, which then went to its place
+-- the search didn't find the group, which then went to its place
 pub placed : (g : ℕ) (groups new : List ℕ) (r : Result ℕ ℕ) (at : ℕ) → IsBinarySearchResult (λ y. nat_cmp y g) groups r → IsStrictlyIncreasing groups
     → r ≡ Err at → new ≡ insert groups at g → new ≡ with_group g groups
 placed g groups new r at found up e is =
@@ -270,5 +270,5 @@ count_more g groups n h = omega (arith, length_with g groups, h)
 
 -- the row keeps its length
 pub whole_row : (old new first : List ℕ) (len : ℕ) → length old ≡ 17 → len < 17 → take (len + 1) new ≡ first → length first ≡ len + 1 → drop (len + 1) new ≡ drop (len + 1) old → length new ≡ 17
-whole_row old new first len whole few held count behind =
-    omega (arith, ap length held, count, length-take (len + 1) new, ap length behind, length-drop (len + 1) new, length-drop (len + 1) old)
+whole_row old new first len whole few held count rest =
+    omega (arith, ap length held, count, length-take (len + 1) new, ap length rest, length-drop (len + 1) new, length-drop (len + 1) old)

@@ -11,7 +11,7 @@ use Rattle.rpc_record.specs.declared.framer.Step.{Step}
 use Rattle.rpc_record.specs.declared.framer.Step.TheVariants.{Part, Record, NeedMore, Broken}
 use Rattle.rpc_record.specs.Records.{limit, mark, AreOpen, IsFragment, joined, IsRecord, Breaks, IsUnfinished, Cuts}
 use Rattle.rpc_record.specs.Frame.{Frame}
-use Rattle.rpc_record.specs.Framer.{Stands, StepGives}
+use Rattle.rpc_record.specs.Framer.{HasRead, StepGives}
 use Rattle.rpc_record.specs.FramerParts.{HeaderGives, BodyGives}
 
 -- ---- parts of a piece
@@ -29,11 +29,11 @@ slice_len xs at to p = omega (arith, length-take (to - at) (drop at xs), length-
 -- ---- one more item
 
 pub items_push : {V : Type 0} (spells : V → List ℕ → Type 0) (vs : List V) (v : V) (bytes item : List ℕ) → AreItems spells vs bytes → spells v item → AreItems spells (vs ++ v ∷ []) (bytes ++ item)
-items_push spells [] v bytes item h i = record { front = item; back = []; joined = ap (λ (t : List ℕ). t ++ item) h ∙ sym (append-nil item); first = i; second = refl }
+items_push spells [] v bytes item h i = record { prefix = item; back = []; joined = ap (λ (t : List ℕ). t ++ item) h ∙ sym (append-nil item); first = i; second = refl }
 items_push spells (u ∷ vs) v bytes item h i = record {
-  front = h.front;
+  prefix = h.prefix;
   back = h.back ++ item;
-  joined = ap (λ (t : List ℕ). t ++ item) h.joined ∙ append_assoc h.front h.back item;
+  joined = ap (λ (t : List ℕ). t ++ item) h.joined ∙ append_assoc h.prefix h.back item;
   first = h.first;
   second = items_push spells vs v h.back item h.second i;
 }
@@ -46,11 +46,11 @@ joined_push bodies body = sym (flat_map_more (λ (b : List ℕ). b) [] bodies bo
 -- The framer has read a header, and the first bytes of its fragment.
 pub record Opened (f : Frame) (content bytes : List ℕ) : Type 0 where
   pub bodies : List (List ℕ)
-  pub front : List ℕ
+  pub prefix : List ℕ
   pub head : List ℕ
   pub part : List ℕ
-  pub whole : bytes ≡ front ++ (head ++ part)
-  pub fragments : AreOpen bodies front
+  pub whole : bytes ≡ prefix ++ (head ++ part)
+  pub fragments : AreOpen bodies prefix
   pub marked : IsNumber w32 (mark f.last (length part + f.left)) head
   pub content-is : content ≡ joined bodies ++ part
   pub count : length content ≡ f.joined
@@ -63,10 +63,10 @@ moved : (f : Frame) (content bytes more : List ℕ) → Opened f content bytes �
     → Opened (record f { joined = f.joined + length more; left = f.left - length more }) (content ++ more) (bytes ++ more)
 moved f content bytes more o le = record {
   bodies = o.bodies;
-  front = o.front;
+  prefix = o.prefix;
   head = o.head;
   part = o.part ++ more;
-  whole = ap (λ (t : List ℕ). t ++ more) o.whole ∙ append_assoc o.front (o.head ++ o.part) more ∙ ap (λ (t : List ℕ). o.front ++ t) (append_assoc o.head o.part more);
+  whole = ap (λ (t : List ℕ). t ++ more) o.whole ∙ append_assoc o.prefix (o.head ++ o.part) more ∙ ap (λ (t : List ℕ). o.prefix ++ t) (append_assoc o.head o.part more);
   fragments = o.fragments;
   marked = let n : length o.part + f.left ≡ length (o.part ++ more) + (f.left - length more) = omega (arith, length-append o.part more) in subst (λ (k : ℕ). IsNumber w32 (mark f.last k) o.head) n o.marked;
   content-is = ap (λ (t : List ℕ). t ++ more) o.content-is ∙ append_assoc (joined o.bodies) o.part more;
@@ -78,7 +78,7 @@ moved f content bytes more o le = record {
 }
 
 begun_iff : (f : Frame) (content bytes : List ℕ) → Opened f content bytes → IsTrue f.begun ↔ (4 ≤ length bytes)
-begun_iff f content bytes o = (λ b. omega (arith, ap length o.whole, length-append o.front (o.head ++ o.part), length-append o.head o.part, o.marked.len), λ l. o.begun)
+begun_iff f content bytes o = (λ b. omega (arith, ap length o.whole, length-append o.prefix (o.head ++ o.part), length-append o.head o.part, o.marked.len), λ l. o.begun)
 
 -- the fragment is whole, with this body
 is_fragment : (f : Frame) (content bytes : List ℕ) (o : Opened f content bytes) → f.left ≡ 0 → IsFragment f.last o.part (o.head ++ o.part)
@@ -89,12 +89,12 @@ is_fragment f content bytes o e = record {
   short = omega (arith, o.within, o.count, ap length o.content-is, length-append (joined o.bodies) o.part);
 }
 
-settled : (f : Frame) (content bytes : List ℕ) → Opened f content bytes → (f.left ≡ 0 → f.last ≡ false) → Stands f content bytes
+settled : (f : Frame) (content bytes : List ℕ) → Opened f content bytes → (f.left ≡ 0 → f.last ≡ false) → HasRead f content bytes
 settled f content bytes o not_last =
     elim (cases_lt 0 f.left) [
       | inl inside ↦ record {
         bodies = o.bodies;
-        front = o.front;
+        prefix = o.prefix;
         tail = o.head ++ o.part;
         whole = o.whole;
         fragments = o.fragments;
@@ -109,10 +109,10 @@ settled f content bytes o not_last =
           let e : f.left ≡ 0 = omega arith in
           record {
             bodies = o.bodies ++ o.part ∷ [];
-            front = bytes;
+            prefix = bytes;
             tail = [];
             whole = sym (append-nil bytes);
-            fragments = subst (AreOpen (o.bodies ++ o.part ∷ [])) (sym o.whole) (items_push (IsFragment false) o.bodies o.part o.front (o.head ++ o.part) o.fragments (subst (λ (b : Bool). IsFragment b o.part (o.head ++ o.part)) (not_last e) (is_fragment f content bytes o e)));
+            fragments = subst (AreOpen (o.bodies ++ o.part ∷ [])) (sym o.whole) (items_push (IsFragment false) o.bodies o.part o.prefix (o.head ++ o.part) o.fragments (subst (λ (b : Bool). IsFragment b o.part (o.head ++ o.part)) (not_last e) (is_fragment f content bytes o e)));
             count = o.count;
             in_body = λ inside. absurd (omega arith);
             in_header = λ _. record { tail-is = sym o.no_header; few = omega (arith, ap length o.no_header); content-is = o.content-is ∙ sym (joined_push o.bodies o.part) };
@@ -126,15 +126,15 @@ finished : (f : Frame) (content bytes : List ℕ) → Opened f content bytes →
 finished f content bytes o e last = record {
   bodies = o.bodies;
   body = o.part;
-  fragments = record { front = o.front; back = o.head ++ o.part; joined = o.whole; first = o.fragments; second = subst (λ (b : Bool). IsFragment b o.part (o.head ++ o.part)) last (is_fragment f content bytes o e) };
+  fragments = record { prefix = o.prefix; back = o.head ++ o.part; joined = o.whole; first = o.fragments; second = subst (λ (b : Bool). IsFragment b o.part (o.head ++ o.part)) last (is_fragment f content bytes o e) };
   content-is = o.content-is;
   small = omega (arith, o.within, o.count);
 }
 
-pub fresh : (f : Frame) → f.left ≡ 0 → f.header ≡ [] → f.joined ≡ 0 → f.begun ≡ false → f.broken ≡ false → Stands f [] []
+pub fresh : (f : Frame) → f.left ≡ 0 → f.header ≡ [] → f.joined ≡ 0 → f.begun ≡ false → f.broken ≡ false → HasRead f [] []
 fresh f left header count begun broken = record {
   bodies = [];
-  front = [];
+  prefix = [];
   tail = [];
   whole = refl;
   fragments = refl;
@@ -146,7 +146,7 @@ fresh f left header count begun broken = record {
   begun = (λ h. absurd (both_ways f.begun begun h), λ h. absurd (omega arith));
 }
 
--- ---- going on in a fragment
+-- ---- continuing in a fragment
 
 pub body_gives : (s : Step) (f g : Frame) (content bytes piece : List ℕ) (from : ℕ) → Opened f content bytes → BodyGives s f g piece from → StepGives s g content bytes piece from
 body_gives (Part from' to) f g content bytes piece from o b =
@@ -154,32 +154,32 @@ body_gives (Part from' to) f g content bytes piece from o b =
     let len : length more ≡ to - from = slice_len piece from to b.2 in
     let m = moved f content bytes more o (omega (arith, len, b.4)) in
     let is : g ≡ record f { joined = f.joined + length more; left = f.left - length more } = b.3 ∙ ap (λ (k : ℕ). record f { joined = f.joined + k; left = f.left - k }) (sym len) in
-    let stands = settled (record f { joined = f.joined + length more; left = f.left - length more }) (content ++ more) (bytes ++ more) m (λ e. b.6 (ap (λ (h : Frame). h.left) is ∙ e)) in
-    subst (λ (k : ℕ). Stands g (content ++ slice_range piece k to) (bytes ++ more)) (sym b.0) (subst (λ (h : Frame). Stands h (content ++ more) (bytes ++ more)) (sym is) stands)
+    let has_read = settled (record f { joined = f.joined + length more; left = f.left - length more }) (content ++ more) (bytes ++ more) m (λ e. b.6 (ap (λ (h : Frame). h.left) is ∙ e)) in
+    subst (λ (k : ℕ). HasRead g (content ++ slice_range piece k to) (bytes ++ more)) (sym b.0) (subst (λ (h : Frame). HasRead h (content ++ more) (bytes ++ more)) (sym is) has_read)
 body_gives (Record from' to) f g content bytes piece from o b =
     let more = slice_range piece from to in
     let len : length more ≡ f.left = omega (arith, slice_len piece from to b.2, b.1) in
     let m = moved f content bytes more o (omega (arith, len)) in
     let whole = finished (record f { joined = f.joined + length more; left = f.left - length more }) (content ++ more) (bytes ++ more) m (omega (arith, len)) b.4 in
-    let again : Stands g [] [] = subst (λ (h : Frame). Stands h [] []) (sym b.3) (fresh (record f { joined = 0; left = 0; begun = false }) refl o.no_header refl refl o.unbroken) in
+    let again : HasRead g [] [] = subst (λ (h : Frame). HasRead h [] []) (sym b.3) (fresh (record f { joined = 0; left = 0; begun = false }) refl o.no_header refl refl o.unbroken) in
     (subst (λ (k : ℕ). IsRecord (content ++ slice_range piece k to) (bytes ++ more)) (sym b.0) whole, again)
 body_gives NeedMore f g content bytes piece from o b =
     let nothing : drop from piece ≡ [] = drop_all from piece (omega (arith, b.0)) in
-    subst (λ (h : Frame). Stands h content (bytes ++ drop from piece)) (sym b.2)
-    (subst (Stands f content) (sym (ap (λ (t : List ℕ). bytes ++ t) nothing ∙ append-nil bytes)) (settled f content bytes o (λ e. absurd (omega (arith, b.1)))))
+    subst (λ (h : Frame). HasRead h content (bytes ++ drop from piece)) (sym b.2)
+    (subst (HasRead f content) (sym (ap (λ (t : List ℕ). bytes ++ t) nothing ∙ append-nil bytes)) (settled f content bytes o (λ e. absurd (omega (arith, b.1)))))
 body_gives Broken f g content bytes piece from o b = absurd b
 
 -- ---- from inside a fragment, and from a header
 
-pub opened_inside : (f : Frame) (content bytes : List ℕ) → Stands f content bytes → 0 < f.left → Opened f content bytes
+pub opened_inside : (f : Frame) (content bytes : List ℕ) → HasRead f content bytes → 0 < f.left → Opened f content bytes
 opened_inside f content bytes s inside =
     let b = s.in_body inside in
     record {
       bodies = s.bodies;
-      front = s.front;
+      prefix = s.prefix;
       head = b.head;
       part = b.part;
-      whole = s.whole ∙ ap (λ (t : List ℕ). s.front ++ t) b.parts;
+      whole = s.whole ∙ ap (λ (t : List ℕ). s.prefix ++ t) b.parts;
       fragments = s.fragments;
       marked = b.marked;
       content-is = b.content-is;
@@ -187,7 +187,7 @@ opened_inside f content bytes s inside =
       within = s.within;
       no_header = b.no_header;
       unbroken = s.unbroken;
-      begun = s.begun.1 (omega (arith, ap length s.whole, length-append s.front s.tail, ap length b.parts, length-append b.head b.part, b.marked.len));
+      begun = s.begun.1 (omega (arith, ap length s.whole, length-append s.prefix s.tail, ap length b.parts, length-append b.head b.part, b.marked.len));
     }
 
 pub mark_of : (n : ℕ) → n < 2 ^ 32 → mark (leb 2147483648 n) (n % 2147483648) ≡ n
@@ -197,16 +197,16 @@ mark_of n h = elim (cases_lt n 2147483648) [
 ]
 
 -- the bytes of a header are read after the fragments so far
-pub opened_header : (f : Frame) (content bytes more : List ℕ) (n : ℕ) → Stands f content bytes → f.left ≡ 0 → IsNumber w32 n (f.header ++ more) → n < 2 ^ 32 → f.joined + n % 2147483648 ≤ limit
+pub opened_header : (f : Frame) (content bytes more : List ℕ) (n : ℕ) → HasRead f content bytes → f.left ≡ 0 → IsNumber w32 n (f.header ++ more) → n < 2 ^ 32 → f.joined + n % 2147483648 ≤ limit
     → Opened (record f { header = []; last = leb 2147483648 n; left = n % 2147483648; begun = true }) content (bytes ++ more)
 opened_header f content bytes more n s e h fits within =
     let i = s.in_header e in
     record {
       bodies = s.bodies;
-      front = s.front;
+      prefix = s.prefix;
       head = f.header ++ more;
       part = [];
-      whole = ap (λ (t : List ℕ). t ++ more) (s.whole ∙ ap (λ (t : List ℕ). s.front ++ t) i.tail-is) ∙ append_assoc s.front f.header more ∙ ap (λ (t : List ℕ). s.front ++ t) (sym (append-nil (f.header ++ more)));
+      whole = ap (λ (t : List ℕ). t ++ more) (s.whole ∙ ap (λ (t : List ℕ). s.prefix ++ t) i.tail-is) ∙ append_assoc s.prefix f.header more ∙ ap (λ (t : List ℕ). s.prefix ++ t) (sym (append-nil (f.header ++ more)));
       fragments = s.fragments;
       marked = subst (λ (k : ℕ). IsNumber w32 k (f.header ++ more)) (sym (ap (mark (leb 2147483648 n)) (zero-add (n % 2147483648)) ∙ mark_of n fits)) h;
       content-is = i.content-is ∙ sym (append-nil (joined s.bodies));
@@ -217,18 +217,18 @@ opened_header f content bytes more n s e h fits within =
       begun = refl;
     }
 
-pub breaks_at_header : (f : Frame) (content bytes more behind : List ℕ) (n : ℕ) → Stands f content bytes → f.left ≡ 0 → IsNumber w32 n (f.header ++ more) → n < 2 ^ 32 → limit < f.joined + n % 2147483648
-    → Breaks (bytes ++ (more ++ behind))
-breaks_at_header f content bytes more behind n s e h fits above =
+pub breaks_at_header : (f : Frame) (content bytes more rest : List ℕ) (n : ℕ) → HasRead f content bytes → f.left ≡ 0 → IsNumber w32 n (f.header ++ more) → n < 2 ^ 32 → limit < f.joined + n % 2147483648
+    → Breaks (bytes ++ (more ++ rest))
+breaks_at_header f content bytes more rest n s e h fits above =
     let i = s.in_header e in
-    let whole : bytes ++ (more ++ behind) ≡ s.front ++ ((f.header ++ more) ++ behind) =
-    ap (λ (t : List ℕ). t ++ (more ++ behind)) (s.whole ∙ ap (λ (t : List ℕ). s.front ++ t) i.tail-is) ∙ append_assoc s.front f.header (more ++ behind) ∙ ap (λ (t : List ℕ). s.front ++ t) (sym (append_assoc f.header more behind)) in
+    let whole : bytes ++ (more ++ rest) ≡ s.prefix ++ ((f.header ++ more) ++ rest) =
+    ap (λ (t : List ℕ). t ++ (more ++ rest)) (s.whole ∙ ap (λ (t : List ℕ). s.prefix ++ t) i.tail-is) ∙ append_assoc s.prefix f.header (more ++ rest) ∙ ap (λ (t : List ℕ). s.prefix ++ t) (sym (append_assoc f.header more rest)) in
     record {
       bodies = s.bodies;
       last = leb 2147483648 n;
       len = n % 2147483648;
-      more = behind;
-      fragments = record { front = s.front; back = (f.header ++ more) ++ behind; joined = whole; first = s.fragments; second = record { front = f.header ++ more; back = behind; joined = refl; first = subst (λ (k : ℕ). IsNumber w32 k (f.header ++ more)) (sym (mark_of n fits)) h; second = refl } };
+      more = rest;
+      fragments = record { prefix = s.prefix; back = (f.header ++ more) ++ rest; joined = whole; first = s.fragments; second = record { prefix = f.header ++ more; back = rest; joined = refl; first = subst (λ (k : ℕ). IsNumber w32 k (f.header ++ more)) (sym (mark_of n fits)) h; second = refl } };
       short = omega arith;
       small = omega (arith, s.within, s.count, ap length i.content-is);
       above = omega (arith, above, s.count, ap length i.content-is);
@@ -237,64 +237,64 @@ breaks_at_header f content bytes more behind n s e h fits above =
 -- a step from `from` on, after the bytes of a header that were read from `at` on
 pub step_from : (s : Step) (f g : Frame) (content bytes piece : List ℕ) (at from : ℕ) → at ≤ from → BodyGives s f g piece from → StepGives s g content (bytes ++ slice_range piece at from) piece from → StepGives s g content bytes piece at
 step_from (Part from' to) f g content bytes piece at from le w h =
-    subst (λ (t : List ℕ). Stands g (content ++ slice_range piece from' to) t) (append_assoc bytes (slice_range piece at from) (slice_range piece from to) ∙ ap (λ (t : List ℕ). bytes ++ t) (slice_parts piece at from to le (omega (arith, w.1)))) h
+    subst (λ (t : List ℕ). HasRead g (content ++ slice_range piece from' to) t) (append_assoc bytes (slice_range piece at from) (slice_range piece from to) ∙ ap (λ (t : List ℕ). bytes ++ t) (slice_parts piece at from to le (omega (arith, w.1)))) h
 step_from (Record from' to) f g content bytes piece at from le w h =
     (subst (λ (t : List ℕ). IsRecord (content ++ slice_range piece from' to) t) (append_assoc bytes (slice_range piece at from) (slice_range piece from to) ∙ ap (λ (t : List ℕ). bytes ++ t) (slice_parts piece at from to le (omega (arith, w.1)))) h.0, h.1)
 step_from NeedMore f g content bytes piece at from le w h =
-    subst (Stands g content) (append_assoc bytes (slice_range piece at from) (drop from piece) ∙ ap (λ (t : List ℕ). bytes ++ t) (sym (drop_split piece at from le))) h
+    subst (HasRead g content) (append_assoc bytes (slice_range piece at from) (drop from piece) ∙ ap (λ (t : List ℕ). bytes ++ t) (sym (drop_split piece at from le))) h
 step_from Broken f g content bytes piece at from le w h =
     subst Breaks (append_assoc bytes (slice_range piece at from) (drop from piece) ∙ ap (λ (t : List ℕ). bytes ++ t) (sym (drop_split piece at from le))) h
 
 -- ---- the two ways of `feed`
 
-pub from_inside : (s : Step) (f v g : Frame) (content bytes piece : List ℕ) (at : ℕ) → v ≡ f → 0 < f.left → BodyGives s v g piece at → Stands f content bytes → StepGives s g content bytes piece at
-from_inside s f v g content bytes piece at is inside b stands =
-    body_gives s f g content bytes piece at (opened_inside f content bytes stands inside) (subst (λ (h : Frame). BodyGives s h g piece at) is b)
+pub from_inside : (s : Step) (f v g : Frame) (content bytes piece : List ℕ) (at : ℕ) → v ≡ f → 0 < f.left → BodyGives s v g piece at → HasRead f content bytes → StepGives s g content bytes piece at
+from_inside s f v g content bytes piece at is inside b has_read =
+    body_gives s f g content bytes piece at (opened_inside f content bytes has_read inside) (subst (λ (h : Frame). BodyGives s h g piece at) is b)
 
 pub from_header : (s : Step) (f h v g : Frame) (content bytes piece : List ℕ) (at from n : ℕ) → f.left ≡ 0 → at ≤ from → f.joined + n % 2147483648 ≤ limit
     → HeaderGives (Some n) f h (slice_range piece at from) → v ≡ record h { last = leb 2147483648 n; left = n % 2147483648 }
-    → BodyGives s v g piece from → Stands f content bytes → StepGives s g content bytes piece at
-from_header s f h v g content bytes piece at from n left le within header is b stands =
+    → BodyGives s v g piece from → HasRead f content bytes → StepGives s g content bytes piece at
+from_header s f h v g content bytes piece at from n left le within header is b has_read =
     let more = slice_range piece at from in
     let v-is : v ≡ record f { header = []; last = leb 2147483648 n; left = n % 2147483648; begun = true } = is ∙ ap (λ (k : Frame). record k { last = leb 2147483648 n; left = n % 2147483648 }) header.0 in
-    let o = opened_header f content bytes more n stands left header.1 header.2 within in
+    let o = opened_header f content bytes more n has_read left header.1 header.2 within in
     step_from s v g content bytes piece at from le b
     (body_gives s (record f { header = []; last = leb 2147483648 n; left = n % 2147483648; begun = true }) g content (bytes ++ more) piece from o (subst (λ (k : Frame). BodyGives s k g piece from) v-is b))
 
 pub header_breaks : (f h : Frame) (content bytes piece : List ℕ) (at from n : ℕ) → f.left ≡ 0 → at ≤ from → limit < f.joined + n % 2147483648
-    → HeaderGives (Some n) f h (slice_range piece at from) → Stands f content bytes → Breaks (bytes ++ drop at piece)
-header_breaks f h content bytes piece at from n left le above header stands =
-    subst (λ (t : List ℕ). Breaks (bytes ++ t)) (sym (drop_split piece at from le)) (breaks_at_header f content bytes (slice_range piece at from) (drop from piece) n stands left header.1 header.2 above)
+    → HeaderGives (Some n) f h (slice_range piece at from) → HasRead f content bytes → Breaks (bytes ++ drop at piece)
+header_breaks f h content bytes piece at from n left le above header has_read =
+    subst (λ (t : List ℕ). Breaks (bytes ++ t)) (sym (drop_split piece at from le)) (breaks_at_header f content bytes (slice_range piece at from) (drop from piece) n has_read left header.1 header.2 above)
 
--- fragments are nothing, or a header at least
+-- fragments are nothing, or at least a header
 open_len : (bodies : List (List ℕ)) (bytes : List ℕ) → AreOpen bodies bytes → (length bytes ≡ 0) ⊎ (4 ≤ length bytes)
 open_len [] bytes h = inl (ap length h)
-open_len (b ∷ bodies) bytes h = inr (omega (arith, ap length h.joined, length-append h.front h.back, ap length h.first.parts, length-append h.first.header b, h.first.marked.len))
+open_len (b ∷ bodies) bytes h = inr (omega (arith, ap length h.joined, length-append h.prefix h.back, ap length h.first.parts, length-append h.first.header b, h.first.marked.len))
 
-long_before : (bodies : List (List ℕ)) (front bytes header more tail : List ℕ) → AreOpen bodies front → bytes ≡ front ++ tail → bytes ++ more ≡ front ++ header → length header < 4 → 4 ≤ length (bytes ++ more) → 4 ≤ length bytes
-long_before bodies front bytes header more tail opened whole whole_more short long =
-    elim (open_len bodies front opened) [
-      | inl none ↦ absurd (omega (arith, ap length whole_more, length-append front header))
-      | inr some ↦ omega (arith, ap length whole, length-append front tail)
+long_before : (bodies : List (List ℕ)) (prefix bytes header more tail : List ℕ) → AreOpen bodies prefix → bytes ≡ prefix ++ tail → bytes ++ more ≡ prefix ++ header → length header < 4 → 4 ≤ length (bytes ++ more) → 4 ≤ length bytes
+long_before bodies prefix bytes header more tail opened whole whole_more short long =
+    elim (open_len bodies prefix opened) [
+      | inl none ↦ absurd (omega (arith, ap length whole_more, length-append prefix header))
+      | inr some ↦ omega (arith, ap length whole, length-append prefix tail)
     ]
 
--- a framer that has read no header has read the front of one
-few_bytes : (f : Frame) (content bytes : List ℕ) → Stands f content bytes → (4 ≤ length bytes → ⊥) → length bytes ≡ length f.header
+-- a framer that has read no header has read a prefix of one
+few_bytes : (f : Frame) (content bytes : List ℕ) → HasRead f content bytes → (4 ≤ length bytes → ⊥) → length bytes ≡ length f.header
 few_bytes f content bytes s few =
     elim (cases_lt 0 f.left) [
       | inl inside ↦
           let b = s.in_body inside in
-          absurd (few (omega (arith, ap length s.whole, length-append s.front s.tail, ap length b.parts, length-append b.head b.part, b.marked.len)))
+          absurd (few (omega (arith, ap length s.whole, length-append s.prefix s.tail, ap length b.parts, length-append b.head b.part, b.marked.len)))
       | inr le ↦
           let tail : length s.tail ≡ length f.header = ap length (s.in_header (omega arith)).tail-is in
-          elim (open_len s.bodies s.front s.fragments) [
-            | inl none ↦ omega (arith, ap length s.whole, length-append s.front s.tail, tail)
-            | inr some ↦ absurd (few (omega (arith, ap length s.whole, length-append s.front s.tail)))
+          elim (open_len s.bodies s.prefix s.fragments) [
+            | inl none ↦ omega (arith, ap length s.whole, length-append s.prefix s.tail, tail)
+            | inr some ↦ absurd (few (omega (arith, ap length s.whole, length-append s.prefix s.tail)))
           ]
     ]
 
--- a record has begun where a header was read, or a part of one
-pub inside_iff : (f : Frame) (content bytes : List ℕ) → Stands f content bytes → f.begun ≡ false → IsTrue (ltb 0 (length f.header)) ↔ (bytes ≢ [])
+-- a record has begun if and only if a header was read, or a part of one
+pub inside_iff : (f : Frame) (content bytes : List ℕ) → HasRead f content bytes → f.begun ≡ false → IsTrue (ltb 0 (length f.header)) ↔ (bytes ≢ [])
 inside_iff f content bytes s e =
     let len = few_bytes f content bytes s (λ l. both_ways f.begun e (s.begun.1 l)) in (
       λ h. λ n. absurd (omega (arith, ltb-true 0 (length f.header) h, ap length n)),
@@ -302,31 +302,31 @@ inside_iff f content bytes s e =
     )
 
 pub header_waits : (f h : Frame) (content bytes piece : List ℕ) (at from : ℕ) → f.left ≡ 0 → at ≤ from → from ≤ length piece → (length f.header + (from - at) < 4 → from ≡ length piece)
-    → HeaderGives None f h (slice_range piece at from) → Stands f content bytes → Stands h content (bytes ++ drop at piece)
+    → HeaderGives None f h (slice_range piece at from) → HasRead f content bytes → HasRead h content (bytes ++ drop at piece)
 header_waits f h content bytes piece at from left le in_piece used header s =
     let more = slice_range piece at from in
     let i = s.in_header left in
     let short : length (f.header ++ more) < 4 = subst (λ (k : Frame). length k.header < 4) header.0 header.1 in
     let all : from ≡ length piece = used (omega (arith, length-append f.header more, slice_len piece at from in_piece)) in
     let rest : drop at piece ≡ more = drop_split piece at from le ∙ ap (λ (t : List ℕ). more ++ t) (drop_all from piece (omega arith)) ∙ append-nil more in
-    let whole_bytes : bytes ++ more ≡ s.front ++ (f.header ++ more) = ap (λ (t : List ℕ). t ++ more) (s.whole ∙ ap (λ (t : List ℕ). s.front ++ t) i.tail-is) ∙ append_assoc s.front f.header more in
-    let stands : Stands (record f { header = f.header ++ more }) content (bytes ++ more) = record {
+    let whole_bytes : bytes ++ more ≡ s.prefix ++ (f.header ++ more) = ap (λ (t : List ℕ). t ++ more) (s.whole ∙ ap (λ (t : List ℕ). s.prefix ++ t) i.tail-is) ∙ append_assoc s.prefix f.header more in
+    let has_read : HasRead (record f { header = f.header ++ more }) content (bytes ++ more) = record {
       bodies = s.bodies;
-      front = s.front;
+      prefix = s.prefix;
       tail = f.header ++ more;
-      whole = ap (λ (t : List ℕ). t ++ more) (s.whole ∙ ap (λ (t : List ℕ). s.front ++ t) i.tail-is) ∙ append_assoc s.front f.header more;
+      whole = ap (λ (t : List ℕ). t ++ more) (s.whole ∙ ap (λ (t : List ℕ). s.prefix ++ t) i.tail-is) ∙ append_assoc s.prefix f.header more;
       fragments = s.fragments;
       count = s.count;
       in_body = λ inside. absurd (omega arith);
       in_header = λ _. record { tail-is = refl; few = short; content-is = i.content-is };
       within = s.within;
       unbroken = s.unbroken;
-      begun = (λ b. omega (arith, s.begun.0 b, length-append bytes more), λ l. s.begun.1 (long_before s.bodies s.front bytes (f.header ++ more) more s.tail s.fragments s.whole whole_bytes short l));
+      begun = (λ b. omega (arith, s.begun.0 b, length-append bytes more), λ l. s.begun.1 (long_before s.bodies s.prefix bytes (f.header ++ more) more s.tail s.fragments s.whole whole_bytes short l));
     } in
-    subst (λ (t : List ℕ). Stands h content (bytes ++ t)) (sym rest) (subst (λ (k : Frame). Stands k content (bytes ++ more)) (sym header.0) stands)
+    subst (λ (t : List ℕ). HasRead h content (bytes ++ t)) (sym rest) (subst (λ (k : Frame). HasRead k content (bytes ++ more)) (sym header.0) has_read)
 
--- a framer stands for no whole record
-pub unfinished : (f : Frame) (content bytes : List ℕ) → Stands f content bytes → IsUnfinished bytes
+-- a framer doesn't represent a whole record
+pub unfinished : (f : Frame) (content bytes : List ℕ) → HasRead f content bytes → IsUnfinished bytes
 unfinished f content bytes s =
     elim (cases_lt 0 f.left) [
       | inl inside ↦
@@ -334,7 +334,7 @@ unfinished f content bytes s =
           record {
             bodies = s.bodies;
             fragments = record {
-              front = s.front;
+              prefix = s.prefix;
               back = s.tail;
               joined = s.whole;
               first = s.fragments;
@@ -342,7 +342,7 @@ unfinished f content bytes s =
                 last = f.last;
                 len = length b.part + f.left;
                 body = b.part;
-                header = record { front = b.head; back = b.part; joined = b.parts; first = b.marked; second = refl };
+                header = record { prefix = b.head; back = b.part; joined = b.parts; first = b.marked; second = refl };
                 unfinished = omega arith;
                 within = omega (arith, s.within, s.count, ap length b.content-is, length-append (joined s.bodies) b.part);
               });
@@ -353,7 +353,7 @@ unfinished f content bytes s =
           let i = s.in_header (omega arith) in
           record {
             bodies = s.bodies;
-            fragments = record { front = s.front; back = s.tail; joined = s.whole; first = s.fragments; second = inl (omega (arith, ap length i.tail-is, i.few)) };
+            fragments = record { prefix = s.prefix; back = s.tail; joined = s.whole; first = s.fragments; second = inl (omega (arith, ap length i.tail-is, i.few)) };
             small = omega (arith, s.within, s.count, ap length i.content-is);
           }
     ]
@@ -362,10 +362,10 @@ unfinished f content bytes s =
 
 pub record_more : (stream rest content : List ℕ) (records : List (List ℕ)) → Cuts stream records rest → IsRecord content rest → Cuts stream (records ++ content ∷ []) []
 record_more stream rest content records c r = record {
-  front = c.front ++ rest;
+  prefix = c.prefix ++ rest;
   back = [];
-  joined = c.joined ∙ ap (λ (t : List ℕ). c.front ++ t) c.second ∙ sym (append-nil (c.front ++ rest));
-  first = items_push IsRecord records content c.front rest c.first r;
+  joined = c.joined ∙ ap (λ (t : List ℕ). c.prefix ++ t) c.second ∙ sym (append-nil (c.prefix ++ rest));
+  first = items_push IsRecord records content c.prefix rest c.first r;
   second = refl;
 }
 
@@ -376,14 +376,14 @@ breaks_more bytes more b = record {
   len = b.len;
   more = b.more ++ more;
   fragments = record {
-    front = b.fragments.front;
+    prefix = b.fragments.prefix;
     back = b.fragments.back ++ more;
-    joined = ap (λ (t : List ℕ). t ++ more) b.fragments.joined ∙ append_assoc b.fragments.front b.fragments.back more;
+    joined = ap (λ (t : List ℕ). t ++ more) b.fragments.joined ∙ append_assoc b.fragments.prefix b.fragments.back more;
     first = b.fragments.first;
     second = record {
-      front = b.fragments.second.front;
+      prefix = b.fragments.second.prefix;
       back = b.fragments.second.back ++ more;
-      joined = ap (λ (t : List ℕ). t ++ more) b.fragments.second.joined ∙ append_assoc b.fragments.second.front b.fragments.second.back more;
+      joined = ap (λ (t : List ℕ). t ++ more) b.fragments.second.joined ∙ append_assoc b.fragments.second.prefix b.fragments.second.back more;
       first = b.fragments.second.first;
       second = ap (λ (t : List ℕ). t ++ more) b.fragments.second.second;
     };

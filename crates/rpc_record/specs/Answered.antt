@@ -1,4 +1,4 @@
--- The answer of a record to a call (RFC 5531, section 9): the results, or why there are none.
+-- The reply in a record to a call (RFC 5531, section 9): the results, or why there are none.
 use Rattle.std.specs.Prelude.{ℕ, List, [], ◌∷◌, Result, Ok, Err, not, ◌==◌, if◌then◌else◌}
 use Rattle.std.proofs.Common.{inl, inr}
 use Rattle.xdr_wire.specs.Xdr.{Xdr, Value, uint, union, arm, no_more, fields}
@@ -20,12 +20,12 @@ reply_body = union (arm 0 accepted_reply (arm 1 rejected_reply no_more))
 abbrev pub ReplyResult : Type 0
 ReplyResult = Result (List ℕ) ReplyFault
 
--- nothing stands after a reply that has no results
+-- a reply without results must end its record
 abbrev pub without_results : ReplyFault → List ℕ → ReplyResult
 without_results fault [] = Err fault
 without_results fault (b ∷ rest) = Err Header
 
--- how an accepted call ended: after SUCCESS stand the results
+-- how an accepted call ended: the results follow SUCCESS
 abbrev pub accepted_as : Value accept_data → List ℕ → ReplyResult
 accepted_as (inl done) rest = Ok rest
 accepted_as (inr (inl done)) rest = without_results ProgUnavail rest
@@ -40,25 +40,25 @@ denied_as (inl versions) rest = without_results (RpcMismatch versions.0 versions
 denied_as (inr (inl why)) rest = without_results (AuthError why) rest
 denied_as (inr (inr v)) rest = absurd v
 
--- the answer by the body of a reply, with any verifier
+-- the outcome by the body of a reply, with any verifier
 abbrev pub ended : Value reply_body → List ℕ → ReplyResult
 ended (inl accepted) rest = accepted_as accepted.1 rest
 ended (inr (inl denied)) rest = denied_as denied rest
 ended (inr (inr v)) rest = absurd v
 
--- the body can be read, or the record is no reply
-unfoldable pub body_says : Read (Value reply_body) → ReplyResult
-body_says (Ok (body, rest)) = ended body rest
-body_says (Err e) = Err Header
+-- the body can be read, or the record isn't a reply
+unfoldable pub body_result : Read (Value reply_body) → ReplyResult
+body_result (Ok (body, rest)) = ended body rest
+body_result (Err e) = Err Header
 
--- The beginning can be read and is a reply's (1), or the record is no reply. The reply is to this transaction.
+-- The beginning can be read and is a reply's (1), or the record isn't a reply. The reply is to this transaction.
 abbrev pub begun : ℕ → Read (Value beginning) → ReplyResult
-begun xid (Ok ((told, kind), rest)) =
+begun xid (Ok ((reply, kind), rest)) =
     if not (kind == 1) then Err Header
-    else if not (told == xid) then Err (Another told)
-    else body_says (read_at reply_body rest)
+    else if not (reply == xid) then Err (Another reply)
+    else body_result (read_at reply_body rest)
 begun xid (Err e) = Err Header
 
--- the answer of a record to the call of this transaction
+-- the outcome of a record for the call of this transaction
 abbrev pub answered : ℕ → List ℕ → ReplyResult
 answered xid bytes = begun xid (read_at beginning bytes)

@@ -1,4 +1,4 @@
--- The result of `read_reply`, without where the bytes lie; and how a client reads a server's reply.
+-- The result of `read_reply` by value; and how a client reads a server's reply.
 use Rattle.std.specs.Prelude.{ℕ, List, Result, Ok, Err}
 use Rattle.rpc_record.specs.declared.answered.ReplyFault.{ReplyFault}
 use Rattle.rpc_record.specs.declared.answered.ReplyFault.TheVariants.{ProgUnavail, ProgMismatch, ProcUnavail}
@@ -15,8 +15,7 @@ abbrev pub results : {X : Type 0} → (X → List ℕ) → Result X ReplyFault �
 results bytes (Ok lent) = Ok (bytes lent)
 results bytes (Err fault) = Err fault
 
--- A reply that this server writes, with these bytes after it: the results, or the cause where there
--- are none.
+-- A reply that this server writes, followed by these bytes: the results, or the cause if there are none.
 abbrev pub read_as : Reply → List ℕ → ReplyResult
 read_as Success found = Ok found
 read_as Unavailable found = without_results ProgUnavail found

@@ -1,4 +1,4 @@
--- Calls (RFC 5531, sections 8.2 and 9, and appendix A): their form, their caller, and the first thing that is wrong.
+-- Calls (RFC 5531, sections 8.2 and 9, and appendix A): their form, their caller, and their first fault.
 use Rattle.std.specs.Prelude.{ℕ, List, [], ◌∷◌, Option, Some, None, Result, Ok, Err, not, ◌==◌, nat_lt, if◌then◌else◌}
 use Rattle.xdr_wire.specs.Xdr.{Xdr, Value, uint, opaque, array, fields}
 use Rattle.xdr_wire.specs.Reading.{Read, read_at}
@@ -51,7 +51,7 @@ credential t = t.1.1.1.0.1
 abbrev pub identity_of : Value authsys → Identity
 identity_of v = identity v.1.1.0 v.1.1.1.0 v.1.1.1.1
 
--- the transaction, the bytes after the header, and the caller, where the procedure asks for it
+-- the transaction, the bytes after the header, and the caller, if the procedure needs one
 pub record Asked : Type 0 where
   pub xid : ℕ
   pub arguments : List ℕ
@@ -60,7 +60,7 @@ pub record Asked : Type 0 where
 abbrev pub CallResult : Type 0
 CallResult = Result Asked CallFault
 
--- the caller, where authsys_parms and nothing more was read
+-- the caller, if authsys_parms and nothing more was read
 abbrev pub caller_of : Read (Value authsys) → Option Identity
 caller_of (Ok (v, [])) = Some (identity_of v)
 caller_of (Ok (v, b ∷ rest)) = None
@@ -71,7 +71,7 @@ called_by xid arguments None = Err (BadCred xid)
 called_by xid arguments (Some caller) = Ok (record { xid = xid; arguments = arguments; caller = Some caller })
 
 -- The checks of a whole header, in their order: program 100003 (NFS), version 4, procedure NULL (0) or COMPOUND (1).
--- NULL takes any credential. COMPOUND takes flavor AUTH_SYS (1), whose data are authsys_parms and nothing more.
+-- NULL accepts any credential. COMPOUND requires flavor AUTH_SYS (1), whose data are authsys_parms and nothing more.
 abbrev pub judged : ℕ → Value target × List ℕ → CallResult
 judged xid (t, arguments) =
     if not (program t == 100003) then Err (Program xid)
@@ -81,12 +81,12 @@ judged xid (t, arguments) =
     else if not (flavor t == 1) then Err (Flavor xid)
     else called_by xid arguments (caller_of (read_at authsys (credential t)))
 
--- the rest of the header can be read, or the record is no call
+-- the rest of the header can be read, or the record isn't a call
 unfoldable pub targeted : ℕ → Read (Value target) → CallResult
 targeted xid (Ok x) = judged xid x
 targeted xid (Err e) = Err Header
 
--- The opening can be read and is a call's (0), or the record is no call. The protocol's version is 2.
+-- The opening can be read and is a call's (0), or the record isn't a call. The protocol's version is 2.
 abbrev pub opened : Read (Value opening) → CallResult
 opened (Ok (o, rest)) =
     if not (message_type o == 0) then Err Header
@@ -94,6 +94,6 @@ opened (Ok (o, rest)) =
     else targeted (xid_of o) (read_at target rest)
 opened (Err e) = Err Header
 
--- the call in a record, or the first thing that is wrong with it
+-- the call in a record, or its first fault
 abbrev pub asked : List ℕ → CallResult
 asked bytes = opened (read_at opening bytes)

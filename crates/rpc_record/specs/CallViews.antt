@@ -1,4 +1,4 @@
--- The parts of a call, without where its bytes lie.
+-- The parts of a call, with its bytes by value.
 use Rattle.std.specs.Prelude.{Result, Ok, Err, Option, Some, None}
 use Rattle.rpc_record.specs.Identity.{Identity}
 use Rattle.rpc_record.specs.declared.call.CallFault.{CallFault}
@@ -14,7 +14,7 @@ abbrev pub outcome : Result Call CallFault → CallResult
 outcome (Ok c) = Ok (view_of_call c)
 outcome (Err e) = Err e
 
--- NULL is the procedure that asks for no caller
+-- NULL is the procedure without a caller
 abbrev pub procedure_by : Option Identity → Procedure
 procedure_by None = Null
 procedure_by (Some caller) = Compound

@@ -1,4 +1,4 @@
--- How a client spells the header of a call (RFC 5531, sections 8.2 and 9, and appendix A).
+-- How a client encodes the header of a call (RFC 5531, sections 8.2 and 9, and appendix A).
 use Rattle.std.specs.Prelude.{◌+◌, ◌*◌, ℕ, List, [], Option, Some, None, not, ◌==◌, filter, length}
 use Rattle.xdr_wire.specs.Xdr.{Xdr, Value, pair, spelling}
 use Rattle.rpc_record.specs.Call.{opening, target, auth, authsys}
@@ -8,11 +8,11 @@ use Rattle.rpc_record.specs.Identity.{Identity}
 abbrev pub call_message : Xdr
 call_message = pair opening target
 
--- the groups of a caller besides its gid, by rising number
+-- the groups of a caller without its gid, by rising number
 abbrev pub further_groups : Identity → List ℕ
 further_groups caller = filter (λ g. not (g == caller.gid)) caller.groups
 
--- The stamp is 0 and the machine has no name: neither counts for the caller.
+-- The stamp is 0 and the machine name is empty: neither counts for the caller.
 abbrev pub parms_of : Identity → Value authsys
 parms_of caller = (0, ([], (caller.uid, (caller.gid, further_groups caller))))
 
@@ -38,7 +38,7 @@ call_of xid caller = ((xid, (0, 2)), (100003, (4, (procedure_of caller, (auth_of
 unfoldable pub call_bytes : ℕ → Option Identity → List ℕ
 call_bytes xid caller = spelling call_message (call_of xid caller)
 
--- how many bytes a call's header takes
+-- the number of bytes of a call's header
 abbrev pub call_len : Option Identity → ℕ
 call_len None = 40
 call_len (Some caller) = 60 + 4 * length (further_groups caller)

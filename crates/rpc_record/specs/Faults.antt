@@ -1,4 +1,4 @@
--- The faults of calls: their numbers, and how each is answered.
+-- The faults of calls: their numbers, and the reply to each.
 use Rattle.std.specs.Prelude.{ℕ, Option, Some, None}
 use Rattle.rpc_record.specs.declared.call.CallFault.{CallFault}
 use Rattle.rpc_record.specs.declared.call.CallFault.TheVariants.{Header, RpcVersion, Flavor, BadCred, Program, Version}
@@ -17,7 +17,7 @@ number_of (Program xid) = 5
 number_of (Version xid) = 6
 number_of (Procedure xid) = 7
 
--- The transaction and its reply (RFC 5531, section 9). A record that is no call has none.
+-- The transaction and its reply (RFC 5531, section 9). A record that isn't a call has no reply.
 abbrev pub reply_to : CallFault → Option (ℕ × Reply)
 reply_to Header = None
 reply_to (RpcVersion xid) = Some (xid, RpcMismatch)

@@ -4,10 +4,10 @@ use Rattle.std.specs.Prelude.{ℕ, Bool, List, length, nat_lt, ◌||◌}
 pub record Frame : Type 0 where
   -- the first bytes of a header that isn't whole
   pub header : List ℕ
-  -- how many bytes the open fragment still has, and whether it is the last fragment of its record
+  -- the number of bytes of the open fragment that are left, and whether it is the last fragment of its record
   pub left : ℕ
   pub last : Bool
-  -- how many bytes of the record have come
+  -- the number of bytes of the record that have arrived
   pub joined : ℕ
   -- whether a header of the record has been read
   pub begun : Bool

@@ -1,4 +1,4 @@
--- Which unfinished record a framer stands for, and what a step says of it (RFC 5531, section 11).
+-- Which unfinished record a framer represents, and what a step reports of it (RFC 5531, section 11).
 use Rattle.std.specs.Prelude.{◌≡◌, ◌≤◌, ◌<◌, ◌+◌, ◌↔◌, ℕ, false, IsTrue, List, [], ◌++◌, length, drop, slice_range, ◌⊎◌}
 use Rattle.std.specs.Int.{w32}
 use Rattle.xdr_wire.specs.Xdr.{IsNumber}
@@ -7,8 +7,7 @@ use Rattle.rpc_record.specs.declared.framer.Step.{Step}
 use Rattle.rpc_record.specs.declared.framer.Step.TheVariants.{Part, Record, NeedMore, Broken}
 use Rattle.rpc_record.specs.Records.{limit, mark, AreOpen, joined, IsRecord, Breaks}
 
--- After whole fragments with these bodies the tail is the header of a fragment and the front of its
--- body.
+-- After whole fragments with these bodies, the tail is the header of a fragment and a prefix of its body.
 pub record IsInBody (f : Frame) (content : List ℕ) (bodies : List (List ℕ)) (tail : List ℕ) : Type 0 where
   pub head : List ℕ
   pub part : List ℕ
@@ -17,20 +16,20 @@ pub record IsInBody (f : Frame) (content : List ℕ) (bodies : List (List ℕ)) 
   pub content-is : content ≡ joined bodies ++ part
   pub no_header : f.header ≡ []
 
--- After whole fragments with these bodies the tail is less than a header.
+-- After whole fragments with these bodies, the tail is less than a header.
 pub record IsInHeader (f : Frame) (content : List ℕ) (bodies : List (List ℕ)) (tail : List ℕ) : Type 0 where
   pub tail-is : tail ≡ f.header
   pub few : length f.header < 4
   pub content-is : content ≡ joined bodies
 
 -- The framer has read these bytes of a record that isn't whole; `content` is the record so far.
-pub record Stands (f : Frame) (content bytes : List ℕ) : Type 0 where
+pub record HasRead (f : Frame) (content bytes : List ℕ) : Type 0 where
   -- whole fragments, none of which is the last of its record, and the bytes after them
   pub bodies : List (List ℕ)
-  pub front : List ℕ
+  pub prefix : List ℕ
   pub tail : List ℕ
-  pub whole : bytes ≡ front ++ tail
-  pub fragments : AreOpen bodies front
+  pub whole : bytes ≡ prefix ++ tail
+  pub fragments : AreOpen bodies prefix
   pub in_body : 0 < f.left → IsInBody f content bodies tail
   pub in_header : f.left ≡ 0 → IsInHeader f content bodies tail
   pub count : length content ≡ f.joined
@@ -38,17 +37,16 @@ pub record Stands (f : Frame) (content bytes : List ℕ) : Type 0 where
   pub unbroken : f.broken ≡ false
   pub begun : IsTrue f.begun ↔ (4 ≤ length bytes)
 
--- The answer of a step on the record that was begun with these bytes, where the piece goes on at `at`.
+-- The result of a step on the record that began with these bytes, if the piece continues at `at`.
 abbrev pub StepGives : Step → Frame → List ℕ → List ℕ → List ℕ → ℕ → Type 0
 StepGives (Part from to) new content bytes piece at =
-    Stands new (content ++ slice_range piece from to) (bytes ++ slice_range piece at to)
+    HasRead new (content ++ slice_range piece from to) (bytes ++ slice_range piece at to)
 StepGives (Record from to) new content bytes piece at =
-    IsRecord (content ++ slice_range piece from to) (bytes ++ slice_range piece at to) × Stands new [] []
-StepGives NeedMore new content bytes piece at = Stands new content (bytes ++ drop at piece)
+    IsRecord (content ++ slice_range piece from to) (bytes ++ slice_range piece at to) × HasRead new [] []
+StepGives NeedMore new content bytes piece at = HasRead new content (bytes ++ drop at piece)
 StepGives Broken new content bytes piece at = Breaks (bytes ++ drop at piece)
 
--- A part or the end of a record lies after `at` in the piece, so that the next step goes on
--- further.
+-- A part or the end of a record is after `at` in the piece; the next step therefore continues further on.
 abbrev pub IsWithin : Step → List ℕ → ℕ → Type 0
 IsWithin (Part from to) piece at = (at ≤ from) × (from ≤ to) × (at < to) × (to ≤ length piece)
 IsWithin (Record from to) piece at = (at ≤ from) × (from ≤ to) × (at < to) × (to ≤ length piece)

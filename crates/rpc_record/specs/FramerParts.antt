@@ -7,13 +7,13 @@ use Rattle.rpc_record.specs.Frame.{Frame}
 use Rattle.rpc_record.specs.declared.framer.Step.{Step}
 use Rattle.rpc_record.specs.declared.framer.Step.TheVariants.{Part, Record, NeedMore, Broken}
 
--- the result of reading on in a header
+-- the result of continuing in a header
 abbrev pub HeaderGives : Option ℕ → Frame → Frame → List ℕ → Type 0
 HeaderGives None old new bytes = (new ≡ record old { header = old.header ++ bytes }) × (length new.header < 4)
 HeaderGives (Some n) old new bytes =
     (new ≡ record old { header = []; begun = true }) × IsNumber w32 n (old.header ++ bytes) × (n < 2 ^ 32)
 
--- the result of going on in a fragment: it takes the bytes that are there, or those that are left of the fragment
+-- the result of continuing in a fragment: it consumes the bytes of the piece, or those that are left of the fragment
 abbrev pub BodyGives : Step → Frame → Frame → List ℕ → ℕ → Type 0
 BodyGives (Part from' to) old new piece from =
     (from' ≡ from) × (from ≤ to) × (to ≤ length piece)

@@ -4,7 +4,7 @@ use Rattle.std.specs.List.Sorted.{IsStrictlyIncreasing}
 use Rattle.std.specs.List.{list_any}
 use Rattle.std.specs.Cmp.Lexicographic.{pointwise}
 
--- a user, the group it names, and the set of the groups that it is a member of: each group once, by rising number
+-- a user, its gid, and the set of the groups that it is a member of: each group once, by rising number
 pub record Identity : Type 0 where
   pub uid : ℕ
   pub gid : ℕ
@@ -21,7 +21,7 @@ pub record IsSetOf (groups sent : List ℕ) : Type 0 where
   pub rising : IsStrictlyIncreasing groups
   pub members : (group : ℕ) → has_group groups group ≡ has_group sent group
 
--- the groups with one more at its place, unless it is there
+-- the groups with one more at its place, unless they have it
 abbrev pub with_group : ℕ → List ℕ → List ℕ
 with_group group [] = group ∷ []
 with_group group (g ∷ gs) =
@@ -32,7 +32,7 @@ abbrev pub group_set : List ℕ → List ℕ
 group_set [] = []
 group_set (group ∷ sent) = with_group group (group_set sent)
 
--- the user of a credential that names these groups
+-- the caller of a credential with this uid, this gid and these further groups
 abbrev pub identity : ℕ → ℕ → List ℕ → Identity
 identity uid gid further = record { uid = uid; gid = gid; groups = group_set (gid ∷ further) }
 

@@ -4,7 +4,7 @@ use Rattle.std.specs.List.{flat_map}
 use Rattle.std.specs.Int.{w32}
 use Rattle.xdr_wire.specs.Xdr.{IsNumber, AreItems, Follows}
 
--- the most bytes that a record may have
+-- the largest number of bytes of a record
 abbrev pub limit : ℕ
 limit = 131072
 
@@ -35,8 +35,7 @@ pub record IsRecord (content bytes : List ℕ) : Type 0 where
   pub content-is : content ≡ joined bodies ++ body
   pub small : length content ≤ limit
 
--- After fragments of a record that isn't whole comes a header that takes the record above the
--- limit.
+-- After fragments of a record that isn't whole comes a header that takes the record above the limit.
 pub record Breaks (bytes : List ℕ) : Type 0 where
   pub bodies : List (List ℕ)
   pub last : Bool
@@ -47,7 +46,7 @@ pub record Breaks (bytes : List ℕ) : Type 0 where
   pub small : length (joined bodies) ≤ limit
   pub above : limit < length (joined bodies) + len
 
--- a header that may stand after this many bytes of a record, and less than its body
+-- a header that is within the limit after this many bytes of a record, and less than its body
 pub record IsPartOfFragment (before : ℕ) (tail : List ℕ) : Type 0 where
   pub last : Bool
   pub len : ℕ
@@ -56,8 +55,8 @@ pub record IsPartOfFragment (before : ℕ) (tail : List ℕ) : Type 0 where
   pub unfinished : length body < len
   pub within : before + len ≤ limit
 
--- After this many bytes of a record there is no whole fragment, but less than a header, or a header
--- that may stand and less than its body.
+-- After this many bytes of a record there is no whole fragment. There is less than a header, or a header within the
+-- limit and less than its body.
 abbrev pub IsPartial : ℕ → List ℕ → Type 0
 IsPartial before tail = (length tail < 4) ⊎ IsPartOfFragment before tail
 
@@ -67,7 +66,7 @@ pub record IsUnfinished (bytes : List ℕ) : Type 0 where
   pub fragments : Follows (AreOpen bodies) (IsPartial (length (joined bodies))) bytes
   pub small : length (joined bodies) ≤ limit
 
--- the stream is these records, and a rest after them
+-- the stream is these records, followed by a rest
 abbrev pub Cuts : List ℕ → List (List ℕ) → List ℕ → Type 0
 Cuts stream records rest = Follows (AreItems IsRecord records) (λ bytes. bytes ≡ rest) stream
 

@@ -1,4 +1,4 @@
--- Replies (RFC 5531, section 9): their form, and how each is spelled.
+-- Replies (RFC 5531, section 9): their form, and how each is encoded.
 use Rattle.std.specs.Prelude.{ℕ, List, [], ◌∷◌}
 use Rattle.std.proofs.Common.{inl, inr}
 use Rattle.xdr_wire.specs.Xdr.{Xdr, Value, void, uint, union, arm, no_more, fields, spelling}
@@ -21,7 +21,7 @@ accept_data = union (arm 0 void (arm 1 void (arm 2 versions (arm 3 void (arm 4 v
 abbrev pub accepted_reply : Xdr
 accepted_reply = fields (auth ∷ accept_data ∷ [])
 
--- rejected_reply: RPC_MISMATCH with the versions that are spoken, or AUTH_ERROR with an auth_stat
+-- rejected_reply: RPC_MISMATCH with the versions that are supported, or AUTH_ERROR with an auth_stat
 abbrev pub rejected_reply : Xdr
 rejected_reply = union (arm 0 versions (arm 1 uint no_more))
 
@@ -53,7 +53,7 @@ view_of_reply xid (AuthError why) = denied xid (inr (inl (auth_stat why)))
 unfoldable pub reply_bytes : ℕ → Reply → List ℕ
 reply_bytes xid reply = spelling reply_message (view_of_reply xid reply)
 
--- how many bytes a reply's header takes
+-- the number of bytes of a reply's header
 abbrev pub reply_len : Reply → ℕ
 reply_len Success = 24
 reply_len ProgUnavail = 24

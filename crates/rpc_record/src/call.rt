@@ -5,29 +5,29 @@ use crate::caller::Caller;
 use crate::reply::{AuthStat, Reply};
 use thiserror::Error;
 
-/// Why a record is no call that can be run: the first thing that is wrong with it. All but `Header` carry the
-/// transaction that is answered.
+/// Why a record isn't a call that can be run: its first fault. All but `Header` carry the transaction that the reply
+/// names.
 #[derive(Clone, Copy, Debug, PartialEq, Eq, Error)]
 pub enum CallFault {
-    /// The record isn't the header of a call. It has no reply, and its connection breaks.
+    /// The record isn't the header of a call. It gets no reply, and its connection breaks.
     #[error("no header of a call")]
     Header,
-    /// A call of another version of the protocol than 2, whatever follows.
+    /// The call has another version of the protocol than 2, whatever follows.
     #[error("call {0}: not version 2 of the protocol")]
     RpcVersion(u32),
-    /// A COMPOUND under a credential of another flavor than AUTH_SYS.
+    /// A COMPOUND has a credential of another flavor than AUTH_SYS.
     #[error("call {0}: a credential of another flavor than AUTH_SYS")]
     Flavor(u32),
-    /// A COMPOUND whose AUTH_SYS credential can't be read, or has more after it.
+    /// A COMPOUND has an AUTH_SYS credential that can't be read, or that has bytes after it.
     #[error("call {0}: a credential that can't be read")]
     BadCred(u32),
-    /// A call of another program than NFS.
+    /// The call is of another program than NFS.
     #[error("call {0}: no such program")]
     Program(u32),
-    /// A call of another version of NFS than 4.
+    /// The call is of another version of NFS than 4.
     #[error("call {0}: no such version of the program")]
     Version(u32),
-    /// A call of another procedure than NULL and COMPOUND.
+    /// The call is of another procedure than NULL and COMPOUND.
     #[error("call {0}: no such procedure")]
     Procedure(u32),
 }
@@ -89,7 +89,7 @@ pub struct Call<'a> {
 impl Call<'_> {
     ghost use Rattle.rpc_record.specs.CallViews.{procedure_by};
 
-    /// Which procedure is called.
+    /// The procedure that is called.
     pub fn procedure(&self) -> Procedure
         ensures { result ≡ procedure_by self.now.caller }
     {

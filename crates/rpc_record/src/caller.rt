@@ -11,12 +11,12 @@ use std::fmt;
 use std::hash::{Hash, Hasher};
 use std::marker::Model;
 
-/// The most further groups of an AUTH_SYS credential (RFC 5531, appendix A).
+/// The largest number of further groups of an AUTH_SYS credential (RFC 5531, appendix A).
 pub const MOST_FURTHER: usize = 16;
 
 /// The caller: a user, its group, and the set of the groups that it is a member of (RFC 5531, appendix A). The groups
-/// of a credential hold its gid; a book can give a caller other groups than those sent, and these need not. Two callers
-/// are equal where user, group and set are, in whatever order the groups were sent.
+/// of a credential include its gid. A book can replace the groups that were sent, and the new ones need not include it.
+/// Two callers are equal if user, group and set are, in whatever order the groups were sent.
 #[derive(Clone, Copy)]
 pub struct Caller {
     uid: u32,
@@ -35,7 +35,7 @@ impl Model for Caller {
 }
 
 impl Caller {
-    /// The caller of a credential: its groups are the set of `gid` and `further`, of which there are at most 16.
+    /// The caller of a credential: its groups are the set of `gid` and `further`, which has at most 16 groups.
     pub fn new(uid: u32, gid: u32, further: &[u32]) -> Self
         requires { length further.now ≤ MOST_FURTHER }
         ensures { result ≡ identity uid gid further.now }
@@ -48,7 +48,7 @@ impl Caller {
         Caller::with_groups(uid, gid, groups)
     }
 
-    /// The caller with these groups, as a book gives them in place of those sent: they need not hold `gid`.
+    /// The caller with these groups, as a book gives them in place of those sent: they need not include `gid`.
     pub fn with_groups(uid: u32, gid: u32, groups: GroupSet) -> Self
         ensures { result ≡ record { uid = uid; gid = gid; groups = groups } }
     {
@@ -62,15 +62,15 @@ impl Caller {
         self.uid
     }
 
-    /// The group of the objects that the caller creates: in a credential, the group that it names first.
+    /// The group of the objects that the caller creates: in a credential, its gid.
     pub fn gid(&self) -> u32
         ensures { result ≡ self.now.gid }
     {
         self.gid
     }
 
-    /// The groups that the caller is a member of, each once, by rising number. Of a caller with groups of a book they
-    /// can lack its `gid`.
+    /// The groups that the caller is a member of, each once, by rising number. If a book gave them, they may lack the
+    /// caller's `gid`.
     pub fn groups(&self) -> &[u32]
         ensures groups { result.now ≡ self.now.groups }
         ensures rising { IsStrictlyIncreasing result.now }
@@ -137,7 +137,7 @@ pub fn groups_are_a_set()
         identity uid gid further ≡ identity uid gid again }
 {}
 
-/// `==` tells callers apart exactly where they differ.
+/// `==` holds if and only if user, gid and groups of the callers are the same.
 pub fn equal_callers_are_the_same()
     ensures { (a b : Identity) → IsTrue (is_same a b) ↔ (a ≡ b) }
 {}

@@ -13,14 +13,14 @@ use crate::reading::{AUTH_SYS, CALL, COMPOUND, NFS_PROGRAM, NFS_VERSION, NULL, R
 use std::alloc::Allocator;
 use xdr_wire::{Full, Writer};
 
-/// The most bytes of a call's header: those of a COMPOUND by a caller of 17 groups. After the
-/// header stand the arguments.
+/// The largest number of bytes of a call's header: a COMPOUND by a caller in 17 groups. The arguments follow the
+/// header.
 pub const CALL_HEADER_LIMIT: usize = 124;
 
-/// A credential or a verifier that says nothing, and its length.
+/// A credential or a verifier of AUTH_NONE, which is empty: flavor and length.
 const AUTH_NONE: [u32; 2] = [0, 0];
 
-/// How many bytes an AUTH_SYS credential's data have besides the further groups.
+/// The number of bytes of an AUTH_SYS credential's data without the further groups.
 const FIXED_PARMS: usize = 20;
 
 /// Writes the header of a COMPOUND.
@@ -49,10 +49,9 @@ fn put_compound<A: Allocator>(xid: u32, caller: &Caller, writer: &mut Writer<A>)
     writer.put_words(&AUTH_NONE)
 }
 
-/// Writes the header of a call of this transaction, all of it or nothing: `Full` exactly where the
-/// room is less than it takes. Without a caller it calls NULL under AUTH_NONE, with one COMPOUND
-/// under AUTH_SYS. The caller's groups hold its gid, as those of `Caller::new` do. With the
-/// arguments after it the header is read as the same call.
+/// Writes the header of a call of this transaction, all of it or nothing. `Full`: exactly if the room is less than it
+/// takes. Without a caller it calls NULL under AUTH_NONE, with one COMPOUND under AUTH_SYS. The caller's groups must
+/// include its gid, as those of `Caller::new` do. The header, followed by the arguments, is read as the same call.
 pub fn write_call<A: Allocator>(
     xid: u32,
     caller: Option<Caller>,

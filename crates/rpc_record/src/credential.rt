@@ -11,10 +11,10 @@ use crate::caller::{Caller, MOST_FURTHER};
 use std::marker::Model;
 use xdr_wire::{Reader, XdrFault};
 
-/// The most bytes of a machine name.
+/// The largest number of bytes of a machine name.
 const MOST_NAME: usize = 255;
 
-/// The further gids of a credential, at most 16, as they were sent.
+/// The further gids of a credential, at most 16, as sent.
 #[derive(Drop)]
 pub(crate) struct Further {
     row: [u32; MOST_FURTHER],
@@ -56,7 +56,7 @@ impl Further {
         &self.row[..self.len]
     }
 
-    /// The groups of a caller besides its gid.
+    /// The groups of a caller without its gid.
     pub(crate) fn of(caller: &Caller) -> Further
         requires { IsTrue (is_member caller.now caller.now.gid) }
         ensures groups { result ≡ further_groups caller.now }
@@ -86,8 +86,8 @@ impl Further {
     }
 }
 
-/// The caller, by the data of an AUTH_SYS credential: all of them (appendix A). The stamp and the machine name may be
-/// any bytes.
+/// The caller of an AUTH_SYS credential, by all of its data (appendix A). The stamp and the machine name may be any
+/// bytes.
 pub(crate) fn read_caller(body: &[u8]) -> Option<Caller>
     ensures { result ≡ caller_of (read_at authsys body.now) }
 {

@@ -1,43 +1,43 @@
-//! Record marking (RFC 5531, section 11): where the records of a stream are.
+//! Record marking (RFC 5531, section 11): finds the records of a stream.
 ghost use Rattle.std.specs.Prelude.{◌≡◌, ◌≢◌, ◌≤◌, ◌<◌, ◌+◌, ◌++◌, ◌∷◌, List, [], length, take, IsTrue, ℕ, ◌↔◌};
 ghost use Rattle.std.specs.Prelude.{true};
 ghost use Rattle.std.specs.Int.{w32, to_be_bytes};
 ghost use Rattle.rpc_record.specs.Records.{Cuts, IsRecord, IsEnd, IsUnfinished, Breaks, mark};
 ghost use Rattle.rpc_record.specs.Frame.{Frame, is_inside};
-ghost use Rattle.rpc_record.specs.Framer.{Stands};
+ghost use Rattle.rpc_record.specs.Framer.{HasRead};
 
 use std::marker::Model;
 
-/// The most bytes that a record may have, its headers not counted.
+/// The largest number of bytes of a record, not counting its headers.
 pub const RECORD_LIMIT: usize = 131_072;
 
-// the top bit of a header, which stands on the last fragment of a record
+// the top bit of a header, which is set on the last fragment of a record
 const LAST: u32 = 1 << 31;
 
-/// A step in a piece from `at` on. After `Part` and `Record` the next call goes on at their second number.
+/// A step in a piece from `at` on. After `Part` and `Record` the next call continues at their second number.
 #[derive(Clone, Copy, Debug, PartialEq, Eq)]
 pub enum Step {
-    /// The bytes of the piece from the first to the second number go on the record. There may be none.
+    /// The bytes of the piece from the first to the second number belong to the record. There may be none.
     Part(usize, usize),
     /// The bytes of the piece from the first to the second number end the record. There may be none.
     Record(usize, usize),
-    /// The piece is used up.
+    /// The piece is consumed.
     NeedMore,
     /// A header takes its record above [`RECORD_LIMIT`]. Nothing more of the stream is read.
     Broken,
 }
 
-/// Finds the records in a stream that comes in pieces, whatever its fragments and wherever it is cut. It keeps no byte
-/// of a record and takes no memory: its user joins the parts.
+/// Finds the records in a stream that arrives in pieces, whatever its fragments and wherever it is cut. It stores no
+/// byte of a record and allocates nothing: its user joins the parts.
 #[derive(Debug, Drop)]
 pub struct Framer {
     // the first bytes of a header that isn't whole
     header: [u8; 4],
     have: usize,
-    // how many bytes the fragment still has, and whether it is the last of its record
+    // the number of bytes of the fragment that are left, and whether it is the last of its record
     left: usize,
     last: bool,
-    // how many bytes of the record there are so far
+    // the number of bytes of the record that have arrived
     joined: usize,
     // whether a header of the record has been read
     begun: bool,
@@ -73,12 +73,12 @@ fn put_header(header: &mut [u8; 4], have: usize, bytes: &[u8])
 }
 
 impl Framer {
-    ghost use Rattle.rpc_record.specs.Framer.{Stands, StepGives, IsWithin, TakesAll};
+    ghost use Rattle.rpc_record.specs.Framer.{HasRead, StepGives, IsWithin, TakesAll};
     ghost use Rattle.rpc_record.specs.FramerParts.{HeaderGives, BodyGives};
 
-    /// At the start of a stream.
+    /// A framer at the start of a stream.
     pub fn new() -> Self
-        ensures { Stands result [] [] }
+        ensures { HasRead result [] [] }
     {
         Framer {
             header: [0; 4],
@@ -91,16 +91,16 @@ impl Framer {
         }
     }
 
-    /// Whether a record has begun that isn't whole. Then a header of it has been read, be it of an
-    /// empty fragment, or a part of one.
+    /// Whether a record has begun that isn't whole: one of its headers has been read, possibly of an empty fragment, or
+    /// a part of one.
     pub fn is_inside(&self) -> bool
         ensures value { result ≡ is_inside self.now }
-        ensures inside { (content bytes : List ℕ) → Stands self.now content bytes → IsTrue result ↔ (bytes ≢ []) }
+        ensures inside { (content bytes : List ℕ) → HasRead self.now content bytes → IsTrue result ↔ (bytes ≢ []) }
     {
         self.begun || self.have > 0
     }
 
-    /// Reads on in a header. `None`: the header isn't whole yet.
+    /// Continues to read a header. `None`: the header isn't whole yet.
     fn read_header(&mut self, bytes: &[u8]) -> Option<u32>
         requires { length self.old.header + length bytes.now ≤ 4 }
         ensures { HeaderGives result self.old self.new bytes.now }
@@ -116,7 +116,7 @@ impl Framer {
         Some(u32::from_be_bytes(self.header))
     }
 
-    /// Goes on in a fragment, by the next bytes of the piece from `from` on.
+    /// Continues to read a fragment, with the next bytes of the piece from `from` on.
     fn read_body(&mut self, piece: &[u8], from: usize) -> Step
         requires { from ≤ length piece.now }
         ensures { BodyGives result self.old self.new piece.now from }
@@ -139,13 +139,13 @@ impl Framer {
         Step::Record(from, to)
     }
 
-    /// Finds the next step in the piece from `at` on. It is a part of the record that has begun,
-    /// its end, less than either, or a header that takes the record above the limit. The limit
-    /// holds for the whole record, at the header that passes it. A broken framer stays so.
+    /// Finds the next step in the piece from `at` on. It is a part of the current record, its end, less than either, or
+    /// a header that takes the record above the limit. The limit is on the whole record, and is checked at each header.
+    /// A broken framer stays broken.
     pub fn feed(&mut self, piece: &[u8], at: usize) -> Step
         requires { at ≤ length piece.now }
         ensures within { IsWithin result piece.now at }
-        ensures gives { (content bytes : List ℕ) → Stands self.old content bytes →
+        ensures gives { (content bytes : List ℕ) → HasRead self.old content bytes →
             StepGives result self.new content bytes piece.now at }
         ensures all { TakesAll result self.new piece.now }
         ensures broken { result ≡ Step.Broken ↔ IsTrue self.new.broken }
@@ -182,15 +182,15 @@ pub fn record_mark(len: usize) -> [u8; 4]
     (LAST + len as u32).to_be_bytes()
 }
 
-/// A stream is cut into records in one way, so it makes no difference in which pieces it came.
+/// A stream is cut into records in exactly one way. The pieces in which it arrives therefore make no difference.
 pub fn a_stream_has_one_cut()
-    ensures { (stream : List ℕ) (records others : List (List ℕ)) (rest behind : List ℕ) → Cuts stream records rest
-        → Cuts stream others behind
-        → IsEnd rest → IsEnd behind → (records ≡ others) × (rest ≡ behind) }
+    ensures { (stream : List ℕ) (records others : List (List ℕ)) (rest after : List ℕ) → Cuts stream records rest
+        → Cuts stream others after
+        → IsEnd rest → IsEnd after → (records ≡ others) × (rest ≡ after) }
 {}
 
-/// The records of a stream as it comes. At its start there are none, and new bytes go after the
-/// rest. A rest that is a record is one more, and a stream that breaks stays broken.
+/// The records of a stream that grows. At its start there are none, and new bytes are appended to the rest. A rest that
+/// is a record becomes the next record, and a stream that is broken stays broken.
 pub fn records_of_a_growing_stream()
     ensures start { Cuts [] [] [] }
     ensures more { (stream rest more : List ℕ) (records : List (List ℕ)) → Cuts stream records rest →
@@ -200,7 +200,7 @@ pub fn records_of_a_growing_stream()
         IsRecord content rest → Cuts stream (records ++ content ∷ []) [] }
 {}
 
-/// A framer stands for the unfinished rest after the last whole record.
-pub fn a_framer_stands_for_a_rest()
-    ensures { (frame : Frame) (content bytes : List ℕ) → Stands frame content bytes → IsUnfinished bytes }
+/// A framer represents the unfinished rest after the last whole record.
+pub fn a_framer_has_read_the_rest()
+    ensures { (frame : Frame) (content bytes : List ℕ) → HasRead frame content bytes → IsUnfinished bytes }
 {}

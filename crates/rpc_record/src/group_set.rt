@@ -1,4 +1,4 @@
-//! A set of groups of fixed size.
+//! A set of groups of bounded size.
 ghost use Rattle.std.specs.Prelude.{◌≡◌, ◌+◌, ◌-◌, ◌≤◌, ◌<◌, ◌==◌, [], length, take, drop, insert, nat_eq};
 ghost use Rattle.std.specs.List.Sorted.{IsStrictlyIncreasing};
 ghost use Rattle.std.specs.Cmp.{partial_equiv_from_equiv};
@@ -12,12 +12,12 @@ use std::fmt;
 use std::hash::{Hash, Hasher};
 use std::marker::Model;
 
-/// The most groups of a set. They are those of a caller, of which a credential names one first and
-/// up to 16 further ones (RFC 5531, appendix A).
+/// The largest number of groups in a set, which is that of a caller. A credential has a gid and up to 16 further groups
+/// (RFC 5531, appendix A).
 pub const MOST_GROUPS: usize = 17;
 
-/// A set of at most 17 groups. It takes no memory, and two sets are equal where they have the same groups, in whatever
-/// order these were put in.
+/// A set of at most 17 groups. It allocates nothing. Two sets are equal if they have the same groups, in whatever order
+/// these were inserted.
 #[derive(Clone, Copy)]
 pub struct GroupSet {
     // the groups by rising number, and zeros after them
@@ -52,12 +52,12 @@ impl Model for GroupSet {
     } };
 }
 
-/// Puts a value after the first `len` places and from there to its place among them.
+/// Puts a value after the first `len` places, and moves it to its place among them.
 fn insert_at(places: &mut [u32; MOST_GROUPS], len: usize, at: usize, value: u32)
     requires among { at ≤ len }
     requires room { len < MOST_GROUPS }
     ensures held { take (len + 1) places.new ≡ insert (take len places.old) at value }
-    ensures behind { drop (len + 1) places.new ≡ drop (len + 1) places.old }
+    ensures rest_kept { drop (len + 1) places.new ≡ drop (len + 1) places.old }
 {
     places[len] = value;
     places[at..len + 1].rotate_right(1);
@@ -83,7 +83,7 @@ impl GroupSet {
         &self.places[..self.len]
     }
 
-    /// How many groups there are, at most 17.
+    /// The number of groups, at most 17.
     pub fn len(&self) -> usize
         ensures len { result ≡ length self.now }
         ensures few { result ≤ MOST_GROUPS }
@@ -105,7 +105,7 @@ impl GroupSet {
         self.as_slice().contains(&group)
     }
 
-    /// Puts a group in, at its place, unless it is there. The set has fewer than 17 groups.
+    /// Inserts a group at its place, unless the set has it. The set must have fewer than 17 groups.
     pub fn insert(&mut self, group: u32)
         requires { length self.old < MOST_GROUPS }
         ensures { self.new ≡ with_group group self.old }

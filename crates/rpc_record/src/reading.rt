@@ -24,13 +24,13 @@ pub(crate) const NULL: u32 = 0;
 
 pub(crate) const COMPOUND: u32 = 1;
 
-/// The flavor of a credential of users and groups by their numbers.
+/// The flavor of a credential that names users and groups by their numbers.
 pub(crate) const AUTH_SYS: u32 = 1;
 
-/// The most bytes of a credential's or a verifier's data.
+/// The largest number of bytes of a credential's or a verifier's data.
 pub(crate) const MOST_AUTH: usize = 400;
 
-/// A record that can't be read is no header.
+/// A record that can't be read isn't a header.
 fn header<T>(read: Result<T, XdrFault>) -> Result<T, CallFault>
     ensures { MatchResult read (λ x. result ≡ Ok x) (λ _. result ≡ Err Header) }
 {
@@ -40,10 +40,9 @@ fn header<T>(read: Result<T, XdrFault>) -> Result<T, CallFault>
     }
 }
 
-/// The call in a record, or the first thing that is wrong with it. The message type and the version
-/// of the protocol are read first and checked before the rest is read. Then come program, version
-/// and procedure, and then, for COMPOUND, the flavor and the data of its credential. The verifier
-/// is not looked at. The bytes after the header are the arguments.
+/// The call in a record, or its first fault. The message type and the version of the protocol are read first, and are
+/// checked before the rest is read. Program, version and procedure are checked next, and for COMPOUND then the flavor
+/// and the data of its credential. The verifier isn't examined. The bytes after the header are the arguments.
 pub fn read_call(bytes: &[u8]) -> Result<Call<'_>, CallFault>
     ensures { outcome result ≡ asked bytes.now }
 {
@@ -60,7 +59,7 @@ pub fn read_call(bytes: &[u8]) -> Result<Call<'_>, CallFault>
     read_target(xid, reader.rest())
 }
 
-/// Reads the rest of a header, after the version of the protocol, and judges it.
+/// Reads the rest of a header, after the version of the protocol, and checks it.
 #[tactic(auto, unfolding(crate::specs::Call::targeted))]
 fn read_target(xid: u32, bytes: &[u8]) -> Result<Call<'_>, CallFault>
     ensures { outcome result ≡ targeted xid (read_at target bytes.now) }

@@ -7,16 +7,15 @@ ghost use Rattle.rpc_record.specs.Reply.{reply_message, view_of_reply, reply_byt
 use std::alloc::Allocator;
 use xdr_wire::{Full, Writer};
 
-/// The most bytes of a reply's header: those of PROG_MISMATCH. After a header of SUCCESS stand the
-/// results.
+/// The largest number of bytes of a reply's header: that of PROG_MISMATCH. The results follow a header of SUCCESS.
 pub const REPLY_HEADER_LIMIT: usize = 32;
 
-/// Why a credential isn't taken.
+/// Why a credential isn't accepted.
 #[derive(Clone, Copy, Debug, PartialEq, Eq)]
 pub enum AuthStat {
     /// AUTH_BADCRED, 1: the credential can't be read.
     BadCred,
-    /// AUTH_TOOWEAK, 5: a credential of this flavor is not enough.
+    /// AUTH_TOOWEAK, 5: a credential of this flavor is too weak.
     TooWeak,
 }
 
@@ -34,29 +33,29 @@ impl AuthStat {
     }
 }
 
-/// How a call is answered: accepted, or denied in the last two cases.
+/// The reply to a call: accepted, or denied in the last two cases.
 #[derive(Clone, Copy, Debug, PartialEq, Eq)]
 pub enum Reply {
-    /// SUCCESS. The results stand after the header.
+    /// SUCCESS. The results follow the header.
     Success,
-    /// PROG_UNAVAIL: the program isn't here.
+    /// PROG_UNAVAIL: this server doesn't have the program.
     ProgUnavail,
-    /// PROG_MISMATCH: the program isn't here in this version; the lowest and the highest one are 4.
+    /// PROG_MISMATCH: this server doesn't have this version of the program; the lowest and the highest one are 4.
     ProgMismatch,
-    /// PROC_UNAVAIL: the program has no such procedure.
+    /// PROC_UNAVAIL: the program doesn't have the procedure.
     ProcUnavail,
     /// GARBAGE_ARGS: the procedure can't read its arguments.
     GarbageArgs,
-    /// RPC_MISMATCH: the protocol isn't spoken in this version; the lowest and the highest one are 2.
+    /// RPC_MISMATCH: this server doesn't support this version of the protocol; the lowest and the highest one are 2.
     RpcMismatch,
-    /// AUTH_ERROR: the credential isn't taken.
+    /// AUTH_ERROR: the credential isn't accepted.
     AuthError(AuthStat),
 }
 
 impl Reply {
     ghost use Rattle.rpc_record.specs.Reply.{reply_bytes, reply_len};
 
-    /// How many bytes the header takes.
+    /// The number of bytes of the header.
     pub fn header_len(self) -> usize
         ensures len { result ≡ reply_len self }
         ensures limit { result ≤ REPLY_HEADER_LIMIT }
@@ -84,8 +83,8 @@ impl Reply {
     }
 }
 
-/// Writes the header of the reply to the call of this transaction, all of it or nothing. It gives
-/// `Full` exactly where the room is less than the header takes.
+/// Writes the header of the reply to the call of this transaction, all of it or nothing. `Full`: exactly if the room is
+/// less than the header takes.
 pub fn write_reply<A: Allocator>(xid: u32, reply: Reply, writer: &mut Writer<A>) -> Result<(), Full>
     ensures spelled { Spells reply_message (view_of_reply xid reply) (reply_bytes xid reply) }
     ensures len { length (reply_bytes xid reply) ≡ reply_len reply }

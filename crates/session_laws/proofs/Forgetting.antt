@@ -4,15 +4,15 @@ use Rattle.session_slots.specs.declared.slot.Turn.{Turn}
 use Rattle.session_slots.specs.declared.slot.Turn.TheVariants as turns
 use Rattle.session_slots.specs.Limits.{MOST_AHEAD}
 use Rattle.session_slots.specs.Counting.{due}
-use Rattle.session_slots.specs.Slots.{Call, Kept, old_turn, turn_of}
+use Rattle.session_slots.specs.Slots.{Call, Cached, old_turn, turn_of}
 use Rattle.session_slots.specs.Acting.{Memory, Entry, State, unused, of_slot, begun_again, ActsOnce}
 use Rattle.session_laws.specs.Turns.{Server, IsNear, begun, RunsIn, IfNew, all_stored, found, Event, Serves, Restarts, Steps}
-use Rattle.session_laws.specs.WrongRules.{forgets_changes, forgets_calls, IsMadeOf, counts, does_nothing, forgets_slots, turns_over}
+use Rattle.session_laws.specs.WrongRules.{forgets_calls, IsMadeOf, counts, does_nothing, forgets_slots}
 
 abbrev call_of : ℕ → Call
 call_of number = record { number = number; caller = record { uid = 0; gid = 0; groups = [] }; arguments = [] }
 
-abbrev kept_of : ℕ → Kept
+abbrev kept_of : ℕ → Cached
 kept_of number = record { call = call_of number; results = [] }
 
 abbrev entry_of : ℕ → ℕ → Bool → Entry
@@ -44,10 +44,10 @@ unfolding once
 runs_once = record {
   results = [];
   before = [];
-  sent = record { is_due = refl; stand = inl refl };
+  sent = record { is_due = refl; sent_before = inl refl };
   ran = refl;
   leaves = λ q. cc;
-  stands = refl;
+  holds = refl;
   memory = refl;
   others = λ k apart. ap (λ b. if b then with_call 1 else no_call) (apart_from k 0 apart);
 }
@@ -57,10 +57,10 @@ unfolding once twice
 runs_twice = record {
   results = [];
   before = [];
-  sent = record { is_due = refl; stand = inr (record { newer = []; lost = entry_of 0 1 true; older = []; parts = refl; is_newest = refl; is_of_slot = refl; rest = refl }) };
+  sent = record { is_due = refl; sent_before = inr (record { newer = []; lost = entry_of 0 1 true; older = []; parts = refl; is_newest = refl; is_of_slot = refl; rest = refl }) };
   ran = refl;
   leaves = λ q. cc;
-  stands = refl;
+  holds = refl;
   memory = refl;
   others = λ k apart. ap (λ b. if b then with_call 1 else begun_again ((once 1).now.slots k)) (apart_from k 0 apart);
 }
@@ -83,83 +83,6 @@ not_once (a, is, one) = no_sum (subst (λ (a : ℕ). 2 ≡ a + 1) is one)
 
 pub slots_are_lost : ((events : List Event) (last : Server ℕ) → Steps (forgets_slots ℕ) counts events (begun 0) last → IsMadeOf counts 0 last.now.calls last.now.world) → ⊥
 slots_are_lost law = not_once (law same_call twice run_twice)
-
--- ---- two calls in a turn, on two slots; a restart; and the second one again
-
-first_ran : State Bool
-first_ran = record { world = true; slots = λ k. if k == 0 then with_call 1 else no_call; calls = entry_of 0 1 false ∷ [] }
-
-both_ran : State Bool
-both_ran = record { world = false; slots = λ k. if k == 1 then with_call 1 else if k == 0 then with_call 1 else no_call; calls = entry_of 1 1 false ∷ entry_of 0 1 false ∷ [] }
-
-not_kept : Server Bool
-not_kept = record { now = both_ran; stored = false }
-
-again_ran : State Bool
-again_ran = record { world = true; slots = λ k. if k == 1 then with_call 1 else begun_again (both_ran.slots k); calls = entry_of 1 1 true ∷ entry_of 0 1 false ∷ [] }
-
-lost_events : List Event
-lost_events = Serves ((0, call_of 1) ∷ (1, call_of 1) ∷ []) false ∷ Restarts ∷ Serves ((1, call_of 1) ∷ []) true ∷ []
-
-runs_first : RunsIn (forgets_changes Bool) turns_over false (0, call_of 1) (unused false) first_ran
-unfolding first_ran
-runs_first = record {
-  results = [];
-  before = [];
-  sent = record { is_due = refl; stand = inl refl };
-  ran = refl;
-  leaves = λ q. tt;
-  stands = refl;
-  memory = refl;
-  others = λ k apart. ap (λ b. if b then with_call 1 else no_call) (apart_from k 0 apart);
-}
-
-runs_second : RunsIn (forgets_changes Bool) turns_over false (1, call_of 1) first_ran both_ran
-unfolding first_ran both_ran
-runs_second = record {
-  results = [];
-  before = entry_of 0 1 false ∷ [];
-  sent = record { is_due = refl; stand = inl refl };
-  ran = refl;
-  leaves = λ q. tt;
-  stands = refl;
-  memory = refl;
-  others = λ k apart. ap (λ b. if b then with_call 1 else if k == 0 then with_call 1 else no_call) (apart_from k 1 apart);
-}
-
-runs_again : RunsIn (forgets_changes Bool) turns_over true (1, call_of 1) (found not_kept).now again_ran
-unfolding both_ran not_kept again_ran
-runs_again = record {
-  results = [];
-  before = entry_of 0 1 false ∷ [];
-  sent = record { is_due = refl; stand = inr (record { newer = []; lost = entry_of 1 1 false; older = entry_of 0 1 false ∷ []; parts = refl; is_newest = refl; is_of_slot = refl; rest = refl }) };
-  ran = refl;
-  leaves = λ q. tt;
-  stands = refl;
-  memory = refl;
-  others = λ k apart. ap (λ b. if b then with_call 1 else begun_again (both_ran.slots k)) (apart_from k 1 apart);
-}
-
-near_if : (b c : Bool) → let m : Memory = if b then with_call 1 else if c then with_call 1 else no_call in IsNear m.stored m.kept
-near_if true c = inr (lit< tt)
-near_if false true = inr (lit< tt)
-near_if false false = inl refl
-
-all_lost : Steps (forgets_changes Bool) turns_over lost_events (begun false) (all_stored (forgets_changes Bool) again_ran)
-unfolding first_ran both_ran not_kept again_ran lost_events
-all_lost = (
-  not_kept,
-  (both_ran, (first_ran, runs_first, (both_ran, runs_second, refl)), (record { world = refl; near = λ k. near_if (k == 1) (k == 0); few = lit≤ tt }, refl)),
-  (found not_kept, refl, (all_stored (forgets_changes Bool) again_ran, (again_ran, (again_ran, runs_again, refl), refl), refl)),
-)
-
--- two calls stand, and the bit was turned over once
-once_over : IsMadeOf turns_over false (all_stored (forgets_changes Bool) again_ran).now.calls (all_stored (forgets_changes Bool) again_ran).now.world → ⊥
-unfolding again_ran
-once_over (a, (b, is, one), two) = cc
-
-pub changes_are_lost : ((events : List Event) (last : Server Bool) → Steps (forgets_changes Bool) turns_over events (begun false) last → IsMadeOf turns_over false last.now.calls last.now.world) → ⊥
-changes_are_lost law = once_over (law lost_events (all_stored (forgets_changes Bool) again_ran) all_lost)
 
 -- ---- turns with one call each, on one slot, and then a restart
 
@@ -215,11 +138,11 @@ unfolding many slots_after after_many
 runs_next n = record {
   results = [];
   before = many n;
-  sent = record { is_due = ap due (sym (count_of n)); stand = inl refl };
+  sent = record { is_due = ap due (sym (count_of n)); sent_before = inl refl };
   ran = tt;
   leaves = λ q. refl;
-  stands = refl;
-  memory = ap (λ (o : Option Kept). record { lags = false; kept = Some (kept_of (due n)); stored = o }) (sym (none_stored n 0));
+  holds = refl;
+  memory = ap (λ (o : Option Cached). record { lags = false; kept = Some (kept_of (due n)); stored = o }) (sym (none_stored n 0));
   others = λ k apart. others_stay n k apart;
 }
 
@@ -242,9 +165,9 @@ all_turns m (suc n) = (
     one_more n m = omega arith
 
 -- the number after as many calls as a slot may lag is refused
-too_far : (o : Option Kept) (n : ℕ) → o ≡ None → n ≡ MOST_AHEAD → turn_of true o (call_of (due n)) ≡ turns.New → ⊥
+too_far : (o : Option Cached) (n : ℕ) → o ≡ None → n ≡ MOST_AHEAD → turn_of true o (call_of (due n)) ≡ turns.New → ⊥
 too_far o n none is new =
-    let refused : turn_of true None (call_of (due MOST_AHEAD)) ≡ turns.New = subst (λ (n : ℕ). turn_of true None (call_of (due n)) ≡ turns.New) is (subst (λ (o : Option Kept). turn_of true o (call_of (due n)) ≡ turns.New) none new) in cc
+    let refused : turn_of true None (call_of (due MOST_AHEAD)) ≡ turns.New = subst (λ (n : ℕ). turn_of true None (call_of (due n)) ≡ turns.New) is (subst (λ (o : Option Cached). turn_of true o (call_of (due n)) ≡ turns.New) none new) in cc
 
 is_refused : (n : ℕ) → n ≡ MOST_AHEAD → ((events : List Event) (last : Server (Unit {0})) → Steps (forgets_calls (Unit {0})) does_nothing events (after_many 0) last → ActsOnce does_nothing tt last.now) → ⊥
 unfolding many slots_after after_many

@@ -1,4 +1,3 @@
 pub mod Turning
-pub mod Comparing
 pub mod Forgetting
 pub mod Recording

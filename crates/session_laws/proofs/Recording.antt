@@ -3,15 +3,15 @@ use Rattle.std.proofs.Common.{◌≡◌, ℕ, ◌+◌, ◌%◌, ◌^◌, ◌<◌
 use Rattle.session_slots.specs.declared.client.Created.{Created}
 use Rattle.session_slots.specs.declared.client.Creation.{Creation}
 use Rattle.session_slots.specs.Counting.{due, accepted, newest, last_number}
-use Rattle.session_slots.specs.Creating.{number_of, is_accepted, keeps, RecordStandsFor}
+use Rattle.session_slots.specs.Creating.{number_of, is_accepted, keeps, RecordRepresents}
 use Rattle.session_slots.specs.Limits.{MOST_OWNER}
-use Rattle.session_slots.specs.Orderly.{is_kept_result, has_creation_form, has_form, IsIn, IsOrderly}
+use Rattle.session_slots.specs.Orderly.{is_cached_result, has_creation_form, has_form, IsIn, IsOrderly}
 use Rattle.session_slots.specs.Registry.{Client, Registry}
-use Rattle.session_slots.proofs.Histories.{stands_for, same_number}
+use Rattle.session_slots.proofs.Histories.{represents_history, same_number}
 
 -- a result that is kept is that of a call that was accepted (`_` is `Status` of `nfs_types`, which this crate does
 -- not use)
-kept_is_accepted : (result : Result Created _) → is_kept_result result ≡ true → is_accepted result ≡ true
+kept_is_accepted : (result : Result Created _) → is_cached_result result ≡ true → is_accepted result ≡ true
 kept_is_accepted result h = grind (arith, h)
 
 -- n calls with this result and the numbers from 1 on, the newest first
@@ -45,11 +45,11 @@ newest_if true false x acc e f = cc
 newest_if false k x acc e f = cc
 
 -- a call that is kept, after calls with the numbers before it
-pub some_history : (last : Option Creation) → has_creation_form last ≡ true → last_number number_of last < 2 ^ 32 → (history : List Creation) × RecordStandsFor last history
+pub some_history : (last : Option Creation) → has_creation_form last ≡ true → last_number number_of last < 2 ^ 32 → (history : List Creation) × RecordRepresents last history
 some_history None form h = ([], record { kept = refl; number = refl })
 some_history (Some c) form h = (
   c ∷ count_up c (count_before c.number),
-  stands_for number_of keeps (Some c) (c ∷ count_up c (count_before c.number))
+  represents_history number_of keeps (Some c) (c ∷ count_up c (count_before c.number))
       (newest_if (c.number == due (length (accepted number_of keeps (count_up c (count_before c.number))))) (is_accepted c.result) c (accepted number_of keeps (count_up c (count_before c.number)))
       (same_number _ _ (sym (ap due (all_accepted c (kept_is_accepted c.result form) (count_before c.number)) ∙ due_before c.number h))) (kept_is_accepted c.result form)),
 )
@@ -60,16 +60,16 @@ short_owner : (long form : Bool) → (if long then false else form) ≡ true →
 short_owner true form h = cc
 short_owner false form h = h
 
-client_history : (c : Client) → has_form c ≡ true → last_number number_of c.created < 2 ^ 32 → (history : List Creation) × RecordStandsFor c.created history
+client_history : (c : Client) → has_form c ≡ true → last_number number_of c.created < 2 ^ 32 → (history : List Creation) × RecordRepresents c.created history
 client_history c form h = some_history c.created (short_owner (nat_lt MOST_OWNER (length c.owner)) (has_creation_form c.created) form) h
 
-pub orderly_history : (r : Registry) (e : ℕ × Client) → IsOrderly r → IsIn e r.clients → last_number number_of e.1.created < 2 ^ 32 → (history : List Creation) × RecordStandsFor e.1.created history
+pub orderly_history : (r : Registry) (e : ℕ × Client) → IsOrderly r → IsIn e r.clients → last_number number_of e.1.created < 2 ^ 32 → (history : List Creation) × RecordRepresents e.1.created history
 orderly_history r e orderly is_in h = client_history e.1 (orderly.formed e is_in) h
 
 -- ---- a record that is found
 
 abbrev HasHistory : Client → Type 0
-HasHistory c = (history : List Creation) × RecordStandsFor c.created history
+HasHistory c = (history : List Creation) × RecordRepresents c.created history
 
 pub no_client : (found : Option Client) → None ≡ found → IfSome found HasHistory
 no_client found is = subst (λ f. IfSome f HasHistory) is tt

@@ -4,12 +4,12 @@ use Rattle.session_slots.specs.declared.slot.Turn.{Turn}
 use Rattle.session_slots.specs.declared.slot.Turn.TheVariants as turns
 use Rattle.session_slots.specs.Limits.{MOST_AHEAD, WRITTEN_EVERY}
 use Rattle.session_slots.specs.Counting.{due, ahead, is_next, newest, last_number}
-use Rattle.session_slots.specs.Slots.{Call, Kept, number_of, old_turn, turn_of}
+use Rattle.session_slots.specs.Slots.{Call, Cached, number_of, old_turn, turn_of}
 use Rattle.session_slots.specs.Acting.{Memory, Entry, State, of_slot, GivesUp, begun_again, AreNumbered, Ran, ActsOnce}
 use Rattle.session_slots.proofs.Histories.{is_number}
-use Rattle.session_slots.proofs.Lagging.{repeat_is_not_next, below, next_between}
+use Rattle.session_slots.proofs.Lagging.{retry_is_not_next, below, next_between}
 use Rattle.session_slots.proofs.Numbered.{newest_is, not_again, is_new, never_new}
-use Rattle.session_laws.specs.Turns.{Server, IsNear, all_noted, begun, RunsIn, IfNew, Runs, MOST_IN_TURN, Ends, found, Event, Serves, Restarts, Step, Steps}
+use Rattle.session_laws.specs.Turns.{Server, IsNear, stores_turns, begun, RunsIn, IfNew, Runs, MOST_IN_TURN, Ends, found, Event, Serves, Restarts, Step, Steps}
 
 -- ---- numbers
 
@@ -31,19 +31,19 @@ abbrev entries : ℕ → List Entry → List Entry
 entries slot [] = []
 entries slot (e ∷ calls) = if e.slot == slot then e ∷ entries slot calls else entries slot calls
 
-abbrev keeps : List Entry → List Kept
+abbrev keeps : List Entry → List Cached
 keeps [] = []
 keeps (e ∷ calls) = e.kept ∷ keeps calls
 
-keeps_if : (b : Bool) (e : Entry) (calls : List Entry) (of : List Kept) → of ≡ keeps calls → (if b then e.kept ∷ of else of) ≡ keeps (if b then e ∷ calls else calls)
-keeps_if true e calls of h = ap (λ (ks : List Kept). e.kept ∷ ks) h
+keeps_if : (b : Bool) (e : Entry) (calls : List Entry) (of : List Cached) → of ≡ keeps calls → (if b then e.kept ∷ of else of) ≡ keeps (if b then e ∷ calls else calls)
+keeps_if true e calls of h = ap (λ (ks : List Cached). e.kept ∷ ks) h
 keeps_if false e calls of h = h
 
 keeps_all : (slot : ℕ) (calls : List Entry) → of_slot slot calls ≡ keeps (entries slot calls)
 keeps_all slot [] = refl
 keeps_all slot (e ∷ calls) = keeps_if (e.slot == slot) e (entries slot calls) (of_slot slot calls) (keeps_all slot calls)
 
-of_none : (b : Bool) (x : Kept) (rest : List Kept) → (if b then x ∷ rest else rest) ≡ [] → (b ≡ false) × (rest ≡ [])
+of_none : (b : Bool) (x : Cached) (rest : List Cached) → (if b then x ∷ rest else rest) ≡ [] → (b ≡ false) × (rest ≡ [])
 of_none true x rest h = cc
 of_none false x rest h = (refl, h)
 
@@ -69,13 +69,13 @@ rest_there slot other (e ∷ newer) older lost is apart = ap (λ (rest : List En
 -- ---- the stored call of a slot, and the calls after it
 
 -- n of these calls came after the stored one, each in a turn that stored nothing
-abbrev After : Option Kept → List Entry → ℕ → Type 0
+abbrev After : Option Cached → List Entry → ℕ → Type 0
 After stored calls zero = stored ≡ newest (keeps calls)
 After stored [] (suc n) = ⊥
 After stored (e ∷ calls) (suc n) = (e.written ≡ false) × After stored calls n
 
 -- how many calls were stored, by the number of the stored one
-record Counted (stored : Option Kept) (calls : List Entry) (n : ℕ) : Type 0 where
+record Counted (stored : Option Cached) (calls : List Entry) (n : ℕ) : Type 0 where
   before : ℕ
   number : last_number number_of stored ≡ before % 2 ^ 32
   count : length (keeps calls) ≡ before + n
@@ -86,7 +86,7 @@ none_after n = omega arith
 one_after : (m n l : ℕ) → l ≡ m + n → suc l ≡ m + suc n
 one_after m n l h = omega (arith, h)
 
-counted : (stored : Option Kept) (calls : List Entry) (n : ℕ) → AreNumbered (keeps calls) → After stored calls n → Counted stored calls n
+counted : (stored : Option Cached) (calls : List Entry) (n : ℕ) → AreNumbered (keeps calls) → After stored calls n → Counted stored calls n
 counted stored calls zero numbered is = record {
   before = length (keeps calls);
   number = ap (last_number number_of) is ∙ newest_is (keeps calls) numbered;
@@ -98,7 +98,7 @@ counted stored (e ∷ calls) (suc n) numbered after =
     record { before = c.before; number = c.number; count = one_after c.before n (length (keeps calls)) c.count }
 
 -- fewer than so many calls came after the stored one
-record Lags (stored : Option Kept) (calls : List Entry) (most : ℕ) : Type 0 where
+record Lags (stored : Option Cached) (calls : List Entry) (most : ℕ) : Type 0 where
   count : ℕ
   after : After stored calls count
   few : count < most
@@ -144,16 +144,16 @@ module _ {World : Type 0} (run : Call → World → List ℕ → World → Type 
   added_numbered true e rest h n = (h refl, n)
   added_numbered false e rest h n = n
 
-  added_here : (stores : Bool) (x : Kept) (m : Memory) (old : Option Kept) (e : Entry) (rest : List Entry) (count : ℕ) → m ≡ record { lags = false; kept = Some x; stored = old } → e.kept ≡ x → e.written ≡ stores →
+  added_here : (stores : Bool) (x : Cached) (m : Memory) (old : Option Cached) (e : Entry) (rest : List Entry) (count : ℕ) → m ≡ record { lags = false; kept = Some x; stored = old } → e.kept ≡ x → e.written ≡ stores →
       (stores ≡ false → Lags old rest (MOST_AHEAD + count)) → Holds stores m (e ∷ rest) (suc count)
   added_here stores x m old e rest count is same w h =
       subst (λ (m : Memory). Holds stores m (e ∷ rest) (suc count)) (sym is) (record {
-        kept = ap (λ (x : Kept). Some x) (sym same);
+        kept = ap (λ (x : Cached). Some x) (sym same);
         lagging = λ q. cc;
         waiting = λ q. let l = h q in record { count = suc l.count; after = (w ∙ q, l.after); few = one_more l.count MOST_AHEAD count l.few };
       })
 
-  added_if : (stores : Bool) (slot : ℕ) (call : Call) (old new : State World) (count : ℕ) (r : RunsIn (all_noted World) run stores (slot, call) old new) →
+  added_if : (stores : Bool) (slot : ℕ) (call : Call) (old new : State World) (count : ℕ) (r : RunsIn (stores_turns World) run stores (slot, call) old new) →
       Ready stores old slot r.before count → (k : ℕ) (b : Bool) → (slot == k) ≡ b →
       Holds stores (new.slots k) (if b then record { slot = slot; kept = record { call = call; results = r.results }; written = stores } ∷ entries k r.before else entries k r.before) (suc count)
   added_if stores slot call old new count r ready k true q =
@@ -163,17 +163,17 @@ module _ {World : Type 0} (run : Call → World → List ℕ → World → Type 
       subst (λ (m : Memory). Holds stores m (entries k r.before) (suc count)) (sym (r.others k (is_apart slot k q)))
       (goes_on stores (old.slots k) (entries k r.before) count (ready.there k (is_apart slot k q)))
 
-  added : (stores : Bool) (slot : ℕ) (call : Call) (old new : State World) (count : ℕ) (r : RunsIn (all_noted World) run stores (slot, call) old new) →
+  added : (stores : Bool) (slot : ℕ) (call : Call) (old new : State World) (count : ℕ) (r : RunsIn (stores_turns World) run stores (slot, call) old new) →
       Ready stores old slot r.before count → Lives stores new (suc count)
   added stores slot call old new count r ready =
       let e : Entry = record { slot = slot; kept = record { call = call; results = r.results }; written = stores } in
       record {
-        ran = subst (λ (cs : List Entry). Ran run first cs new.world) (sym r.stands) (old.world, ready.ran, r.ran, r.leaves);
-        numbered = λ k. subst (λ (cs : List Entry). AreNumbered (keeps (entries k cs))) (sym r.stands)
+        ran = subst (λ (cs : List Entry). Ran run first cs new.world) (sym r.holds) (old.world, ready.ran, r.ran, r.leaves);
+        numbered = λ k. subst (λ (cs : List Entry). AreNumbered (keeps (entries k cs))) (sym r.holds)
             (added_numbered (slot == k) e (entries k r.before)
-            (λ q. r.sent.is_due ∙ ap (λ (cs : List Kept). due (length cs)) (keeps_all slot r.before) ∙ ap (λ (k : ℕ). due (length (keeps (entries k r.before)))) (is_equal slot k q))
+            (λ q. r.sent.is_due ∙ ap (λ (cs : List Cached). due (length cs)) (keeps_all slot r.before) ∙ ap (λ (k : ℕ). due (length (keeps (entries k r.before)))) (is_equal slot k q))
             (ready.numbered k));
-        holds = λ k. subst (λ (cs : List Entry). Holds stores (new.slots k) (entries k cs) (suc count)) (sym r.stands) (added_if stores slot call old new count r ready k (slot == k) refl);
+        holds = λ k. subst (λ (cs : List Entry). Holds stores (new.slots k) (entries k cs) (suc count)) (sym r.holds) (added_if stores slot call old new count r ready k (slot == k) refl);
       }
 
   -- ---- what a new call finds, where all calls stand
@@ -203,7 +203,7 @@ module _ {World : Type 0} (run : Call → World → List ℕ → World → Type 
   }
 
   -- the stored call isn't the one that was given up
-  one_less : (stored : Option Kept) (lost : Entry) (calls : List Entry) (count most : ℕ) → (stored ≡ Some lost.kept → ⊥) → After stored (lost ∷ calls) count → count < most → (lost.written ≡ false) × Lags stored calls most
+  one_less : (stored : Option Cached) (lost : Entry) (calls : List Entry) (count most : ℕ) → (stored ≡ Some lost.kept → ⊥) → After stored (lost ∷ calls) count → count < most → (lost.written ≡ false) × Lags stored calls most
   one_less stored lost calls zero most apart after few = absurd (apart after)
   one_less stored lost calls (suc n) most apart after few = (after.0, record { count = n; after = after.1; few = fewer n most few })
     where
@@ -239,15 +239,15 @@ module _ {World : Type 0} (run : Call → World → List ℕ → World → Type 
   lost_count slot calls before lost p = ap (λ (cs : List Entry). length (keeps cs)) p.here
 
   due_before : (slot number : ℕ) (before : List Entry) → number ≡ due (length (of_slot slot before)) → number ≡ due (length (keeps (entries slot before)))
-  due_before slot number before h = h ∙ ap (λ (cs : List Kept). due (length cs)) (keeps_all slot before)
+  due_before slot number before h = h ∙ ap (λ (cs : List Cached). due (length cs)) (keeps_all slot before)
 
   -- A slot that doesn't lag takes none in the place of its last call.
   in_turn : (stores : Bool) (slot : ℕ) (call : Call) (old new : State World) (count : ℕ) → Lives stores old count →
-      RunsIn (all_noted World) run stores (slot, call) old new → (call.number == due (last_number number_of (newest (keeps (entries slot old.calls))))) ≡ true → Lives stores new (suc count)
+      RunsIn (stores_turns World) run stores (slot, call) old new → (call.number == due (last_number number_of (newest (keeps (entries slot old.calls))))) ≡ true → Lives stores new (suc count)
   in_turn stores slot call old new count l r is_due =
       let number : call.number ≡ due (length (keeps (entries slot old.calls)) % 2 ^ 32) =
       is_number call.number (due (last_number number_of (newest (keeps (entries slot old.calls))))) is_due ∙ ap due (newest_is (keeps (entries slot old.calls)) (l.numbered slot)) in
-      elim r.sent.stand [
+      elim r.sent.sent_before [
         | inl is ↦ added stores slot call old new count r (ready_after stores old slot r.before count is l)
         | inr g ↦ absurd (not_again (length (keeps (entries slot r.before))) (length (keeps (entries slot old.calls))) call.number
             (lost_count slot old.calls r.before g.lost (parts_of slot old.calls r.before g)) (due_before slot call.number r.before r.sent.is_due) number)
@@ -259,50 +259,50 @@ module _ {World : Type 0} (run : Call → World → List ℕ → World → Type 
   not_stored slot number s before g numbered sent next is =
       let last : last_number number_of (s.slots slot).stored ≡ due (length (keeps (entries slot before))) = ap (last_number number_of) is ∙ lost_number slot s.calls before g.lost (parts_of slot s.calls before g) numbered in
       let small : last_number number_of (s.slots slot).stored < 2 ^ 32 = subst (λ (n : ℕ). n < 2 ^ 32) (sym last) (below (length (keeps (entries slot before)) + 1)) in
-      let clash : true ≡ false = sym next ∙ repeat_is_not_next number (last_number number_of (s.slots slot).stored) small (equal number (last_number number_of (s.slots slot).stored) (due_before slot number before sent ∙ sym last)) in cc
+      let clash : true ≡ false = sym next ∙ retry_is_not_next number (last_number number_of (s.slots slot).stored) small (equal number (last_number number_of (s.slots slot).stored) (due_before slot number before sent ∙ sym last)) in cc
 
   after_restart : (stores : Bool) (slot : ℕ) (call : Call) (old new : State World) (count : ℕ) → Lives stores old count →
-      RunsIn (all_noted World) run stores (slot, call) old new → (old.slots slot).lags ≡ true → is_next true (last_number number_of (old.slots slot).stored) call.number ≡ true → Lives stores new (suc count)
+      RunsIn (stores_turns World) run stores (slot, call) old new → (old.slots slot).lags ≡ true → is_next true (last_number number_of (old.slots slot).stored) call.number ≡ true → Lives stores new (suc count)
   after_restart stores slot call old new count l r lags next =
-      elim r.sent.stand [
+      elim r.sent.sent_before [
         | inl is ↦ added stores slot call old new count r (ready_after stores old slot r.before count is l)
         | inr g ↦ added stores slot call old new count r (ready_without stores old slot r.before count g (not_stored slot call.number old r.before g (l.numbered slot) r.sent.is_due next) lags l)
       ]
 
   -- ---- the calls of a turn
 
-  kept_now : (b : Bool) (m : Memory) (stored now : Option Kept) → m.lags ≡ b → m.kept ≡ (if m.lags then stored else now) → m.kept ≡ (if b then stored else now)
+  kept_now : (b : Bool) (m : Memory) (stored now : Option Cached) → m.lags ≡ b → m.kept ≡ (if m.lags then stored else now) → m.kept ≡ (if b then stored else now)
   kept_now b m stored now is h = h ∙ ap (λ b. if b then stored else now) is
 
   taken : (stores lags : Bool) (slot : ℕ) (call : Call) (old new : State World) (count : ℕ) → (old.slots slot).lags ≡ lags →
-      turn_of lags (old.slots slot).kept call ≡ turns.New → RunsIn (all_noted World) run stores (slot, call) old new → Lives stores old count → Lives stores new (suc count)
+      turn_of lags (old.slots slot).kept call ≡ turns.New → RunsIn (stores_turns World) run stores (slot, call) old new → Lives stores old count → Lives stores new (suc count)
   taken stores false slot call old new count is t r l =
       let kept : (old.slots slot).kept ≡ newest (keeps (entries slot old.calls)) = kept_now false (old.slots slot) (old.slots slot).stored (newest (keeps (entries slot old.calls))) is (l.holds slot).kept in
       in_turn stores slot call old new count l r
-      (ap (λ (k : Option Kept). call.number == due (last_number number_of k)) (sym kept) ∙ is_new (is_next false (last_number number_of (old.slots slot).kept) call.number) (old_turn (old.slots slot).kept call) t (never_new (old.slots slot).kept call))
+      (ap (λ (k : Option Cached). call.number == due (last_number number_of k)) (sym kept) ∙ is_new (is_next false (last_number number_of (old.slots slot).kept) call.number) (old_turn (old.slots slot).kept call) t (never_new (old.slots slot).kept call))
   taken stores true slot call old new count is t r l =
       let kept : (old.slots slot).kept ≡ (old.slots slot).stored = kept_now true (old.slots slot) (old.slots slot).stored (newest (keeps (entries slot old.calls))) is (l.holds slot).kept in
       after_restart stores slot call old new count l r is
-      (ap (λ (k : Option Kept). is_next true (last_number number_of k) call.number) (sym kept) ∙ is_new (is_next true (last_number number_of (old.slots slot).kept) call.number) (old_turn (old.slots slot).kept call) t (never_new (old.slots slot).kept call))
+      (ap (λ (k : Option Cached). is_next true (last_number number_of k) call.number) (sym kept) ∙ is_new (is_next true (last_number number_of (old.slots slot).kept) call.number) (old_turn (old.slots slot).kept call) t (never_new (old.slots slot).kept call))
 
   waits : (stores : Bool) (s : State World) (count : ℕ) → Lives stores s count → Lives stores s (suc count)
   waits stores s count l = record { ran = l.ran; numbered = l.numbered; holds = λ k. goes_on stores (s.slots k) (entries k s.calls) count (l.holds k) }
 
-  came : (stores : Bool) (t : Turn) (slot : ℕ) (call : Call) (old new : State World) (count : ℕ) → turn_of (old.slots slot).lags (old.slots slot).kept call ≡ t →
-      IfNew t (RunsIn (all_noted World) run stores (slot, call) old new) (new ≡ old) → Lives stores old count → Lives stores new (suc count)
-  came stores turns.New slot call old new count is h l = taken stores (old.slots slot).lags slot call old new count refl is h l
-  came stores turns.Repeat slot call old new count is h l = subst (λ s. Lives stores s (suc count)) (sym h) (waits stores old count l)
-  came stores (turns.Refused status) slot call old new count is h l = subst (λ s. Lives stores s (suc count)) (sym h) (waits stores old count l)
+  reached : (stores : Bool) (t : Turn) (slot : ℕ) (call : Call) (old new : State World) (count : ℕ) → turn_of (old.slots slot).lags (old.slots slot).kept call ≡ t →
+      IfNew t (RunsIn (stores_turns World) run stores (slot, call) old new) (new ≡ old) → Lives stores old count → Lives stores new (suc count)
+  reached stores turns.New slot call old new count is h l = taken stores (old.slots slot).lags slot call old new count refl is h l
+  reached stores turns.Repeat slot call old new count is h l = subst (λ s. Lives stores s (suc count)) (sym h) (waits stores old count l)
+  reached stores (turns.Refused status) slot call old new count is h l = subst (λ s. Lives stores s (suc count)) (sym h) (waits stores old count l)
 
-  all_came : (stores : Bool) (calls : List (ℕ × Call)) (old new : State World) (count : ℕ) → Runs (all_noted World) run stores calls old new →
+  all_arrived : (stores : Bool) (calls : List (ℕ × Call)) (old new : State World) (count : ℕ) → Runs (stores_turns World) run stores calls old new →
       Lives stores old count → Lives stores new (length calls + count)
-  all_came stores [] old new count h l = subst (λ s. Lives stores s (0 + count)) (sym h) (subst (λ (n : ℕ). Lives stores old n) (none_before count) l)
+  all_arrived stores [] old new count h l = subst (λ s. Lives stores s (0 + count)) (sym h) (subst (λ (n : ℕ). Lives stores old n) (none_before count) l)
     where
       none_before : (n : ℕ) → n ≡ 0 + n
       none_before n = omega arith
-  all_came stores (c ∷ calls) old new count h l =
+  all_arrived stores (c ∷ calls) old new count h l =
       subst (λ (n : ℕ). Lives stores new n) (one_before (length calls) count)
-      (all_came stores calls h.0 new (suc count) h.2 (came stores (turn_of (old.slots c.0).lags (old.slots c.0).kept c.1) c.0 c.1 old h.0 count refl h.1 l))
+      (all_arrived stores calls h.0 new (suc count) h.2 (reached stores (turn_of (old.slots c.0).lags (old.slots c.0).kept c.1) c.0 c.1 old h.0 count refl h.1 l))
     where
       one_before : (m n : ℕ) → m + suc n ≡ suc m + n
       one_before m n = omega arith
@@ -326,7 +326,7 @@ module _ {World : Type 0} (run : Call → World → List ℕ → World → Type 
   -- the slot was stored
   stored_if : (b stores : Bool) (m : Memory) (calls : List Entry) (count : ℕ) → m.lags ≡ b → Holds stores m calls count → Lags m.kept calls MOST_AHEAD
   stored_if true stores m calls count is h =
-      subst (λ (o : Option Kept). Lags o calls MOST_AHEAD) (sym (kept_now true m m.stored (newest (keeps calls)) is h.kept)) (h.lagging is)
+      subst (λ (o : Option Cached). Lags o calls MOST_AHEAD) (sym (kept_now true m m.stored (newest (keeps calls)) is h.kept)) (h.lagging is)
   stored_if false stores m calls count is h = record { count = 0; after = kept_now false m m.stored (newest (keeps calls)) is h.kept; few = some_ahead }
 
   same_if : (b : Bool) (m : Memory) (calls : List Entry) (stores : Bool) (count : ℕ) → m.lags ≡ b → Holds stores m calls count → m.kept ≡ (if b then m.kept else newest (keeps calls))
@@ -355,7 +355,7 @@ module _ {World : Type 0} (run : Call → World → List ℕ → World → Type 
   below_end : (n count : ℕ) → n < MOST_AHEAD + count → count < MOST_IN_TURN → n < 2 ^ 32
   below_end n count h few = omega (arith, h, few)
 
-  near_lags : (stored kept : Option Kept) (calls : List Entry) (count : ℕ) → AreNumbered (keeps calls) → kept ≡ newest (keeps calls) → Lags stored calls (MOST_AHEAD + count) → count < MOST_IN_TURN → IsNear stored kept → Lags stored calls MOST_AHEAD
+  near_lags : (stored kept : Option Cached) (calls : List Entry) (count : ℕ) → AreNumbered (keeps calls) → kept ≡ newest (keeps calls) → Lags stored calls (MOST_AHEAD + count) → count < MOST_IN_TURN → IsNear stored kept → Lags stored calls MOST_AHEAD
   near_lags stored kept calls count numbered is l most near =
       let c = counted stored calls l.count numbered l.after in
       let few : l.count < 2 ^ 32 = below_end l.count count l.few most in
@@ -383,7 +383,7 @@ module _ {World : Type 0} (run : Call → World → List ℕ → World → Type 
       let l = waited_if m.lags m calls count refl numbered most near h in
       record { kept = h.kept; lagging = λ q. l; waiting = λ q. record { count = l.count; after = l.after; few = none_more l.count MOST_AHEAD l.few } }
 
-  ended : (stores : Bool) (calls : List (ℕ × Call)) (stored : World) (s : State World) (new : Server World) → Ends (all_noted World) stores calls stored s new →
+  ended : (stores : Bool) (calls : List (ℕ × Call)) (stored : World) (s : State World) (new : Server World) → Ends (stores_turns World) stores calls stored s new →
       Lives stores s (length calls) → Rests new
   ended true calls stored s new h l = subst (λ s. Rests s) (sym h) (record {
     lives = record { ran = l.ran; numbered = l.numbered; holds = λ k. stored_all true (s.slots k) (entries k s.calls) (length calls) (l.holds k) };
@@ -400,12 +400,12 @@ module _ {World : Type 0} (run : Call → World → List ℕ → World → Type 
   begins : (stores : Bool) (m : Memory) (calls : List Entry) → Holds false m calls 0 → Holds stores m calls 0
   begins stores m calls h = record { kept = h.kept; lagging = h.lagging; waiting = λ q. h.waiting refl }
 
-  served : (stores : Bool) (calls : List (ℕ × Call)) (old new : Server World) → Step (all_noted World) run (Serves calls stores) old new →
+  served : (stores : Bool) (calls : List (ℕ × Call)) (old new : Server World) → Step (stores_turns World) run (Serves calls stores) old new →
       Rests old → Rests new
   served stores calls old new h r =
       let l : Lives stores old.now 0 = record { ran = r.lives.ran; numbered = r.lives.numbered; holds = λ k. begins stores (old.now.slots k) (entries k old.now.calls) (r.lives.holds k) } in
       ended stores calls old.stored h.0 new h.2
-      (subst (λ (n : ℕ). Lives stores h.0 n) (all_of (length calls)) (all_came stores calls old.now h.0 0 h.1 l))
+      (subst (λ (n : ℕ). Lives stores h.0 n) (all_of (length calls)) (all_arrived stores calls old.now h.0 0 h.1 l))
     where
       all_of : (n : ℕ) → n + 0 ≡ n
       all_of n = omega arith
@@ -427,11 +427,11 @@ module _ {World : Type 0} (run : Call → World → List ℕ → World → Type 
     stored = refl;
   }
 
-  stepped : (event : Event) (old new : Server World) → Step (all_noted World) run event old new → Rests old → Rests new
+  stepped : (event : Event) (old new : Server World) → Step (stores_turns World) run event old new → Rests old → Rests new
   stepped (Serves calls stores) old new h r = served stores calls old new h r
   stepped Restarts old new h r = subst (λ s. Rests s) (sym h) (restarted old r)
 
-  goes_on_from : (events : List Event) (old new : Server World) → Steps (all_noted World) run events old new → Rests old → Rests new
+  goes_on_from : (events : List Event) (old new : Server World) → Steps (stores_turns World) run events old new → Rests old → Rests new
   goes_on_from [] old new h r = subst (λ s. Rests s) (sym h) r
   goes_on_from (event ∷ events) old new h r = goes_on_from events h.0 new h.2 (stepped event old h.0 h.1 r)
 
@@ -471,7 +471,7 @@ module _ {World : Type 0} (run : Call → World → List ℕ → World → Type 
   new_if true t h = refl
   new_if false t h = cc
 
-  pub acts_once : (events : List Event) (last : Server World) → Steps (all_noted World) run events (begun first) last → ActsOnce run first last.now
+  pub acts_once : (events : List Event) (last : Server World) → Steps (stores_turns World) run events (begun first) last → ActsOnce run first last.now
   acts_once events last h =
       let r = goes_on_from events (begun first) last h (at_first) in
       record {
@@ -482,5 +482,5 @@ module _ {World : Type 0} (run : Call → World → List ℕ → World → Type 
             (due_before slot call.number last.now.calls number));
       }
 
-  pub is_stored : (events : List Event) (last : Server World) → Steps (all_noted World) run events (begun first) last → last.stored ≡ last.now.world
+  pub is_stored : (events : List Event) (last : Server World) → Steps (stores_turns World) run events (begun first) last → last.stored ≡ last.now.world
   is_stored events last h = (goes_on_from events (begun first) last h (at_first)).stored

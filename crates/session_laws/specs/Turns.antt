@@ -5,7 +5,7 @@ use Rattle.session_slots.specs.declared.slot.Turn.{Turn}
 use Rattle.session_slots.specs.declared.slot.Turn.TheVariants as turns
 use Rattle.session_slots.specs.Limits.{WRITTEN_EVERY}
 use Rattle.session_slots.specs.Counting.{ahead, last_number}
-use Rattle.session_slots.specs.Slots.{Call, Kept, number_of, turn_of}
+use Rattle.session_slots.specs.Slots.{Call, Cached, number_of, turn_of}
 use Rattle.session_slots.specs.Acting.{Memory, Entry, State, unused, Sends, begun_again}
 
 -- A server between two turns, and the world as it was stored last. A slot has its stored call beside the one that it
@@ -25,24 +25,20 @@ begun w = record { now = unused w; stored = w }
 pub record Rule (World : Type 0) : Type 1 where
   pub settled : Memory → Memory
   pub leaves : World → World → Type 0
-  pub near : Option Kept → Option Kept → Type 0
+  pub near : Option Cached → Option Cached → Type 0
 
 -- with the call that it keeps
-abbrev pub with_kept : Memory → Memory
-with_kept m = record m { stored = m.kept }
+abbrev pub with_cached : Memory → Memory
+with_cached m = record m { stored = m.kept }
 
 -- fewer than 2^20 calls came after the stored one, modulo 2^32
-abbrev pub IsNear : Option Kept → Option Kept → Type 0
+abbrev pub IsNear : Option Cached → Option Cached → Type 0
 IsNear stored kept =
     (stored ≡ kept) ⊎ (ahead (last_number number_of stored) (last_number number_of kept) < WRITTEN_EVERY)
 
--- Some changes are noted: of each call of a turn in which nothing was noted, this is known.
-abbrev pub some_noted : {World : Type 0} → (World → World → Type 0) → Rule World
-some_noted leaves = record { settled = with_kept; leaves = leaves; near = IsNear }
-
--- Each change is noted: where nothing was noted, each call has left the world as it was.
-abbrev pub all_noted : (World : Type 0) → Rule World
-all_noted World = some_noted (λ old new. new ≡ old)
+-- A turn is stored unless each of its calls has left the world as it was.
+abbrev pub stores_turns : (World : Type 0) → Rule World
+stores_turns World = record { settled = with_cached; leaves = λ old new. new ≡ old; near = IsNear }
 
 -- A turn has fewer calls: it is given at most 131,072 bytes of each of 16 connections, 2^21 bytes in all, and a call
 -- has more than two bytes. This is a part of the rule, since numbers are modulo 2^32: after 2^32 calls in one turn a
@@ -67,7 +63,7 @@ pub record RunsIn {World : Type 0} (rule : Rule World) (run : Call → World →
   pub sent : Sends c.0 old.calls c.1.number before
   pub ran : run c.1 old.world results new.world
   pub leaves : stores ≡ false → rule.leaves old.world new.world
-  pub stands : new.calls
+  pub holds : new.calls
       ≡ record { slot = c.0; kept = record { call = c.1; results = results }; written = stores } ∷ before
   pub memory : new.slots c.0 ≡ record {
     lags = false;
@@ -127,19 +123,3 @@ abbrev pub Steps : {World : Type 0} → Rule World → (Call → World → List 
 Steps rule run [] old new = new ≡ old
 Steps {World} rule run (event ∷ events) old new =
     (mid : Server World) × Step rule run event old mid × Steps rule run events mid new
-
--- ---- worlds that don't come back
-
--- calls lead from one world to another, and this is known of each
-abbrev pub Leads : {World : Type 0} → (Call → World → List ℕ → World → Type 0) → (World → World → Type 0) → List Call →
-    World → World → Type 0
-Leads run leaves [] old new = new ≡ old
-Leads {World} run leaves (call ∷ calls) old new =
-    (results : List ℕ) × (mid : World) × run call old results mid × leaves old mid × Leads run leaves calls mid new
-
--- After a call that changed the world, further calls of a turn in which nothing is noted never lead back to it.
-abbrev pub NeverReturns : {World : Type 0} → (Call → World → List ℕ → World → Type 0) → (World → World → Type 0) →
-    Type 0
-NeverReturns {World} run leaves =
-    (call : Call) (results : List ℕ) (calls : List Call) (old new : World) → length calls < MOST_IN_TURN →
-    run call old results new → leaves old new → Leads run leaves calls new old → new ≡ old

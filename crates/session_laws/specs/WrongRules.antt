@@ -1,28 +1,20 @@
--- Three wrong rules of what is stored, and when: of each the law is false.
-use Rattle.std.specs.Prelude.{◌≡◌, ℕ, ◌+◌, Bool, not, List, [], ◌∷◌}
+-- Two wrong rules of what is stored, and when: of each the law is false.
+use Rattle.std.specs.Prelude.{◌≡◌, ℕ, ◌+◌, List, [], ◌∷◌}
 use Rattle.session_slots.specs.Slots.{Call}
 use Rattle.session_slots.specs.Acting.{Entry}
-use Rattle.session_laws.specs.Turns.{Rule, some_noted, all_noted}
+use Rattle.session_laws.specs.Turns.{Rule, stores_turns}
 
 -- The world is stored without the slots.
 abbrev pub forgets_slots : (World : Type 0) → Rule World
-forgets_slots World = record (all_noted World) { settled = λ m. m }
-
--- A turn that ends with the stored world may store nothing, whatever its calls did to it.
-abbrev pub forgets_changes : (World : Type 0) → Rule World
-forgets_changes World = some_noted (λ old new. Unit {0})
+forgets_slots World = record (stores_turns World) { settled = λ m. m }
 
 -- A turn that changed nothing may store nothing, however many calls came on a slot.
 abbrev pub forgets_calls : (World : Type 0) → Rule World
-forgets_calls World = record (all_noted World) { near = λ stored kept. Unit {0} }
+forgets_calls World = record (stores_turns World) { near = λ stored kept. Unit {0} }
 
 -- a number that each call raises by one
 abbrev pub counts : Call → ℕ → List ℕ → ℕ → Type 0
 counts call old results new = new ≡ old + 1
-
--- a bit that each call turns over
-abbrev pub turns_over : Call → Bool → List ℕ → Bool → Type 0
-turns_over call old results new = new ≡ not old
 
 -- a world with nothing in it
 abbrev pub does_nothing : Call → Unit {0} → List ℕ → Unit {0} → Type 0

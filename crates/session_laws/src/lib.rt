@@ -9,6 +9,6 @@ mod turns;
 
 pub use records::{every_client_has_a_history, every_record_has_a_history};
 pub use turns::{
-    Noted, a_rule_that_forgets_calls_refuses_them, a_rule_that_forgets_changes_loses_them,
-    a_rule_that_forgets_slots_acts_twice, what_is_compared_acts_once, what_turns_change_acts_once,
+    a_rule_that_forgets_calls_refuses_them, a_rule_that_forgets_slots_acts_twice,
+    what_turns_change_acts_once,
 };

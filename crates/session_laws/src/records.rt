@@ -2,7 +2,7 @@
 ghost use Rattle.std.specs.Prelude.{◌≡◌, ℕ, ◌<◌, ◌^◌, true, List, Option, IfSome};
 ghost use Rattle.session_slots.specs.declared.client.Creation.{Creation};
 ghost use Rattle.session_slots.specs.Counting.{last_number};
-ghost use Rattle.session_slots.specs.Creating.{number_of, RecordStandsFor};
+ghost use Rattle.session_slots.specs.Creating.{number_of, RecordRepresents};
 ghost use Rattle.session_slots.specs.Orderly.{has_creation_form, IsIn, IsOrderly};
 ghost use Rattle.session_slots.specs.Registry.{Client, Registry, client_at};
 
@@ -14,9 +14,9 @@ use std::alloc::Allocator;
 #[tactic(auto, using(crate::proofs::Recording::some_history, crate::proofs::Recording::orderly_history))]
 pub fn every_record_has_a_history()
     ensures formed { (last : Option Creation) → has_creation_form last ≡ true → last_number number_of last < 2 ^ 32 →
-        (history : List Creation) × RecordStandsFor last history }
+        (history : List Creation) × RecordRepresents last history }
     ensures orderly { (r : Registry) (e : ℕ × Client) → IsOrderly r → IsIn e r.clients →
-        last_number number_of e.1.created < 2 ^ 32 → (history : List Creation) × RecordStandsFor e.1.created history }
+        last_number number_of e.1.created < 2 ^ 32 → (history : List Creation) × RecordRepresents e.1.created history }
 {}
 
 /// The sequence ID of a record that is read is below 2^32, by its type.
@@ -29,7 +29,7 @@ fn number_fits(kept: Record<'_>)
 #[tactic(auto, using(crate::proofs::Recording::no_client))]
 pub fn every_client_has_a_history<A: Allocator + Copy>(clients: &Clients<A>, client: u64)
     ensures { IfSome (client_at clients.now client)
-        (λ c. (history : List Creation) × RecordStandsFor c.created history) }
+        (λ c. (history : List Creation) × RecordRepresents c.created history) }
 {
     if let Some(kept) = clients.record(client) {
         number_fits(kept);

@@ -1,17 +1,11 @@
 //! Turns of a server that are stored whole or not at all, and restarts between them.
-ghost use Rattle.std.specs.Prelude.{◌≡◌, ℕ, Bool, List, false};
+ghost use Rattle.std.specs.Prelude.{◌≡◌, ℕ, List};
 ghost use Rattle.session_slots.specs.Acting.{ActsOnce};
-ghost use Rattle.session_laws.specs.Turns.{Server, Event, Steps, NeverReturns, all_noted, begun, some_noted};
-ghost use Rattle.session_laws.specs.WrongRules.{IsMadeOf, counts, does_nothing, turns_over};
-ghost use Rattle.session_laws.specs.WrongRules.{forgets_calls, forgets_changes, forgets_slots};
+ghost use Rattle.session_laws.specs.Turns.{Server, Event, Steps, begun, stores_turns};
+ghost use Rattle.session_laws.specs.WrongRules.{IsMadeOf, counts, does_nothing};
+ghost use Rattle.session_laws.specs.WrongRules.{forgets_calls, forgets_slots};
 
 use session_slots::World;
-
-/// A world of which some changes are noted.
-pub trait Noted: World {
-    /// From which world to which each call may lead in a turn in which nothing was noted.
-    ghost leaves: { Self → Self → Type 0 };
-}
 
 /// However calls come in turns on many slots that change one world, and whenever the server starts again between turns:
 /// the world is what the calls that stand, of all slots, made of the first one, each run once and in turn, and of each
@@ -24,20 +18,9 @@ pub trait Noted: World {
 #[tactic(auto, using(crate::proofs::Turning::acts_once, crate::proofs::Turning::is_stored))]
 pub fn what_turns_change_acts_once<W: World>()
     ensures once { (events : List Event) (first : W) (last : Server W) →
-        Steps (all_noted W) W.run events (begun first) last → ActsOnce W.run first last.now }
+        Steps (stores_turns W) W.run events (begun first) last → ActsOnce W.run first last.now }
     ensures stored { (events : List Event) (first : W) (last : Server W) →
-        Steps (all_noted W) W.run events (begun first) last → last.stored ≡ last.now.world }
-{}
-
-/// So it is where only some changes are noted, and a turn in which none was noted is stored unless it ends with the
-/// world that is stored. It rests on this, too: after a call that changed the world, further calls of such a turn never
-/// lead back to it.
-#[tactic(auto, using(crate::proofs::Comparing::acts_once, crate::proofs::Comparing::is_stored))]
-pub fn what_is_compared_acts_once<W: Noted>()
-    ensures once { NeverReturns W.run W.leaves → (events : List Event) (first : W) (last : Server W) →
-        Steps (some_noted W.leaves) W.run events (begun first) last → ActsOnce W.run first last.now }
-    ensures stored { NeverReturns W.run W.leaves → (events : List Event) (first : W) (last : Server W) →
-        Steps (some_noted W.leaves) W.run events (begun first) last → last.stored ≡ last.now.world }
+        Steps (stores_turns W) W.run events (begun first) last → last.stored ≡ last.now.world }
 {}
 
 /// The law is false of a server that stores the world without the slots (`forgets_slots`): a call that stands once was
@@ -47,15 +30,6 @@ pub fn a_rule_that_forgets_slots_acts_twice()
     ensures { ((events : List Event) (last : Server ℕ) →
         Steps (forgets_slots ℕ) counts events (begun 0) last →
         IsMadeOf counts 0 last.now.calls last.now.world) → ⊥ }
-{}
-
-/// It is false of one that compares worlds alone (`forgets_changes`), where calls lead back to a world: one call of a
-/// turn undoes another, and is run again after a restart.
-#[tactic(auto, using(crate::proofs::Forgetting::changes_are_lost))]
-pub fn a_rule_that_forgets_changes_loses_them()
-    ensures { ((events : List Event) (last : Server Bool) →
-        Steps (forgets_changes Bool) turns_over events (begun false) last →
-        IsMadeOf turns_over false last.now.calls last.now.world) → ⊥ }
 {}
 
 /// It is false of one that lets a slot lag by 2^20 calls (`forgets_calls`): the next number of the slot isn't new.

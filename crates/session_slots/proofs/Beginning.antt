@@ -13,20 +13,20 @@ use Rattle.session_slots.specs.declared.slot.Turn.TheVariants as turns
 use Rattle.session_slots.specs.Slots.{Place, turn_of, begun}
 use Rattle.session_slots.specs.Registry.{Session, Registry, client_at, session_at, place_at}
 use Rattle.session_slots.specs.Orderly.{IsOrderly}
-use Rattle.session_slots.specs.Sequencing.{Asked, grant_fault, place_turn, turn_unless, begun_unless, session_turn, session_begun, begin_of, begin_in, sequence_begin, sequence_begun, turn_told, SequencesByHistory, StandsIn}
+use Rattle.session_slots.specs.Sequencing.{Asked, grant_fault, place_turn, turn_unless, begun_unless, session_turn, session_begun, begin_of, begin_in, sequence_begin, sequence_begun, turn_of_begin, SequencesByHistory, HasSlot}
 use Rattle.session_slots.proofs.Lagging.{begins_by}
 use Rattle.session_slots.proofs.Found.{lookup_changed, slice_get_set}
 use Rattle.session_slots.proofs.Members.{lookup_in, found_is_some}
 
-told_back : (client : ℕ) (granted : Channel) (t : Turn) → turn_told (begin_of client granted t) ≡ t
-told_back client granted turns.New = refl
-told_back client granted turns.Repeat = refl
-told_back client granted (turns.Refused status) = refl
+turn_of_begin_is : (client : ℕ) (granted : Channel) (t : Turn) → turn_of_begin (begin_of client granted t) ≡ t
+turn_of_begin_is client granted turns.New = refl
+turn_of_begin_is client granted turns.Repeat = refl
+turn_of_begin_is client granted (turns.Refused status) = refl
 
 turn_is : (r : Registry) (session : ℕ) (a : Asked) (s : Session) (p : Place) → session_at r session ≡ Some s → grant_fault s.granted a ≡ None → slice_get s.slots a.slot ≡ Some p →
-    turn_told (sequence_begin r session a) ≡ turn_of p.lags p.kept a.call
+    turn_of_begin (sequence_begin r session a) ≡ turn_of p.lags p.kept a.call
 turn_is r session a s p is_s free is_p =
-    ap (λ (o : Option Session). turn_told (begin_in o a)) is_s ∙ told_back s.client s.granted (session_turn s a)
+    ap (λ (o : Option Session). turn_of_begin (begin_in o a)) is_s ∙ turn_of_begin_is s.client s.granted (session_turn s a)
     ∙ ap (λ (g : Option Status). turn_unless g s a) free ∙ ap (λ (o : Option Place). place_turn o a.call) is_p
 
 begun_is : (a : Asked) (s : Session) (p : Place) → grant_fault s.granted a ≡ None → slice_get s.slots a.slot ≡ Some p → slice_get (session_begun s a).slots a.slot ≡ Some (begun p a.call)
@@ -48,11 +48,11 @@ sequences_by_history old new session a answer is_answer is_new = record {
   by_history = λ s p is_s free is_p. (
     begun p a.call,
     ap (λ (r : Registry). place_at r session a.slot) is_new ∙ place_is old session a s p is_s free is_p,
-    begins_by p (begun p a.call) a.call (turn_told answer) (ap turn_told is_answer ∙ turn_is old session a s p is_s free is_p) refl,
+    begins_by p (begun p a.call) a.call (turn_of_begin answer) (ap turn_of_begin is_answer ∙ turn_is old session a s p is_s free is_p) refl,
   );
 }
 
--- ---- a new call stands in its session
+-- ---- the session and the slot of a new call
 
 granted_if : (t u v w : Bool) (i j k l : Status) → (if t then Some i else if u then Some j else if v then Some k else if w then Some l else None) ≡ None → v ≡ false
 granted_if true u v w i j k l h = cc
@@ -84,9 +84,9 @@ home_is r session s orderly is_s =
     let home = orderly.at_home (session, s) (lookup_in session r.sessions s is_s) in
     found_is_some (client_at r s.client) home.0 home.1
 
-new_stands : (old new : Registry) (session : ℕ) (a : Asked) (s : Session) (t : Turn) → IsOrderly old → session_at old session ≡ Some s → new ≡ sequence_begun old session a → grant_fault s.granted a ≡ None →
-    StandsIn new session a.slot (begin_of s.client s.granted t)
-new_stands old new session a s turns.New orderly is_s is_new free =
+new_represents : (old new : Registry) (session : ℕ) (a : Asked) (s : Session) (t : Turn) → IsOrderly old → session_at old session ≡ Some s → new ≡ sequence_begun old session a → grant_fault s.granted a ≡ None →
+    HasSlot new session a.slot (begin_of s.client s.granted t)
+new_represents old new session a s turns.New orderly is_s is_new free =
     let within : a.slot < s.granted.slots = is_granted s.granted a free in
     let within_bounds = orderly.within (session, s) (lookup_in session old.sessions s is_s) in
     let same : (session_begun s a).granted ≡ s.granted = begun_granted (grant_fault s.granted a) s a in (
@@ -100,18 +100,18 @@ new_stands old new session a s turns.New orderly is_s is_new free =
       within_bounds.least,
       within_bounds.replies,
     )
-new_stands old new session a s turns.Repeat orderly is_s is_new free = tt
-new_stands old new session a s (turns.Refused status) orderly is_s is_new free = tt
+new_represents old new session a s turns.Repeat orderly is_s is_new free = tt
+new_represents old new session a s (turns.Refused status) orderly is_s is_new free = tt
 
-stands_unless : (old new : Registry) (session : ℕ) (a : Asked) (s : Session) (f : Option Status) → IsOrderly old → session_at old session ≡ Some s → new ≡ sequence_begun old session a → grant_fault s.granted a ≡ f →
-    StandsIn new session a.slot (begin_of s.client s.granted (turn_unless f s a))
-stands_unless old new session a s (Some status) orderly is_s is_new is_f = tt
-stands_unless old new session a s None orderly is_s is_new is_f = new_stands old new session a s (place_turn (slice_get s.slots a.slot) a.call) orderly is_s is_new is_f
+slot_unless : (old new : Registry) (session : ℕ) (a : Asked) (s : Session) (f : Option Status) → IsOrderly old → session_at old session ≡ Some s → new ≡ sequence_begun old session a → grant_fault s.granted a ≡ f →
+    HasSlot new session a.slot (begin_of s.client s.granted (turn_unless f s a))
+slot_unless old new session a s (Some status) orderly is_s is_new is_f = tt
+slot_unless old new session a s None orderly is_s is_new is_f = new_represents old new session a s (place_turn (slice_get s.slots a.slot) a.call) orderly is_s is_new is_f
 
-stands_if : (old new : Registry) (session : ℕ) (a : Asked) (o : Option Session) → IsOrderly old → session_at old session ≡ o → new ≡ sequence_begun old session a → StandsIn new session a.slot (begin_in o a)
-stands_if old new session a None orderly is_o is_new = tt
-stands_if old new session a (Some s) orderly is_o is_new = stands_unless old new session a s (grant_fault s.granted a) orderly is_o is_new refl
+slot_if : (old new : Registry) (session : ℕ) (a : Asked) (o : Option Session) → IsOrderly old → session_at old session ≡ o → new ≡ sequence_begun old session a → HasSlot new session a.slot (begin_in o a)
+slot_if old new session a None orderly is_o is_new = tt
+slot_if old new session a (Some s) orderly is_o is_new = slot_unless old new session a s (grant_fault s.granted a) orderly is_o is_new refl
 
-pub stands_in : (old new : Registry) (session : ℕ) (a : Asked) (answer : Begin) → IsOrderly old → answer ≡ sequence_begin old session a → new ≡ sequence_begun old session a → StandsIn new session a.slot answer
-stands_in old new session a answer orderly is_answer is_new =
-    subst (λ (b : Begin). StandsIn new session a.slot b) (sym is_answer) (stands_if old new session a (session_at old session) orderly refl is_new)
+pub slot_in : (old new : Registry) (session : ℕ) (a : Asked) (answer : Begin) → IsOrderly old → answer ≡ sequence_begin old session a → new ≡ sequence_begun old session a → HasSlot new session a.slot answer
+slot_in old new session a answer orderly is_answer is_new =
+    subst (λ (b : Begin). HasSlot new session a.slot b) (sym is_answer) (slot_if old new session a (session_at old session) orderly refl is_new)

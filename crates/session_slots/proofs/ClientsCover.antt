@@ -1,5 +1,5 @@
--- EXCHANGE_ID, CREATE_SESSION and what destroys, over sessions that cover others: they have the same
--- result, and leave sessions that cover. One that isn't kept changes nothing.
+-- EXCHANGE_ID, CREATE_SESSION and the calls that destroy, over sessions that cover others: they have the same result,
+-- and leave sessions that cover. A call that isn't logged changes nothing.
 use Rattle.std.proofs.Common.{◌≡◌, ℕ, Bool, true, false, not, ◌==◌, ◌&&◌, ◌||◌, if◌then◌else◌, nat_lt, nat_le, List, refl, sym, ap, subst, ◌∙◌, inl, inr}
 use Rattle.std.specs.Prelude.{Option, Some, None, Result, Ok, Err}
 use Rattle.std.specs.BTreeMap.{insert_entry, is_at}
@@ -13,15 +13,15 @@ use Rattle.session_slots.specs.declared.creating.Made.{Made}
 use Rattle.session_slots.specs.declared.creating.Judged.{Judged}
 use Rattle.session_slots.specs.declared.creating.Judged.TheVariants.{Answers, Refuses as RefusesSession, Makes as MakesOne}
 use Rattle.session_slots.specs.declared.exchanging.Exchanged.{Exchanged}
-use Rattle.session_slots.specs.declared.exchanging.Standing.{Standing}
-use Rattle.session_slots.specs.declared.exchanging.Standing.TheVariants.{Refuses, Knows, Makes}
+use Rattle.session_slots.specs.declared.exchanging.ExchangeDecision.{ExchangeDecision}
+use Rattle.session_slots.specs.declared.exchanging.ExchangeDecision.TheVariants.{Refuses, Knows, Makes}
 use Rattle.session_slots.specs.Counting.{due, last_number}
 use Rattle.session_slots.specs.Covering.{SessionsCover}
-use Rattle.session_slots.specs.Orderly.{is_kept_refusal}
+use Rattle.session_slots.specs.Orderly.{is_cached_refusal}
 use Rattle.session_slots.specs.Limits.{MOST_SESSIONS, LEAST_REPLY, END}
 use Rattle.session_slots.specs.Registry.{Client, Session, Registry, client_at, session_at, confirmed_entry, new_session, without_sessions}
-use Rattle.session_slots.specs.Exchanging.{Exchanging, Exchanges, ExchangesBy, flags_fault, standing, standing_behind, standing_unless}
-use Rattle.session_slots.specs.Creating.{Creates, CreatesBy, creation_fault, granted, judged, judged_due, judged_for, judged_unless, number_of, refusing, repeated}
+use Rattle.session_slots.specs.Exchanging.{Exchanging, Exchanges, ExchangesBy, flags_fault, exchange_decision, decision_by_confirmed, decision_unless}
+use Rattle.session_slots.specs.Creating.{Creates, CreatesBy, creation_fault, granted, judged, judged_due, judged_for, judged_unless, number_of, refusing, cached_result}
 use Rattle.session_slots.specs.Destroying.{no_session, destroy_session_refusal, destroy_client_refusal, busy_unless_none, without_session}
 use Rattle.session_slots.proofs.Covering.{SessionFound, session_found, same_length, same_any, without_covers, removed_covers, inserted_covers, new_covers}
 
@@ -31,45 +31,45 @@ beside sessions r = record r { sessions = sessions }
 
 -- ---- EXCHANGE_ID
 
-standing_over : (sessions : List (ℕ × Session)) (r : Registry) (a : Exchanging) → standing (beside sessions r) a ≡ standing r a
-standing_over sessions r a = of (flags_fault a.flags)
+decision_over : (sessions : List (ℕ × Session)) (r : Registry) (a : Exchanging) → exchange_decision (beside sessions r) a ≡ exchange_decision r a
+decision_over sessions r a = of (flags_fault a.flags)
   where
-    behind : (o : Option Client) → standing_behind o (beside sessions r) a ≡ standing_behind o r a
-    behind None = refl
-    behind (Some c) = refl
+    rest : (o : Option Client) → decision_by_confirmed o (beside sessions r) a ≡ decision_by_confirmed o r a
+    rest None = refl
+    rest (Some c) = refl
 
-    of : (f : Option Status) → standing_unless f (beside sessions r) a ≡ standing_unless f r a
+    of : (f : Option Status) → decision_unless f (beside sessions r) a ≡ decision_unless f r a
     of (Some status) = refl
-    of None = behind (confirmed_entry r a.owner)
+    of None = rest (confirmed_entry r a.owner)
 
-abbrev ExchangesOver : Standing → List (ℕ × Session) → Registry → Exchanging → Result Exchanged Status → Registry → Type 0
+abbrev ExchangesOver : ExchangeDecision → List (ℕ × Session) → Registry → Exchanging → Result Exchanged Status → Registry → Type 0
 ExchangesOver s sessions old a given new =
     (after : List (ℕ × Session)) × ExchangesBy s (beside sessions old) a given (beside after new) × SessionsCover after new.sessions
 
--- nothing changes of the sessions
+-- the sessions don't change
 stays_over : (sessions : List (ℕ × Session)) (old new : Registry) → SessionsCover sessions old.sessions → new.sessions ≡ old.sessions → SessionsCover sessions new.sessions
 stays_over sessions old new c is = subst (λ ss. SessionsCover sessions ss) (sym is) c
 
-exchanges_over : (s : Standing) (sessions : List (ℕ × Session)) (old : Registry) (a : Exchanging) (given : Result Exchanged Status) (new : Registry)
+exchanges_over : (s : ExchangeDecision) (sessions : List (ℕ × Session)) (old : Registry) (a : Exchanging) (given : Result Exchanged Status) (new : Registry)
     → SessionsCover sessions old.sessions → ExchangesBy s old a given new → ExchangesOver s sessions old a given new
 exchanges_over (Refuses status) sessions old a given new c e = (sessions, (e.0, ap (beside sessions) e.1), stays_over sessions old new c (ap (λ (r : Registry). r.sessions) e.1))
 exchanges_over (Knows known) sessions old a given new c e = (sessions, (e.0, ap (beside sessions) e.1), stays_over sessions old new c (ap (λ (r : Registry). r.sessions) e.1))
-exchanges_over (Makes gone) sessions old a given new c (inl e) =
-    let after = without_sessions gone sessions in
-    (after, inl (e.0, ap (beside after) e.1), subst (λ ss. SessionsCover after ss) (sym (ap (λ (r : Registry). r.sessions) e.1)) (without_covers gone sessions old.sessions c))
-exchanges_over (Makes gone) sessions old a given new c (inr e) =
+exchanges_over (Makes removed) sessions old a given new c (inl e) =
+    let after = without_sessions removed sessions in
+    (after, inl (e.0, ap (beside after) e.1), subst (λ ss. SessionsCover after ss) (sym (ap (λ (r : Registry). r.sessions) e.1)) (without_covers removed sessions old.sessions c))
+exchanges_over (Makes removed) sessions old a given new c (inr e) =
     (sessions, inr (e.0, ap (beside sessions) e.1), stays_over sessions old new c (ap (λ (r : Registry). r.sessions) e.1))
 
 pub exchange_over : (sessions : List (ℕ × Session)) (old : Registry) (a : Exchanging) (given : Result Exchanged Status) (new : Registry)
     → SessionsCover sessions old.sessions → Exchanges old a given new
     → (after : List (ℕ × Session)) × Exchanges (beside sessions old) a given (beside after new) × SessionsCover after new.sessions
 exchange_over sessions old a given new c e =
-    let over = exchanges_over (standing old a) sessions old a given new c e in
-    (over.0, subst (λ s. ExchangesBy s (beside sessions old) a given (beside over.0 new)) (sym (standing_over sessions old a)) over.1, over.2)
+    let over = exchanges_over (exchange_decision old a) sessions old a given new c e in
+    (over.0, subst (λ s. ExchangesBy s (beside sessions old) a given (beside over.0 new)) (sym (decision_over sessions old a)) over.1, over.2)
 
 -- ---- CREATE_SESSION
 
--- by how many sessions there are
+-- by the number of sessions
 abbrev fault_of : ℕ → Client → Registry → Create → Option Status
 fault_of count c r a =
     if not c.confirmed && not (c.uid == a.uid) then Some statuses.ClidInUse
@@ -87,15 +87,15 @@ judged_over sessions r a covers = of (client_at r a.client)
     faults : (c : Client) → creation_fault c (beside sessions r) a ≡ creation_fault c r a
     faults c = ap (λ count. fault_of count c r a) (same_length sessions r.sessions covers)
 
-    behind : (kept : Option (Result Created Status)) (c : Client) → judged_unless kept c (beside sessions r) a ≡ judged_unless kept c r a
-    behind (Some kept) c = refl
-    behind None c =
+    rest : (kept : Option (Result Created Status)) (c : Client) → judged_unless kept c (beside sessions r) a ≡ judged_unless kept c r a
+    rest (Some kept) c = refl
+    rest None c =
         ap (λ (j : Judged). if a.sequence == due (last_number number_of c.created) then j else Answers (refusing statuses.SeqMisordered))
         (due_over (creation_fault c (beside sessions r) a) c ∙ ap (λ f. judged_due f c r a) (faults c))
 
     of : (o : Option Client) → judged_for o (beside sessions r) a ≡ judged_for o r a
     of None = refl
-    of (Some c) = behind (repeated c.created a.sequence) c
+    of (Some c) = rest (cached_result c.created a.sequence) c
 
 abbrev CreatesOver : Judged → List (ℕ × Session) → Registry → Create → Made → Registry → Type 0
 CreatesOver j sessions old a made new =
@@ -144,34 +144,34 @@ pub client_refusal_over : (sessions : List (ℕ × Session)) (old : Registry) (c
     → destroy_client_refusal (beside sessions old) client has_opens ≡ destroy_client_refusal old client has_opens
 client_refusal_over sessions old client has_opens c = ap (busy_unless_none (client_at old client) has_opens) (same_any client sessions old.sessions c)
 
--- ---- what isn't kept
+-- ---- calls that aren't logged
 
 -- an EXCHANGE_ID that isn't OK changes nothing
 pub exchange_stays : (old : Registry) (a : Exchanging) (given : Result Exchanged Status) (new : Registry) → Exchanges old a given new
     → ((known : Exchanged) → given ≡ Ok known → ⊥) → new ≡ old
-exchange_stays old a given new e none = of (standing old a) e
+exchange_stays old a given new e none = of (exchange_decision old a) e
   where
-    of : (s : Standing) → ExchangesBy s old a given new → new ≡ old
+    of : (s : ExchangeDecision) → ExchangesBy s old a given new → new ≡ old
     of (Refuses status) e = e.1
     of (Knows known) e = absurd (none known e.0)
-    of (Makes gone) (inl e) = absurd (none _ e.0)
-    of (Makes gone) (inr e) = e.1
+    of (Makes removed) (inl e) = absurd (none _ e.0)
+    of (Makes removed) (inr e) = e.1
 
--- a refusal of CREATE_SESSION is cached only where it is one of these; and no client goes with an answer
+-- a refusal of CREATE_SESSION is cached only if it is one of these; and no client is removed with an answer
 abbrev Cached : Judged → Type 0
-Cached (Answers answer) = answer.gone ≡ None
-Cached (RefusesSession status) = is_kept_refusal status ≡ true
+Cached (Answers answer) = answer.removed ≡ None
+Cached (RefusesSession status) = is_cached_refusal status ≡ true
 Cached (MakesOne other) = Unit {0}
 
 faults_cached : (a b c : Bool) (status : Status)
     → (if a then Some statuses.ClidInUse else if b then Some statuses.TooSmall else if c then Some statuses.NoSpc else None) ≡ Some status
-    → is_kept_refusal status ≡ true
-faults_cached true b c status is = let same : statuses.ClidInUse ≡ status = cc in subst (λ s. is_kept_refusal s ≡ true) same refl
-faults_cached false true c status is = let same : statuses.TooSmall ≡ status = cc in subst (λ s. is_kept_refusal s ≡ true) same refl
-faults_cached false false true status is = let same : statuses.NoSpc ≡ status = cc in subst (λ s. is_kept_refusal s ≡ true) same refl
+    → is_cached_refusal status ≡ true
+faults_cached true b c status is = let same : statuses.ClidInUse ≡ status = cc in subst (λ s. is_cached_refusal s ≡ true) same refl
+faults_cached false true c status is = let same : statuses.TooSmall ≡ status = cc in subst (λ s. is_cached_refusal s ≡ true) same refl
+faults_cached false false true status is = let same : statuses.NoSpc ≡ status = cc in subst (λ s. is_cached_refusal s ≡ true) same refl
 faults_cached false false false status is = cc
 
-due_cached : (f : Option Status) (c : Client) (r : Registry) (a : Create) → ((status : Status) → f ≡ Some status → is_kept_refusal status ≡ true) → Cached (judged_due f c r a)
+due_cached : (f : Option Status) (c : Client) (r : Registry) (a : Create) → ((status : Status) → f ≡ Some status → is_cached_refusal status ≡ true) → Cached (judged_due f c r a)
 due_cached (Some status) c r a each = each status refl
 due_cached None c r a each = tt
 
@@ -187,21 +187,21 @@ unless_cached None c r a =
 
 for_cached : (o : Option Client) (r : Registry) (a : Create) → Cached (judged_for o r a)
 for_cached None r a = refl
-for_cached (Some c) r a = unless_cached (repeated c.created a.sequence) c r a
+for_cached (Some c) r a = unless_cached (cached_result c.created a.sequence) c r a
 
--- nothing of clients changes, and no client goes
+-- no client changes, and none is removed
 abbrev pub Stays : Registry → Made → Registry → Type 0
-Stays old made new = (new ≡ old) × (made.gone ≡ None)
+Stays old made new = (new ≡ old) × (made.removed ≡ None)
 
 create_stays_by : (j : Judged) → Cached j → (old : Registry) (a : Create) (made : Made) (new : Registry) → CreatesBy j old a made new
-    → ((created : Created) → made.result ≡ Ok created → ⊥) → ((status : Status) → made.result ≡ Err status → is_kept_refusal status ≡ false) → Stays old made new
-create_stays_by (Answers answer) cached old a made new e none refused = (e.1, ap (λ (m : Made). m.gone) e.0 ∙ cached)
+    → ((created : Created) → made.result ≡ Ok created → ⊥) → ((status : Status) → made.result ≡ Err status → is_cached_refusal status ≡ false) → Stays old made new
+create_stays_by (Answers answer) cached old a made new e none refused = (e.1, ap (λ (m : Made). m.removed) e.0 ∙ cached)
 create_stays_by (RefusesSession status) cached old a made new e none refused =
     let never : true ≡ false = sym cached ∙ refused status (ap (λ (m : Made). m.result) e.0) in cc
 create_stays_by (MakesOne other) cached old a made new (inl e) none refused = absurd (none _ (ap (λ (m : Made). m.result) e.0))
-create_stays_by (MakesOne other) cached old a made new (inr e) none refused = (e.1, ap (λ (m : Made). m.gone) e.0)
+create_stays_by (MakesOne other) cached old a made new (inr e) none refused = (e.1, ap (λ (m : Made). m.removed) e.0)
 
--- a CREATE_SESSION that is neither OK nor refused so changes nothing
+-- a CREATE_SESSION that is neither OK nor refused with a cached refusal changes nothing
 pub create_stays : (old : Registry) (a : Create) (made : Made) (new : Registry) → Creates old a made new
-    → ((created : Created) → made.result ≡ Ok created → ⊥) → ((status : Status) → made.result ≡ Err status → is_kept_refusal status ≡ false) → Stays old made new
+    → ((created : Created) → made.result ≡ Ok created → ⊥) → ((status : Status) → made.result ≡ Err status → is_cached_refusal status ≡ false) → Stays old made new
 create_stays old a made new e none refused = create_stays_by (judged old a) (for_cached (client_at old a.client) old a) old a made new e none refused

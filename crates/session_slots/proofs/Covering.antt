@@ -1,6 +1,6 @@
 -- Sessions that cover others, after the same change of both.
 use Rattle.std.proofs.Common.{◌≡◌, ◌<◌, ℕ, zero, suc, Bool, true, false, cond, not, ◌==◌, ◌||◌, List, refl, sym, ap, subst, ◌∙◌, length, arith, inl}
-use Rattle.std.specs.Prelude.{[], ◌∷◌, ◌^◌, Option, Some, None, slice_get, set, filter, replicate}
+use Rattle.std.specs.Prelude.{[], ◌∷◌, ◌^◌, Option, Some, None, slice_get, set, filter, map, replicate}
 use Rattle.std.specs.List.{list_any}
 use Rattle.std.specs.Option.{option_map_or}
 use Rattle.std.specs.Map.{lookup, set_value, remove_entry, values_of}
@@ -11,12 +11,12 @@ use Rattle.std.specs.declared.cmp.Ordering.TheVariants.{Less, Equal, Greater}
 use Rattle.session_slots.specs.declared.session.Channel.{Channel}
 use Rattle.session_slots.specs.Registry.{Session, changed_place, new_session, without_sessions}
 use Rattle.session_slots.specs.Slots.{Place}
-use Rattle.session_slots.specs.Covering.{PlaceCovers, PlacesCover, SessionCovers, SessionsCover}
+use Rattle.session_slots.specs.Covering.{PlaceCovers, PlacesCover, SessionCovers, SessionsCover, lagging, session_lagging}
 
 -- ---- slots
 
-pub changed_behind : (slot : ℕ) (f : Place → Place) (p : Place) (places : List Place) → changed_place (suc slot) f (p ∷ places) ≡ p ∷ changed_place slot f places
-changed_behind slot f p places = of (slice_get places slot)
+pub changed_after : (slot : ℕ) (f : Place → Place) (p : Place) (places : List Place) → changed_place (suc slot) f (p ∷ places) ≡ p ∷ changed_place slot f places
+changed_after slot f p places = of (slice_get places slot)
   where
     of : (o : Option Place) → option_map_or (λ x. set (p ∷ places) (suc slot) (f x)) o (p ∷ places) ≡ p ∷ option_map_or (λ x. set places slot (f x)) o places
     of None = refl
@@ -30,13 +30,13 @@ places_changed f g slot [] (p ∷ ps) c goes = absurd c
 places_changed f g slot (q ∷ qs) [] c goes = absurd c
 places_changed f g zero (q ∷ qs) (p ∷ ps) c goes = (goes q p refl refl c.0, c.1)
 places_changed f g (suc slot) (q ∷ qs) (p ∷ ps) c goes =
-    subst (λ xs. PlacesCover xs (changed_place (suc slot) g (p ∷ ps))) (sym (changed_behind slot f q qs))
-    (subst (λ xs. PlacesCover (q ∷ changed_place slot f qs) xs) (sym (changed_behind slot g p ps)) (c.0, places_changed f g slot qs ps c.1 goes))
+    subst (λ xs. PlacesCover xs (changed_place (suc slot) g (p ∷ ps))) (sym (changed_after slot f q qs))
+    (subst (λ xs. PlacesCover (q ∷ changed_place slot f qs) xs) (sym (changed_after slot g p ps)) (c.0, places_changed f g slot qs ps c.1 goes))
 
 pub same_place : (slot : ℕ) (ps : List Place) → changed_place slot (λ p. p) ps ≡ ps
 same_place slot [] = refl
 same_place zero (p ∷ ps) = refl
-same_place (suc slot) (p ∷ ps) = changed_behind slot (λ x. x) p ps ∙ ap (λ xs. p ∷ xs) (same_place slot ps)
+same_place (suc slot) (p ∷ ps) = changed_after slot (λ x. x) p ps ∙ ap (λ xs. p ∷ xs) (same_place slot ps)
 
 -- two places that may be absent
 abbrev pub PlaceFound : Option Place → Option Place → Type 0
@@ -61,7 +61,7 @@ fresh_places (suc n) p c = (c, fresh_places n p c)
 abbrev pub changed : (ℕ → Bool) → (Session → Session) → List (ℕ × Session) → List (ℕ × Session)
 changed test f sessions = option_map_or (λ s. set_value test sessions (f s)) (lookup test sessions) sessions
 
--- of the first session, by whether it passes the test
+-- the first session after the change, by whether it passes the test
 pub changed_by : (test : ℕ → Bool) (f : Session → Session) (d : ℕ × Session) (qs : List (ℕ × Session)) (b : Bool) → test d.0 ≡ b
     → changed test f (d ∷ qs) ≡ cond b ((d.0, f d.1) ∷ qs) (d ∷ changed test f qs)
 changed_by test f d qs b is =
@@ -81,7 +81,7 @@ changed_by test f d qs b is =
 pub lookup_by : (test : ℕ → Bool) (d : ℕ × Session) (qs : List (ℕ × Session)) (b : Bool) → test d.0 ≡ b → lookup test (d ∷ qs) ≡ cond b (Some d.1) (lookup test qs)
 lookup_by test d qs b is = ap (λ b. cond b (Some d.1) (lookup test qs)) is
 
--- what is done to a session that is found covers what is done to the other
+-- a change of a session that is found covers the change of the other
 abbrev pub Goes : (ℕ → Bool) → (Session → Session) → (Session → Session) → List (ℕ × Session) → List (ℕ × Session) → Type 0
 Goes test f g qs ss = (q s : Session) → lookup test qs ≡ Some q → lookup test ss ≡ Some s → SessionCovers q s → SessionCovers (f q) (g s)
 
@@ -148,7 +148,7 @@ same_any client (d ∷ qs) (e ∷ ss) c =
     ap (λ n. (n == client) || list_any (λ (s : Session). s.client == client) (values_of qs)) c.1.client
     ∙ ap (λ b. (e.1.client == client) || b) (same_any client qs ss c.2)
 
--- ---- sessions that go or come
+-- ---- sessions that are removed or added
 
 left_step : (b : Bool) (d e : ℕ × Session) (qs ss : List (ℕ × Session)) → d.0 ≡ e.0 → SessionCovers d.1 e.1 → SessionsCover qs ss
     → SessionsCover (cond b (d ∷ qs) qs) (cond b (e ∷ ss) ss)
@@ -165,7 +165,7 @@ left_covers client (d ∷ qs) (e ∷ ss) c =
     subst (λ b. SessionsCover (filter stays (d ∷ qs)) (cond b (e ∷ filter stays ss) (filter stays ss))) (ap (λ n. not (n == client)) c.1.client)
     (left_step (stays d) d e (filter stays qs) (filter stays ss) c.0 c.1 (left_covers client qs ss c.2))
 
-pub without_covers : (gone : Option ℕ) (qs ss : List (ℕ × Session)) → SessionsCover qs ss → SessionsCover (without_sessions gone qs) (without_sessions gone ss)
+pub without_covers : (removed : Option ℕ) (qs ss : List (ℕ × Session)) → SessionsCover qs ss → SessionsCover (without_sessions removed qs) (without_sessions removed ss)
 without_covers None qs ss c = c
 without_covers (Some client) qs ss c = left_covers client qs ss c
 
@@ -207,3 +207,19 @@ new_covers client granted = record {
   granted = refl;
   slots = fresh_places granted.slots _ (record { arguments = refl; results = refl; number = omega arith; kept = inl refl });
 }
+
+-- ---- all slots lag
+
+places_lag : (qs ps : List Place) → PlacesCover qs ps → PlacesCover (map lagging qs) ps
+places_lag [] [] c = tt
+places_lag [] (p ∷ ps) c = absurd c
+places_lag (q ∷ qs) [] c = absurd c
+places_lag (q ∷ qs) (p ∷ ps) c =
+    (record { arguments = c.0.arguments; results = c.0.results; number = c.0.number; kept = c.0.kept }, places_lag qs ps c.1)
+
+pub all_lag_covers : (qs ss : List (ℕ × Session)) → SessionsCover qs ss → SessionsCover (map (λ e. (e.0, session_lagging e.1)) qs) ss
+all_lag_covers [] [] c = tt
+all_lag_covers [] (e ∷ ss) c = absurd c
+all_lag_covers (d ∷ qs) [] c = absurd c
+all_lag_covers (d ∷ qs) (e ∷ ss) c =
+    (c.0, record { client = c.1.client; granted = c.1.granted; slots = places_lag d.1.slots e.1.slots c.1.slots }, all_lag_covers qs ss c.2)

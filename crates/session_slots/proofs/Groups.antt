@@ -6,7 +6,7 @@ use Rattle.std.specs.List.Sorted.{IsStrictlySortedBy, IsStrictlyIncreasing}
 use Rattle.std.proofs.lemmas.Map.Keys.{sorted_head, sorted_tail, sorted_from_strictly_increasing}
 use Rattle.std.specs.List.{list_any, AllByRecursion}
 use Rattle.rpc_record.specs.Identity.{with_group}
-use Rattle.session_slots.specs.FormViews.{is_above}
+use Rattle.session_slots.specs.internal.FormViews.{is_above}
 
 or_false : (b c : Bool) → not (b || c) ≡ true → (b ≡ false) × (not c ≡ true)
 or_false true c h = cc
@@ -18,7 +18,7 @@ not_less m n h = grind (arith, h)
 not_equal : (m n : ℕ) → nat_le m n ≡ false → (m == n) ≡ false
 not_equal m n h = grind (arith, h)
 
--- a group above all others goes to the end
+-- a group greater than all others goes to the end
 pub pushed : (set : List ℕ) (group : ℕ) → is_above set group ≡ true → with_group group set ≡ set ++ (group ∷ [])
 pushed [] group h = refl
 pushed (g ∷ set) group h =
@@ -42,7 +42,7 @@ above (g ∷ set) group rest h =
     ap (λ b. not (b || list_any (λ g. nat_le group g) set)) (below_of g group (at_one (λ k. nat_cmp g k ≡ Less) set rest group (sorted_head nat_cmp g (set ++ (group ∷ rest)) h)))
     ∙ above set group rest (sorted_tail nat_cmp g (set ++ (group ∷ rest)) h)
 
--- where a group isn't above those before it, the groups don't rise
+-- if a group isn't greater than those before it, the groups don't rise
 pub none_rises : (all set rest : List ℕ) (group : ℕ) → set ++ (group ∷ rest) ≡ all → is_above set group ≡ false → IsStrictlyIncreasing all → ⊥
 none_rises all set rest group is low rises =
     let high : is_above set group ≡ true = above set group rest (subst (λ (l : List ℕ). IsStrictlySortedBy nat_cmp l) (sym is) (sorted_from_strictly_increasing all rises)) in

@@ -4,7 +4,7 @@ pub mod Lagging
 pub mod Numbered
 pub mod Acting
 pub mod Places
-pub mod Repeating
+pub mod Retrying
 pub mod Found
 pub mod Groups
 pub mod Members
@@ -15,7 +15,7 @@ pub mod Orderly
 pub mod Rebuilt
 pub mod Restored
 pub mod Staying
-pub mod Told
+pub mod WrittenOnce
 pub mod Whole
 pub mod Covering
 pub mod Turns

@@ -47,26 +47,26 @@ in_filter_step : {X : Type 0} (p : X → Bool) (b : Bool) (x : X) (xs : List X) 
 in_filter_step p true x xs e t h ih = elim h [ inl q ↦ (inl q, ap p q ∙ t) | inr m ↦ let r = ih m in (inr r.0, r.1) ]
 in_filter_step p false x xs e t h ih = let r = ih h in (inr r.0, r.1)
 
--- an entry that a filter keeps was there, and passes
+-- an entry that a filter keeps was in the list, and passes
 pub in_filter : {X : Type 0} (p : X → Bool) (xs : List X) (e : X) → IsIn e (filter p xs) → IsIn e xs × (p e ≡ true)
 in_filter p [] e h = absurd h
 in_filter p (x ∷ xs) e h = in_filter_step p (p x) x xs e refl h (in_filter p xs e)
 
-found_kept_step : {X : Type 0} (k : ℕ) (p : ℕ × X → Bool) (b c : Bool) (e : ℕ × X) (es : List (ℕ × X)) (v : X) → is_at (nat_cmp k) e.0 ≡ b → p e ≡ c → p (k, v) ≡ true →
+found_cached_step : {X : Type 0} (k : ℕ) (p : ℕ × X → Bool) (b c : Bool) (e : ℕ × X) (es : List (ℕ × X)) (v : X) → is_at (nat_cmp k) e.0 ≡ b → p e ≡ c → p (k, v) ≡ true →
     cond b (Some e.1) (lookup (is_at (nat_cmp k)) es) ≡ Some v →
     (lookup (is_at (nat_cmp k)) es ≡ Some v → lookup (is_at (nat_cmp k)) (filter p es) ≡ Some v) →
     lookup (is_at (nat_cmp k)) (cond c (e ∷ filter p es) (filter p es)) ≡ Some v
-found_kept_step k p true true e es v t u pass h ih = ap (λ b. cond b (Some e.1) (lookup (is_at (nat_cmp k)) (filter p es))) t ∙ h
-found_kept_step k p true false e es v t u pass h ih =
+found_cached_step k p true true e es v t u pass h ih = ap (λ b. cond b (Some e.1) (lookup (is_at (nat_cmp k)) (filter p es))) t ∙ h
+found_cached_step k p true false e es v t u pass h ih =
     let same : e.1 ≡ v = cc in let whole : (k, v) ≡ e = pair_is k v e (is_same k e.0 t) (sym same) in
     let clash : true ≡ false = sym pass ∙ ap p whole ∙ u in cc
-found_kept_step k p false true e es v t u pass h ih = ap (λ b. cond b (Some e.1) (lookup (is_at (nat_cmp k)) (filter p es))) t ∙ ih h
-found_kept_step k p false false e es v t u pass h ih = ih h
+found_cached_step k p false true e es v t u pass h ih = ap (λ b. cond b (Some e.1) (lookup (is_at (nat_cmp k)) (filter p es))) t ∙ ih h
+found_cached_step k p false false e es v t u pass h ih = ih h
 
 -- an entry that was found and passes is found
 pub found_kept : {X : Type 0} (k : ℕ) (p : ℕ × X → Bool) (es : List (ℕ × X)) (v : X) → lookup (is_at (nat_cmp k)) es ≡ Some v → p (k, v) ≡ true → lookup (is_at (nat_cmp k)) (filter p es) ≡ Some v
 found_kept k p [] v h pass = cc
-found_kept k p (e ∷ es) v h pass = found_kept_step k p (is_at (nat_cmp k) e.0) (p e) e es v refl refl pass h (λ g. found_kept k p es v g pass)
+found_kept k p (e ∷ es) v h pass = found_cached_step k p (is_at (nat_cmp k) e.0) (p e) e es v refl refl pass h (λ g. found_kept k p es v g pass)
 
 -- ---- one value is changed
 
@@ -88,7 +88,7 @@ in_changed_if n f es e (Some x) is_o h =
       | inr b ↦ inr (x, is_o, sym (pair_is n (f x) e (is_same n e.0 b.0) (sym b.1)))
     ]
 
--- an entry after a change of one value by f was there, or has that number and f of the value that was found
+-- An entry after a change of one value was in the list. Or it has that number, and f of the value that was found.
 pub in_changed : {X : Type 0} (n : ℕ) (f : X → X) (es : List (ℕ × X)) (e : ℕ × X) →
     IsIn e (option_map_or (λ x. set_value (is_at (nat_cmp n)) es (f x)) (lookup (is_at (nat_cmp n)) es) es) → IsIn e es ⊎ ((x : X) × (lookup (is_at (nat_cmp n)) es ≡ Some x) × (e ≡ (n, f x)))
 in_changed n f es e h = in_changed_if n f es e (lookup (is_at (nat_cmp n)) es) refl h
@@ -133,7 +133,7 @@ found_insert_step k n Equal c x es v apart t u ih =
     ap (λ b. cond b (Some v) (lookup (is_at (nat_cmp k)) es)) off ∙ sym (ap (λ b. cond b (Some x.1) (lookup (is_at (nat_cmp k)) es)) off)
 found_insert_step k n Greater c x es v apart t u ih = ap (λ o. cond (is_at (nat_cmp k) x.0) (Some x.1) o) ih
 
--- beside an entry that is added the same value is found
+-- after another entry is added the same value is found
 pub found_insert : {X : Type 0} (k n : ℕ) (es : List (ℕ × X)) (v : X) → k ≢ n → lookup (is_at (nat_cmp k)) (insert_entry nat_cmp es n v) ≡ lookup (is_at (nat_cmp k)) es
 found_insert k n [] v apart = ap (λ b. cond b (Some v) None) (is_another (is_at (nat_cmp k) n) k n refl apart)
 found_insert k n (x ∷ es) v apart = found_insert_step k n (nat_cmp n x.0) (is_at (nat_cmp k) n) x es v apart refl refl (found_insert k n es v apart)
@@ -241,7 +241,7 @@ is_below m n h = grind (arith, h)
 is_itself : (n : ℕ) → (n == n) ≡ true
 is_itself n = grind arith
 
--- an entry above all others is one more
+-- an entry greater than all others makes the list one longer
 pub length_added : {X : Type 0} (p : ℕ × X → Bool) (es : List (ℕ × X)) (n : ℕ) (v : X) → ((e : ℕ × X) → IsIn e es → e.0 < n) →
     length (filter (λ e. e.0 == n || p e) (insert_entry nat_cmp es n v)) ≡ suc (length (filter p es))
 length_added {X} p [] n v below = let e : ℕ × X = (n, v) in ap (λ b. length (cond (b || p e) (e ∷ []) [])) (is_itself n)

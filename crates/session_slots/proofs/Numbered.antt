@@ -5,19 +5,19 @@ use Rattle.session_slots.specs.declared.slot.Turn.{Turn}
 use Rattle.session_slots.specs.declared.slot.Turn.TheVariants as turns
 use Rattle.session_slots.specs.Limits.{WRITTEN_EVERY}
 use Rattle.session_slots.specs.Counting.{due, newest, last_number}
-use Rattle.session_slots.specs.Slots.{Call, Kept, number_of, old_turn}
+use Rattle.session_slots.specs.Slots.{Call, Cached, number_of, old_turn}
 use Rattle.session_slots.specs.Acting.{AreNumbered}
 
 -- ---- numbers
 
-pub newest_is : (calls : List Kept) → AreNumbered calls → last_number number_of (newest calls) ≡ length calls % 2 ^ 32
+pub newest_is : (calls : List Cached) → AreNumbered calls → last_number number_of (newest calls) ≡ length calls % 2 ^ 32
 newest_is [] h = refl
 newest_is (x ∷ before) h = h.0 ∙ due_is (length before)
   where
     due_is : (n : ℕ) → due n ≡ suc n % 2 ^ 32
     due_is n = omega arith
 
--- the next number isn't that of the last call
+-- the next sequence ID isn't that of the last call
 pub not_again : (before count n : ℕ) → count ≡ suc before → n ≡ due before → n ≡ due (count % 2 ^ 32) → ⊥
 not_again before count n e f g = omega (arith, e, f, g)
 
@@ -32,7 +32,7 @@ not_new_if true true status later e = cc
 not_new_if true false status later e = cc
 not_new_if false c status later e = cc
 
-pub never_new : (kept : Option Kept) (c : Call) → old_turn kept c ≡ turns.New → ⊥
+pub never_new : (kept : Option Cached) (c : Call) → old_turn kept c ≡ turns.New → ⊥
 never_new None c e = cc
 never_new (Some k) c e = not_new_if _ _ _ _ e
 

@@ -16,7 +16,7 @@ use Rattle.session_slots.specs.Slots.{Call, Place, begun, finished, number_of, o
 use Rattle.session_slots.proofs.Numbered.{is_new, never_new}
 use Rattle.session_slots.specs.Covering.{PlaceCovers, PlacesCover, SessionCovers, SessionsCover, lagging}
 use Rattle.session_slots.specs.Keeping.{passes}
-use Rattle.session_slots.proofs.Covering.{PlaceFound, SessionFound, changed, changed_by, changed_behind, lookup_by, place_found, places_changed, same_place, same_session, session_found, sessions_changed}
+use Rattle.session_slots.proofs.Covering.{PlaceFound, SessionFound, changed, changed_by, changed_after, lookup_by, place_found, places_changed, same_place, same_session, session_found, sessions_changed}
 use Rattle.session_slots.proofs.Turns.{begun_covers, begun_new, finished_covers, idle_covers, last_of, next_covers}
 
 -- ---- after a change
@@ -24,14 +24,14 @@ use Rattle.session_slots.proofs.Turns.{begun_covers, begun_new, finished_covers,
 pub place_after : (slot : ℕ) (f : Place → Place) (ps : List Place) (p : Place) → slice_get ps slot ≡ Some p → slice_get (changed_place slot f ps) slot ≡ Some (f p)
 place_after slot f [] p is = cc
 place_after zero f (x ∷ ps) p is = let same : x ≡ p = cc in ap (λ y. Some (f y)) same
-place_after (suc slot) f (x ∷ ps) p is = ap (λ xs. slice_get xs (suc slot)) (changed_behind slot f x ps) ∙ place_after slot f ps p is
+place_after (suc slot) f (x ∷ ps) p is = ap (λ xs. slice_get xs (suc slot)) (changed_after slot f x ps) ∙ place_after slot f ps p is
 
 pub place_twice : (slot : ℕ) (f g : Place → Place) (ps : List Place) → changed_place slot g (changed_place slot f ps) ≡ changed_place slot (λ p. g (f p)) ps
 place_twice slot f g [] = refl
 place_twice zero f g (p ∷ ps) = refl
 place_twice (suc slot) f g (p ∷ ps) =
-    ap (changed_place (suc slot) g) (changed_behind slot f p ps) ∙ (changed_behind slot g p (changed_place slot f ps)
-    ∙ (ap (λ xs. p ∷ xs) (place_twice slot f g ps) ∙ sym (changed_behind slot (λ x. g (f x)) p ps)))
+    ap (changed_place (suc slot) g) (changed_after slot f p ps) ∙ (changed_after slot g p (changed_place slot f ps)
+    ∙ (ap (λ xs. p ∷ xs) (place_twice slot f g ps) ∙ sym (changed_after slot (λ x. g (f x)) p ps)))
 
 after_step : (test : ℕ → Bool) (f : Session → Session) (e : ℕ × Session) (ss : List (ℕ × Session)) (s : Session) (b : Bool) → test e.0 ≡ b
     → cond b (Some e.1) (lookup test ss) ≡ Some s → (lookup test ss ≡ Some s → lookup test (changed test f ss) ≡ Some (f s))
@@ -66,7 +66,7 @@ turn_new client granted turns.New new is = (refl, let same : new_call client gra
 turn_new client granted turns.Repeat new is = cc
 turn_new client granted (turns.Refused status) new is = cc
 
--- a session and its slot, of a call that is new on them
+-- a session and its slot, for a call that is new on them
 pub record IsNew (s : Session) (a : Asked) (new : NewCall) : Type 0 where
   pub grants : grant_fault s.granted a ≡ None
   pub place : Place
@@ -88,7 +88,7 @@ pub session_new : (s : Session) (a : Asked) (new : NewCall) → session_begin s 
 session_new s a new is =
     let turn = turn_new s.client s.granted (session_turn s a) new is in unless_new (grant_fault s.granted a) s a new refl turn.0 turn.1
 
--- and such a call is new
+-- a call that meets these conditions is new
 pub new_session_call : (s : Session) (a : Asked) (new : NewCall) → IsNew s a new → session_begin s a ≡ begins.New new
 new_session_call s a new n =
     ap (λ f. begin_of s.client s.granted (turn_unless f s a)) n.grants
@@ -98,7 +98,7 @@ new_session_call s a new n =
     turned : Bool → Turn
     turned b = if b then turns.New else old_turn n.place.kept a.call
 
--- ---- of two sessions, of which one covers the other
+-- ---- two sessions, one covering the other
 
 pub record Found (test : ℕ → Bool) (qs ss : List (ℕ × Session)) (a : Asked) (new : NewCall) : Type 0 where
   pub session : Session
@@ -125,7 +125,7 @@ place_covers None (Some y) p c is = absurd c
 place_covers (Some x) None p c is = absurd c
 place_covers (Some x) (Some y) p c is = let same : y ≡ p = cc in (x, refl, subst (λ z. PlaceCovers x z) same c)
 
--- the call is new on the other session, where its slot lags
+-- the call is new on the other session, whose slot lags
 pub new_there : (q s : Session) (a : Asked) (new : NewCall) → SessionCovers q s → IsNew s a new → IsNew (with_place a.slot lagging q) a new
 new_there q s a new c n =
     let other = place_covers (slice_get q.slots a.slot) (slice_get s.slots a.slot) n.place (place_found a.slot q.slots s.slots c.slots) n.there in
@@ -199,7 +199,7 @@ ended_there test qs ss a new results c f fits =
     (λ q s in_qs in_ss covers. session_covers q s a new results covers
     (subst (λ x. IsNew x a new) (some_same (lookup test ss) f.session s f.in_sessions in_ss) f.is_new) fits))))
 
--- ---- a call that isn't kept
+-- ---- a call that isn't logged
 
 idle_session : (q s : Session) (a : Asked) (new : NewCall) (results : List ℕ) → SessionCovers q s → (n : IsNew s a new) → a.call.number < 2 ^ 32
     → passes (last_of n.place) a.call.number ≡ false → SessionCovers q (with_place a.slot (λ p. finished p results) (session_begun s a))

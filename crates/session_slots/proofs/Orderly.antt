@@ -8,6 +8,8 @@ use Rattle.std.specs.BTreeMap.{is_at, insert_entry}
 use Rattle.std.specs.Ordering.{nat_cmp}
 use Rattle.nfs_types.specs.declared.status.Status.{Status}
 use Rattle.nfs_types.specs.declared.status.Status.TheVariants as statuses
+use Rattle.std.specs.Prelude.{[], ◌∷◌, map}
+use Rattle.std.proofs.lemmas.List.{length-map}
 use Rattle.std.proofs.lemmas.Bool.{leb-false}
 use Rattle.session_slots.specs.Limits.{MOST_CLIENTS, MOST_SESSIONS, MOST_SLOTS, MOST_BYTES, MOST_RESULTS, LEAST_REPLY, MOST_OPERATIONS, MOST_OWNER, END}
 use Rattle.session_slots.specs.Counting.{due, last_number}
@@ -17,15 +19,15 @@ use Rattle.session_slots.specs.declared.creating.Create.{Create}
 use Rattle.session_slots.specs.declared.creating.Made.{Made}
 use Rattle.session_slots.specs.declared.creating.Judged.TheVariants as judgements
 use Rattle.session_slots.specs.declared.exchanging.Exchanged.{Exchanged}
-use Rattle.session_slots.specs.declared.exchanging.Standing.{Standing}
-use Rattle.session_slots.specs.declared.exchanging.Standing.TheVariants as standings
-use Rattle.session_slots.specs.Covering.{lagging, lagging_at}
+use Rattle.session_slots.specs.declared.exchanging.ExchangeDecision.{ExchangeDecision}
+use Rattle.session_slots.specs.declared.exchanging.ExchangeDecision.TheVariants as decisions
+use Rattle.session_slots.specs.Covering.{all_lagging, lagging, lagging_at, session_lagging}
 use Rattle.session_slots.specs.Slots.{finished}
-use Rattle.session_slots.specs.Registry.{Client, Session, Registry, nobody, client_at, most_kept, session_at, is_confirmed_of, confirmed_entry, changed_client, without_record, without_sessions, new_session, with_session, with_place}
-use Rattle.session_slots.specs.Orderly.{is_kept_refusal, is_kept_result, has_creation_form, has_form, IsIn, IsWithin, IsOrderly}
+use Rattle.session_slots.specs.Registry.{Client, Session, Registry, nobody, client_at, most_cached, session_at, is_confirmed_of, confirmed_entry, changed_client, without_record, without_sessions, new_session, with_session, with_place}
+use Rattle.session_slots.specs.Orderly.{is_cached_refusal, is_cached_result, has_creation_form, has_form, IsIn, IsWithin, IsOrderly}
 use Rattle.session_slots.specs.Sequencing.{Asked, grant_fault, begun_unless, session_begun, sequence_begun}
-use Rattle.session_slots.specs.Creating.{number_of, granted, refusing, created_of, accepts, with_refusal, is_other, other_record, with_creation, judged_due, judged_unless, judged_for, CreatesBy, Creates, repeated, creation_fault}
-use Rattle.session_slots.specs.Exchanging.{Exchanging, is_unconfirmed_of, without_unconfirmed, goes, stays, new_client, with_client, flags_fault, is_full, known, standing_new, standing_behind, standing_unless, standing, ExchangesBy, Exchanges}
+use Rattle.session_slots.specs.Creating.{number_of, granted, refusing, created_of, accepts, with_refusal, is_other, other_record, with_creation, judged_due, judged_unless, judged_for, CreatesBy, Creates, cached_result, creation_fault}
+use Rattle.session_slots.specs.Exchanging.{Exchanging, is_unconfirmed_of, without_unconfirmed, goes, stays, new_client, with_client, flags_fault, is_full, confirmed_answer, decision_for_new, decision_by_confirmed, decision_unless, exchange_decision, ExchangesBy, Exchanges}
 use Rattle.session_slots.specs.Destroying.{without_session, has_sessions, busy_unless_none, destroy_client_refusal, without_client, has_reclaimed, with_reclaimed}
 use Rattle.session_slots.proofs.Found.{lookup_changed, found_passes}
 use Rattle.session_slots.proofs.Members.{lookup_in, in_filter, found_kept, in_changed, found_beside, in_insert, found_insert, in_remove, lookup_removed, found_entry, none_passes, none_of, length_filter, length_remove, length_changed, length_insert, length_added}
@@ -75,6 +77,30 @@ with_session_orderly r n f keeps grants o = record {
   sessions_end = o.sessions_end;
 }
 
+-- ---- all slots lag
+
+in_map : {X Y : Type 0} (f : X → Y) (xs : List X) (y : Y) → IsIn y (map f xs) → (x : X) × IsIn x xs × (y ≡ f x)
+in_map f [] y h = absurd h
+in_map f (x ∷ xs) y (inl is) = (x, inl refl, is)
+in_map f (x ∷ xs) y (inr h) = let more = in_map f xs y h in (more.0, inr more.1, more.2)
+
+pub all_lagged_orderly : (old new : Registry) → new ≡ all_lagging old → IsOrderly old → IsOrderly new
+all_lagged_orderly old new is o = subst IsOrderly (sym is) (record {
+  numbered = o.numbered;
+  one_confirmed = o.one_confirmed;
+  given = λ e h. let was = in_map (λ (e : ℕ × Session). (e.0, session_lagging e.1)) old.sessions e h in
+      subst (λ (e : ℕ × Session). e.0 < old.next_session) (sym was.2) (o.given was.0 was.1);
+  at_home = λ e h. let was = in_map (λ (e : ℕ × Session). (e.0, session_lagging e.1)) old.sessions e h in
+      let home = o.at_home was.0 was.1 in (home.0, ap (λ (e : ℕ × Session). client_at old e.1.client) was.2 ∙ home.1, home.2);
+  within = λ e h. let was = in_map (λ (e : ℕ × Session). (e.0, session_lagging e.1)) old.sessions e h in
+      subst (λ (e : ℕ × Session). IsWithin e.1.granted) (sym was.2) (o.within was.0 was.1);
+  formed = o.formed;
+  few_clients = o.few_clients;
+  few_sessions = subst (λ (k : ℕ). k ≤ MOST_SESSIONS) (sym (length-map old.sessions (λ (e : ℕ × Session). (e.0, session_lagging e.1)))) o.few_sessions;
+  clients_end = o.clients_end;
+  sessions_end = o.sessions_end;
+})
+
 begun_granted : (f : Option Status) (s : Session) (a : Asked) → (begun_unless f s a).granted ≡ s.granted
 begun_granted None s a = refl
 begun_granted (Some status) s a = refl
@@ -115,7 +141,7 @@ was r n f keeps e h =
       )
     ]
 
--- a confirmed record is found confirmed after a change that confirms, or keeps this
+-- the confirmed record of a client is found after a change that confirms it, or leaves it confirmed
 home_if : (clients : List (ℕ × Client)) (n k : ℕ) (f : Client → Client) (b : Bool) → ((c : Client) → c.confirmed ≡ true → (f c).confirmed ≡ true) → (n == k) ≡ b →
     (c : Client) → lookup (is_at (nat_cmp k)) clients ≡ Some c → c.confirmed ≡ true →
     (d : Client) × (lookup (is_at (nat_cmp k)) (changed_client n f clients) ≡ Some d) × (d.confirmed ≡ true)
@@ -155,15 +181,15 @@ changed_orderly r n f keeps o = record {
 pub with_reclaimed_orderly : (old : Registry) (client : ℕ) → IsOrderly old → IsOrderly (with_reclaimed old client)
 with_reclaimed_orderly old client o = changed_orderly old client has_reclaimed (record { number = λ c. refl; owner = λ owner c. refl; confirmed = λ c. refl; form = λ c h. h }) o
 
--- a short owner, with a call that may be kept
+-- a short owner, with a call that may be cached
 owner_is_short : (b d : Bool) → (if b then false else d) ≡ true → b ≡ false
 owner_is_short true d h = cc
 owner_is_short false d h = refl
 
-accepted_form : (c : Client) (a : Create) (result : Result Created Status) → is_kept_result result ≡ true → has_form c ≡ true → has_form (accepts a result c) ≡ true
-accepted_form c a result kept h = ap (λ (b : Bool). if b then false else is_kept_result result) (owner_is_short (nat_lt MOST_OWNER (length c.owner)) (has_creation_form c.created) h) ∙ kept
+accepted_form : (c : Client) (a : Create) (result : Result Created Status) → is_cached_result result ≡ true → has_form c ≡ true → has_form (accepts a result c) ≡ true
+accepted_form c a result kept h = ap (λ (b : Bool). if b then false else is_cached_result result) (owner_is_short (nat_lt MOST_OWNER (length c.owner)) (has_creation_form c.created) h) ∙ kept
 
-with_refusal_orderly : (r : Registry) (a : Create) (status : Status) → is_kept_refusal status ≡ true → IsOrderly r → IsOrderly (with_refusal r a status)
+with_refusal_orderly : (r : Registry) (a : Create) (status : Status) → is_cached_refusal status ≡ true → IsOrderly r → IsOrderly (with_refusal r a status)
 with_refusal_orderly r a status kept o =
     changed_orderly r a.client (accepts a (Err status)) (record { number = λ c. refl; owner = λ owner c. refl; confirmed = λ c. refl; form = λ c h. accepted_form c a (Err status) kept h }) o
 
@@ -261,12 +287,12 @@ length_stays : (leaving : Option ℕ) (sessions : List (ℕ × Session)) → len
 length_stays None sessions = omega arith
 length_stays (Some client) sessions = length_filter (λ e. not (e.1.client == client)) sessions
 
--- a session that stays, whose client stays
+-- a session that stays, and whose client stays
 session_stays : (leaving : Option ℕ) (sessions : List (ℕ × Session)) (e : ℕ × Session) → IsIn e (without_sessions leaving sessions) → IsIn e sessions × (not (goes leaving e.1.client) ≡ true)
 session_stays None sessions e h = (h, refl)
 session_stays (Some client) sessions e h = in_filter (λ e. not (e.1.client == client)) sessions e h
 
--- an entry after an addition was there, or is the new one
+-- an entry after an addition was in the list, or is the new one
 was_or_new : (leaving : Option ℕ) (r : Registry) (a : Exchanging) (e : ℕ × Client) → IsIn e (with_client leaving r a).clients → IsIn e r.clients ⊎ (e ≡ (r.next_client, new_client r.next_client a))
 was_or_new leaving r a e h = in_insert r.clients r.next_client (new_client r.next_client a) e (in_filter (λ e. e.0 == r.next_client || stays leaving a.owner e) (insert_entry nat_cmp r.clients r.next_client (new_client r.next_client a)) e h).0
 
@@ -341,41 +367,41 @@ made_orderly leaving r a short room o = record {
   sessions_end = o.sessions_end;
 }
 
--- a record is created where there is room
+-- a record is created if there is room
 
-new_if : (b : Bool) (other goes : Option ℕ) → (if b then standings.Refuses statuses.NoSpc else standings.Makes other) ≡ standings.Makes goes → (other ≡ goes) × (b ≡ false)
+new_if : (b : Bool) (other goes : Option ℕ) → (if b then decisions.Refuses statuses.NoSpc else decisions.Makes other) ≡ decisions.Makes goes → (other ≡ goes) × (b ≡ false)
 new_if true other goes h = cc
 new_if false other goes h = let same : other ≡ goes = cc in (same, refl)
 
-new_room : (other leaving : Option ℕ) (r : Registry) (a : Exchanging) → standing_new other r a ≡ standings.Makes leaving → is_full leaving r a ≡ false
+new_room : (other leaving : Option ℕ) (r : Registry) (a : Exchanging) → decision_for_new other r a ≡ decisions.Makes leaving → is_full leaving r a ≡ false
 new_room other leaving r a h = let n = new_if (is_full other r a) other leaving h in subst (λ (g : Option ℕ). is_full g r a ≡ false) n.0 n.1
 
-behind_room : (t u v : Bool) (known : Exchanged) (n : ℕ) (leaving : Option ℕ) (r : Registry) (a : Exchanging) →
-    (if t then (if u then standings.Knows known else standing_new None r a) else if v then standings.Refuses statuses.ClidInUse else standing_new (Some n) r a) ≡ standings.Makes leaving → is_full leaving r a ≡ false
-behind_room true true v known n leaving r a h = cc
-behind_room true false v known n leaving r a h = new_room None leaving r a h
-behind_room false u true known n leaving r a h = cc
-behind_room false u false known n leaving r a h = new_room (Some n) leaving r a h
+decision_has_room : (t u v : Bool) (confirmed_answer : Exchanged) (n : ℕ) (leaving : Option ℕ) (r : Registry) (a : Exchanging) →
+    (if t then (if u then decisions.Knows confirmed_answer else decision_for_new None r a) else if v then decisions.Refuses statuses.ClidInUse else decision_for_new (Some n) r a) ≡ decisions.Makes leaving → is_full leaving r a ≡ false
+decision_has_room true true v confirmed_answer n leaving r a h = cc
+decision_has_room true false v confirmed_answer n leaving r a h = new_room None leaving r a h
+decision_has_room false u true confirmed_answer n leaving r a h = cc
+decision_has_room false u false confirmed_answer n leaving r a h = new_room (Some n) leaving r a h
 
-found_room : (found : Option Client) (leaving : Option ℕ) (r : Registry) (a : Exchanging) → standing_behind found r a ≡ standings.Makes leaving → is_full leaving r a ≡ false
+found_room : (found : Option Client) (leaving : Option ℕ) (r : Registry) (a : Exchanging) → decision_by_confirmed found r a ≡ decisions.Makes leaving → is_full leaving r a ≡ false
 found_room None leaving r a h = new_room None leaving r a h
-found_room (Some c) leaving r a h = behind_room (c.uid == a.uid) (c.verifier == a.verifier) a.has_opens (known c) c.number leaving r a h
+found_room (Some c) leaving r a h = decision_has_room (c.uid == a.uid) (c.verifier == a.verifier) a.has_opens (confirmed_answer c) c.number leaving r a h
 
-standing_room : (fault : Option Status) (leaving : Option ℕ) (r : Registry) (a : Exchanging) → standing_unless fault r a ≡ standings.Makes leaving → is_full leaving r a ≡ false
-standing_room (Some status) leaving r a h = cc
-standing_room None leaving r a h = found_room (confirmed_entry r a.owner) leaving r a h
+decision_room : (fault : Option Status) (leaving : Option ℕ) (r : Registry) (a : Exchanging) → decision_unless fault r a ≡ decisions.Makes leaving → is_full leaving r a ≡ false
+decision_room (Some status) leaving r a h = cc
+decision_room None leaving r a h = found_room (confirmed_entry r a.owner) leaving r a h
 
-exchanged_by : (s : Standing) (r new : Registry) (a : Exchanging) (result : Result Exchanged Status) → length a.owner ≤ MOST_OWNER → standing r a ≡ s → ExchangesBy s r a result new → IsOrderly r → IsOrderly new
-exchanged_by (standings.Refuses status) r new a result short is h o = subst IsOrderly (sym h.1) o
-exchanged_by (standings.Knows known) r new a result short is h o = subst IsOrderly (sym h.1) (known_orderly r a.owner o)
-exchanged_by (standings.Makes leaving) r new a result short is h o =
+exchanged_by : (s : ExchangeDecision) (r new : Registry) (a : Exchanging) (result : Result Exchanged Status) → length a.owner ≤ MOST_OWNER → exchange_decision r a ≡ s → ExchangesBy s r a result new → IsOrderly r → IsOrderly new
+exchanged_by (decisions.Refuses status) r new a result short is h o = subst IsOrderly (sym h.1) o
+exchanged_by (decisions.Knows confirmed_answer) r new a result short is h o = subst IsOrderly (sym h.1) (known_orderly r a.owner o)
+exchanged_by (decisions.Makes leaving) r new a result short is h o =
     elim h [
-      | inl made ↦ subst IsOrderly (sym made.1) (made_orderly leaving r a short (standing_room (flags_fault a.flags) leaving r a is) o)
+      | inl made ↦ subst IsOrderly (sym made.1) (made_orderly leaving r a short (decision_room (flags_fault a.flags) leaving r a is) o)
       | inr delayed ↦ subst IsOrderly (sym delayed.1) o
     ]
 
 pub exchanges_orderly : (r new : Registry) (a : Exchanging) (result : Result Exchanged Status) → length a.owner ≤ MOST_OWNER → Exchanges r a result new → IsOrderly r → IsOrderly new
-exchanges_orderly r new a result short h o = exchanged_by (standing r a) r new a result short refl h o
+exchanges_orderly r new a result short h o = exchanged_by (exchange_decision r a) r new a result short refl h o
 
 -- ---- CREATE_SESSION
 
@@ -404,7 +430,7 @@ length_records : (leaving : Option ℕ) (clients : List (ℕ × Client)) → len
 length_records None clients = omega arith
 length_records (Some client) clients = length_filter (λ e. not (e.0 == client)) clients
 
--- without its owner's other confirmed record, which goes, a record is the only one
+-- when its owner's other confirmed record is removed, a record is the only confirmed one
 alone_if : (r : Registry) (owner : List ℕ) (n : ℕ) (g : ℕ × Client) (found : Option Client) → IsOrderly r → IsIn g r.clients → is_confirmed_of owner g.1 ≡ true → (g.1.number == n) ≡ false →
     find (is_other owner n) (values_of r.clients) ≡ found → not (goes (option_map (λ c. c.number) found) g.0) ≡ true → ⊥
 alone_if r owner n g None o m is t e stays =
@@ -520,17 +546,17 @@ has_enough c r a h = enough_if (not c.confirmed && not (c.uid == a.uid)) (nat_lt
 has_room : (c : Client) (r : Registry) (a : Create) → creation_fault c r a ≡ None → has_no_place r ≡ false
 has_room c r a h = room_if (not c.confirmed && not (c.uid == a.uid)) (nat_lt a.fore.reply_size LEAST_REPLY) (has_no_place r) statuses.ClidInUse statuses.TooSmall statuses.NoSpc h
 
-kept_if_refused : (t u v : Bool) (status : Status) → (if t then Some statuses.ClidInUse else if u then Some statuses.TooSmall else if v then Some statuses.NoSpc else None) ≡ Some status → is_kept_refusal status ≡ true
-kept_if_refused true u v status h = let is : statuses.ClidInUse ≡ status = cc in ap is_kept_refusal (sym is)
-kept_if_refused false true v status h = let is : statuses.TooSmall ≡ status = cc in ap is_kept_refusal (sym is)
-kept_if_refused false false true status h = let is : statuses.NoSpc ≡ status = cc in ap is_kept_refusal (sym is)
-kept_if_refused false false false status h = cc
+cached_if_refused : (t u v : Bool) (status : Status) → (if t then Some statuses.ClidInUse else if u then Some statuses.TooSmall else if v then Some statuses.NoSpc else None) ≡ Some status → is_cached_refusal status ≡ true
+cached_if_refused true u v status h = let is : statuses.ClidInUse ≡ status = cc in ap is_cached_refusal (sym is)
+cached_if_refused false true v status h = let is : statuses.TooSmall ≡ status = cc in ap is_cached_refusal (sym is)
+cached_if_refused false false true status h = let is : statuses.NoSpc ≡ status = cc in ap is_cached_refusal (sym is)
+cached_if_refused false false false status h = cc
 
-refusal_is_kept : (c : Client) (r : Registry) (a : Create) (status : Status) → creation_fault c r a ≡ Some status → is_kept_refusal status ≡ true
-refusal_is_kept c r a status h = kept_if_refused (not c.confirmed && not (c.uid == a.uid)) (nat_lt a.fore.reply_size LEAST_REPLY) (has_no_place r) status h
+refusal_is_cached : (c : Client) (r : Registry) (a : Create) (status : Status) → creation_fault c r a ≡ Some status → is_cached_refusal status ≡ true
+refusal_is_cached c r a status h = cached_if_refused (not c.confirmed && not (c.uid == a.uid)) (nat_lt a.fore.reply_size LEAST_REPLY) (has_no_place r) status h
 
 created_due : (fault : Option Status) (r new : Registry) (a : Create) (made : Made) (c : Client) → client_at r a.client ≡ Some c → creation_fault c r a ≡ fault → CreatesBy (judged_due fault c r a) r a made new → IsOrderly r → IsOrderly new
-created_due (Some status) r new a made c is_c is_fault h o = subst IsOrderly (sym h.1) (with_refusal_orderly r a status (refusal_is_kept c r a status is_fault) o)
+created_due (Some status) r new a made c is_c is_fault h o = subst IsOrderly (sym h.1) (with_refusal_orderly r a status (refusal_is_cached c r a status is_fault) o)
 created_due None r new a made c is_c is_fault h o =
     elim h [ inl made ↦ subst IsOrderly (sym made.1) (created_orderly r a c is_c (has_room c r a is_fault) (has_enough c r a is_fault) o) | inr delayed ↦ subst IsOrderly (sym delayed.1) o ]
 
@@ -545,25 +571,25 @@ created_unless None r new a made c is_c h o = created_if (a.sequence == due (las
 
 created_for : (found : Option Client) (r new : Registry) (a : Create) (made : Made) → client_at r a.client ≡ found → CreatesBy (judged_for found r a) r a made new → IsOrderly r → IsOrderly new
 created_for None r new a made is h o = subst IsOrderly (sym h.1) o
-created_for (Some c) r new a made is h o = created_unless (repeated c.created a.sequence) r new a made c is h o
+created_for (Some c) r new a made is h o = created_unless (cached_result c.created a.sequence) r new a made c is h o
 
 pub creates_orderly : (r new : Registry) (a : Create) (made : Made) → Creates r a made new → IsOrderly r → IsOrderly new
 creates_orderly r new a made h o = created_for (client_at r a.client) r new a made refl h o
 
--- ---- results that are kept
+-- ---- results that are cached
 
-few_behind : (n : ℕ) → n ≤ MOST_BYTES → n - 24 ≤ MOST_RESULTS
-few_behind n h = omega (arith, h)
+few_results : (n : ℕ) → n ≤ MOST_BYTES → n - 24 ≤ MOST_RESULTS
+few_results n h = omega (arith, h)
 
-kept_if : (r : Registry) (session : ℕ) (o : Option Session) → IsOrderly r → session_at r session ≡ o → most_kept o ≤ MOST_RESULTS
-kept_if r session None orderly is = lit≤ tt
-kept_if r session (Some s) orderly is = few_behind s.granted.reply_size (orderly.within (session, s) (lookup_in session r.sessions s is)).replies
+cached_if : (r : Registry) (session : ℕ) (o : Option Session) → IsOrderly r → session_at r session ≡ o → most_cached o ≤ MOST_RESULTS
+cached_if r session None orderly is = lit≤ tt
+cached_if r session (Some s) orderly is = few_results s.granted.reply_size (orderly.within (session, s) (lookup_in session r.sessions s is)).replies
 
-pub most_kept_few : (r : Registry) (session : ℕ) → IsOrderly r → most_kept (session_at r session) ≤ MOST_RESULTS
-most_kept_few r session orderly = kept_if r session (session_at r session) orderly refl
+pub most_kept_few : (r : Registry) (session : ℕ) → IsOrderly r → most_cached (session_at r session) ≤ MOST_RESULTS
+most_kept_few r session orderly = cached_if r session (session_at r session) orderly refl
 
 few_of : (m n k : ℕ) → m ≤ n → n ≤ k → m ≤ k
 few_of m n k a b = omega (arith, a, b)
 
-pub kept_are_few : (r : Registry) (session n : ℕ) → IsOrderly r → n ≤ most_kept (session_at r session) → n ≤ MOST_RESULTS
-kept_are_few r session n orderly few = few_of n (most_kept (session_at r session)) MOST_RESULTS few (most_kept_few r session orderly)
+pub kept_are_few : (r : Registry) (session n : ℕ) → IsOrderly r → n ≤ most_cached (session_at r session) → n ≤ MOST_RESULTS
+kept_are_few r session n orderly few = few_of n (most_cached (session_at r session)) MOST_RESULTS few (most_kept_few r session orderly)

@@ -1,4 +1,4 @@
--- What is read out of a registry is restored: the registry, in which every slot lags.
+-- What is read out of a registry and restored makes the registry, in which every slot lags.
 use Rattle.std.proofs.Common.{◌≡◌, ◌≢◌, ◌⊎◌, inl, inr, ℕ, ◌+◌, ◌<◌, ◌≤◌, ◌&&◌, Bool, true, false, not, nat_lt, nat_le, cond, List, [], ◌∷◌, ◌++◌, map, find, length, slice_get, set, replicate, suc, Option, Some, None, is_some, is_none, All, refl, sym, ap, ◌∙◌, subst, arith}
 use Rattle.std.specs.Option.{option_map, option_map_or, option_and_then, IfSome}
 use Rattle.std.specs.Map.{lookup, set_value, keys_of, values_of}
@@ -14,8 +14,8 @@ use Rattle.std.proofs.lemmas.Map.Keys.{sorted_head, sorted_tail}
 use Rattle.std.proofs.lemmas.Cmp.{nat_list_eq_equiv}
 use Rattle.session_slots.specs.declared.session.Channel.{Channel}
 use Rattle.session_slots.specs.Limits.{MOST_CLIENTS, MOST_SESSIONS, MOST_SLOTS, MOST_BYTES, LEAST_REPLY, MOST_OPERATIONS}
-use Rattle.session_slots.specs.Slots.{Kept, Place, restored}
-use Rattle.session_slots.specs.Registry.{Client, Session, Registry, client_at, session_at, is_confirmed_of, changed_place, changed_session, with_place, kept_size, restored_session}
+use Rattle.session_slots.specs.Slots.{Cached, Place, restored}
+use Rattle.session_slots.specs.Registry.{Client, Session, Registry, client_at, session_at, is_confirmed_of, changed_place, changed_session, with_place, cache_size, restored_session}
 use Rattle.session_slots.specs.Orderly.{has_form, IsIn, IsWithin}
 use Rattle.session_slots.specs.Restoring.{IsRising, number_from, record_fits, with_record, is_within, is_home, session_fits, with_restored, slot_fits, kept_at, held_of}
 use Rattle.session_slots.specs.Restored.{IsReadable, IsReadInOrder, IsRestored, RecordsFit, SlotsFit, SessionsFit, with_records, with_call, with_slots, with_sessions, lagging, lagging_session, lagging_entry}
@@ -37,7 +37,7 @@ at_one : {X : Type 0} (P : ℕ → Type 0) (before after : List (ℕ × X)) (x :
 at_one P [] after x h = h.0
 at_one P (y ∷ before) after x h = at_one P before after x h.1
 
--- an entry is above all before it
+-- an entry is greater than all before it
 pub above_before : {X : Type 0} (before after : List (ℕ × X)) (x : ℕ × X) → IsRising (before ++ x ∷ after) → (e : ℕ × X) → IsIn e before → e.0 < x.0
 above_before [] after x h e m = absurd m
 above_before (y ∷ before) after x h e m =
@@ -54,12 +54,12 @@ not_from m n h = grind (arith, h)
 from : (m n : ℕ) → n ≤ m → nat_le n m ≡ true
 from m n h = grind (arith, h)
 
--- the first of these entries is found from a number that it isn't below
+-- the first of these entries is found from a number that is at most its own
 from_first : {X : Type 0} (n : ℕ) (es : List (ℕ × X)) → ((e : ℕ × X) → slice_get es 0 ≡ Some e → n ≤ e.0) → number_from n es ≡ option_map (λ e. e.0) (slice_get es 0)
 from_first n [] h = refl
 from_first n (e ∷ es) h = ap (λ b. cond b (Some e.0) (number_from n es)) (from e.0 n (h e refl))
 
--- entries below a number are passed over
+-- entries below a number are skipped
 from_after : {X : Type 0} (n : ℕ) (before after : List (ℕ × X)) → ((e : ℕ × X) → IsIn e before → e.0 < n) → number_from n (before ++ after) ≡ number_from n after
 from_after n [] after below = refl
 from_after n (e ∷ before) after below =
@@ -77,9 +77,9 @@ in_middle : {X : Type 0} (xs : List X) (x : X) (ys : List X) → IsIn x (xs ++ (
 in_middle [] x ys = inl refl
 in_middle (y ∷ xs) x ys = inr (in_middle xs x ys)
 
-in_front : {X : Type 0} (xs ys : List X) (x : X) → IsIn x xs → IsIn x (xs ++ ys)
-in_front [] ys x h = absurd h
-in_front (z ∷ xs) ys x h = elim h [ inl q ↦ inl q | inr m ↦ inr (in_front xs ys x m) ]
+in_prefix : {X : Type 0} (xs ys : List X) (x : X) → IsIn x xs → IsIn x (xs ++ ys)
+in_prefix [] ys x h = absurd h
+in_prefix (z ∷ xs) ys x h = elim h [ inl q ↦ inl q | inr m ↦ inr (in_prefix xs ys x m) ]
 
 below_more : (m n : ℕ) → m < n → m < n + 1
 below_more m n h = omega (arith, h)
@@ -120,7 +120,7 @@ read_in_order es h = record {
   next = λ before after number x is. next_of es before after number x h is;
 }
 
--- ---- an entry above all others
+-- ---- an entry greater than all others
 
 apart : (m n : ℕ) → m < n → n ≢ m
 apart m n h = grind (arith, h)
@@ -178,7 +178,7 @@ no_other r before after e p is (Some w) f confirmed =
     let entry = found_entry (is_confirmed_of e.1.owner) before w f in
     let whose : is_confirmed_of e.1.owner w ≡ true = found_passes (is_confirmed_of e.1.owner) (values_of before) w f in
     let mine : is_confirmed_of e.1.owner e.1 ≡ true = and_true e.1.confirmed _ confirmed (nat_list_eq_equiv.refl e.1.owner) in
-    let there : IsIn (entry.0, w) r.clients = subst (λ (l : List (ℕ × Client)). IsIn (entry.0, w) l) (sym is) (in_front before (e ∷ after) (entry.0, w) entry.1) in
+    let there : IsIn (entry.0, w) r.clients = subst (λ (l : List (ℕ × Client)). IsIn (entry.0, w) l) (sym is) (in_prefix before (e ∷ after) (entry.0, w) entry.1) in
     let here : IsIn e r.clients = subst (λ (l : List (ℕ × Client)). IsIn e l) (sym is) (in_middle before e after) in
     let same : entry.0 ≡ e.0 = p.orderly.one_confirmed e.1.owner (entry.0, w) e there here whose mine in
     absurd (apart entry.0 e.0 (above_before before after e (subst IsRising is p.clients) (entry.0, w) entry.1) (sym same))
@@ -281,25 +281,25 @@ one_longer (x ∷ xs) p = next (length (xs ++ (p ∷ []))) (length xs) (one_long
 abbrev with_entries : Registry → List (ℕ × Session) → Registry
 with_entries r sessions = record r { sessions = sessions }
 
--- a slot as it is before its call is restored
+-- a slot before its call is restored
 abbrev unused : Session → Place
-unused s = record { kept = None; most_arguments = s.granted.request_size; most_results = kept_size s.granted; lags = true }
+unused s = record { kept = None; most_arguments = s.granted.request_size; most_results = cache_size s.granted; lags = true }
 
--- the session, of whose slots the first ones were restored, and this many are left
+-- the session whose first slots were restored, with this count left
 abbrev in_part : Session → List Place → ℕ → Session
 in_part s before left = record s { slots = map lagging before ++ replicate left (unused s) }
 
--- these are the facts of a session that was read out
+-- the facts of a session that was read out
 record Reads (s : Session) : Type 0 where
   arguments : (p : Place) → IsIn p s.slots → p.most_arguments ≡ s.granted.request_size
-  results : (p : Place) → IsIn p s.slots → p.most_results ≡ kept_size s.granted
-  fit : (slot : ℕ) (p : Place) (k : Kept) → slice_get s.slots slot ≡ Some p → p.kept ≡ Some k → slot_fits (Some s) slot k ≡ true
+  results : (p : Place) → IsIn p s.slots → p.most_results ≡ cache_size s.granted
+  fit : (slot : ℕ) (p : Place) (k : Cached) → slice_get s.slots slot ≡ Some p → p.kept ≡ Some k → slot_fits (Some s) slot k ≡ true
 
-lags_again : (s : Session) (p : Place) (o : Option Kept) → p.kept ≡ o → p.most_arguments ≡ s.granted.request_size → p.most_results ≡ kept_size s.granted →
-    record { kept = o; most_arguments = s.granted.request_size; most_results = kept_size s.granted; lags = true } ≡ lagging p
+lags_again : (s : Session) (p : Place) (o : Option Cached) → p.kept ≡ o → p.most_arguments ≡ s.granted.request_size → p.most_results ≡ cache_size s.granted →
+    record { kept = o; most_arguments = s.granted.request_size; most_results = cache_size s.granted; lags = true } ≡ lagging p
 lags_again s p o k a b = λ i. record { kept = (sym k) i; most_arguments = (sym a) i; most_results = (sym b) i; lags = true }
 
-call_added : (r : Registry) (l : List (ℕ × Session)) (n : ℕ) (s : Session) (before after : List Place) (p : Place) (slot : ℕ) (o : Option Kept) → ((e : ℕ × Session) → IsIn e l → e.0 < n) → slot ≡ length before →
+call_added : (r : Registry) (l : List (ℕ × Session)) (n : ℕ) (s : Session) (before after : List Place) (p : Place) (slot : ℕ) (o : Option Cached) → ((e : ℕ × Session) → IsIn e l → e.0 < n) → slot ≡ length before →
     s.slots ≡ before ++ (p ∷ after) → Reads s → p.kept ≡ o →
     with_call n slot o (with_entries r (l ++ ((n, in_part s before (length (p ∷ after))) ∷ []))) ≡ with_entries r (l ++ ((n, in_part s (before ++ (p ∷ [])) (length after)) ∷ []))
 call_added r l n s before after p slot None below at is reads k =
@@ -318,7 +318,7 @@ call_added r l n s before after p slot (Some c) below at is reads k =
     ∙ ap (λ (q : Place). map lagging before ++ (q ∷ left)) (lags_again s p (Some c) k (reads.arguments p here) (reads.results p here))
     ∙ sym (one_more_lags before p left))
 
-fits_if : (r : Registry) (l : List (ℕ × Session)) (n : ℕ) (s t : Session) (p : Place) (slot : ℕ) (o : Option Kept) → ((e : ℕ × Session) → IsIn e l → e.0 < n) → t.granted ≡ s.granted → slice_get s.slots slot ≡ Some p → Reads s → p.kept ≡ o →
+fits_if : (r : Registry) (l : List (ℕ × Session)) (n : ℕ) (s t : Session) (p : Place) (slot : ℕ) (o : Option Cached) → ((e : ℕ × Session) → IsIn e l → e.0 < n) → t.granted ≡ s.granted → slice_get s.slots slot ≡ Some p → Reads s → p.kept ≡ o →
     IfSome o (λ k. slot_fits (session_at (with_entries r (l ++ ((n, t) ∷ []))) n) slot k ≡ true)
 fits_if r l n s t p slot None below same there reads is = tt
 fits_if r l n s t p slot (Some k) below same there reads is =
@@ -387,7 +387,7 @@ all_of : (P : Place → Type 0) (ps : List Place) → All P ps → (p : Place) �
 all_of P [] h p m = absurd m
 all_of P (q ∷ ps) h p m = elim m [ inl e ↦ subst P (sym e) (All-get_or P (q ∷ ps) 0 q (some_length (length ps)) h) | inr n ↦ all_of P ps (All-tail P q ps h) p n ]
 
-kept_there : (r : Registry) (number slot : ℕ) (s : Session) (p : Place) (k : Kept) → session_at r number ≡ Some s → slice_get s.slots slot ≡ Some p → p.kept ≡ Some k → kept_at r number slot ≡ Some k
+kept_there : (r : Registry) (number slot : ℕ) (s : Session) (p : Place) (k : Cached) → session_at r number ≡ Some s → slice_get s.slots slot ≡ Some p → p.kept ≡ Some k → kept_at r number slot ≡ Some k
 kept_there r number slot s p k is there kept =
     ap (λ (o : Option Session). option_and_then (λ p. p.kept) (option_and_then (λ s. slice_get s.slots slot) o)) is ∙ ap (λ (o : Option Place). option_and_then (λ p. p.kept) o) there ∙ kept
 
@@ -395,7 +395,7 @@ session_reads : (r : Registry) (e : ℕ × Session) → IsReadable r → session
 session_reads r e p is =
     let has = p.slots e.0 e.1 is in record {
       arguments = all_of (λ p. p.most_arguments ≡ e.1.granted.request_size) e.1.slots has.arguments;
-      results = all_of (λ p. p.most_results ≡ kept_size e.1.granted) e.1.slots has.results;
+      results = all_of (λ p. p.most_results ≡ cache_size e.1.granted) e.1.slots has.results;
       fit = λ slot q k there kept. sym (ap (λ (o : Option Session). slot_fits o slot k) is) ∙ p.fit e.0 slot k (kept_there r e.0 slot e.1 q k is there kept);
     }
 
@@ -445,7 +445,7 @@ sessions_go r before (e ∷ after) p is =
       whole = ap (λ (q : Registry). with_sessions after q) done ∙ rest.whole ∙ ap (λ (l : List (ℕ × Session)). with_entries r (map lagging_entry l)) (sym again);
     }
 
--- ---- all of it
+-- ---- the whole registry
 
 pub is_restored : (r : Registry) → IsReadable r → IsRestored r
 is_restored r p =

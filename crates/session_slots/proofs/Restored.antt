@@ -1,4 +1,4 @@
--- Clients and sessions stay orderly as they are restored, and as a client is let go.
+-- Clients and sessions stay orderly when they are restored, and when a client is expired.
 use Rattle.std.proofs.Common.{◌≡◌, ◌≢◌, inl, inr, ℕ, ◌<◌, ◌≤◌, ◌+◌, ◌==◌, ◌&&◌, Bool, true, false, not, nat_eq, nat_lt, nat_le, List, [], ◌∷◌, map, cond, length, Option, Some, None, is_some, is_none, Result, Ok, Err, refl, sym, ap, ◌∙◌, subst, arith}
 use Rattle.std.specs.Cmp.Lexicographic.{pointwise, same_text}
 use Rattle.std.specs.Option.{IfSome, option_map_or}
@@ -10,13 +10,13 @@ use Rattle.std.specs.Ordering.{nat_cmp}
 use Rattle.session_slots.specs.declared.session.Channel.{Channel}
 use Rattle.session_slots.specs.declared.session.Held.{Held}
 use Rattle.session_slots.specs.Limits.{MOST_CLIENTS, MOST_SESSIONS, MOST_SLOTS, MOST_BYTES, LEAST_REPLY, MOST_OPERATIONS, END}
-use Rattle.session_slots.specs.Slots.{Kept, restored, finished}
-use Rattle.session_slots.specs.Registry.{Client, Session, Registry, client_at, session_at, is_confirmed_of, confirmed_entry, changed_client, kept_size, restored_session, with_session, with_place}
+use Rattle.session_slots.specs.Slots.{Cached, restored, finished}
+use Rattle.session_slots.specs.Registry.{Client, Session, Registry, client_at, session_at, is_confirmed_of, confirmed_entry, changed_client, cache_size, restored_session, with_session, with_place}
 use Rattle.session_slots.specs.Orderly.{has_form, IsIn, IsWithin, IsOrderly}
-use Rattle.session_slots.specs.Restoring.{numbers_fit, with_numbers, record_fits, with_record, is_within, is_home, session_fits, with_restored, slot_fits, with_kept, held_of, headed, HeadsStay}
+use Rattle.session_slots.specs.Restoring.{numbers_fit, with_numbers, record_fits, with_record, is_within, is_home, session_fits, with_restored, slot_fits, with_cached, held_of, headed, HeadsStay}
 use Rattle.nfs_types.specs.declared.status.Status.{Status}
 use Rattle.session_slots.specs.Sequencing.{Asked, grant_fault, begun_unless, session_begun, sequence_begun}
-use Rattle.session_slots.specs.Letting.{let_go}
+use Rattle.session_slots.specs.Expiring.{expire}
 use Rattle.session_slots.proofs.Members.{lookup_in, in_filter, found_kept, in_insert, found_insert, none_passes, length_filter, length_insert}
 use Rattle.session_slots.proofs.Orderly.{with_session_orderly}
 
@@ -72,7 +72,7 @@ numbered_orderly old new next_client next_session is fits o = subst IsOrderly (s
 is_confirmed : (c : Client) (owner : List ℕ) → is_confirmed_of owner c ≡ true → (c.confirmed ≡ true) × (c.owner ≡ owner)
 is_confirmed c owner h = let b = both c.confirmed (pointwise nat_eq c.owner owner) h in (b.0, same_text c.owner owner (sym b.1))
 
--- a confirmed record of the owner beside a new one that is confirmed too
+-- a confirmed record of the owner beside a new confirmed one
 two_confirmed : (r : Registry) (c : Client) (owner : List ℕ) (f : ℕ × Client) → not (c.confirmed && is_some (confirmed_entry r c.owner)) ≡ true → IsIn f r.clients → is_confirmed_of owner c ≡ true → is_confirmed_of owner f.1 ≡ true → ⊥
 two_confirmed r c owner f alone m a b =
     let mine = is_confirmed c owner a in
@@ -188,27 +188,27 @@ session_has_slots r number held fits =
 
 -- ---- a slot
 
-pub fits_slot : (o : Option Session) (slot : ℕ) (k : Kept) → slot_fits o slot k ≡ true → IfSome o (λ s. slot < s.granted.slots)
+pub fits_slot : (o : Option Session) (slot : ℕ) (k : Cached) → slot_fits o slot k ≡ true → IfSome o (λ s. slot < s.granted.slots)
 fits_slot None slot k h = tt
 fits_slot (Some s) slot k h = less slot s.granted.slots (both (nat_lt slot s.granted.slots) _ h).0
 
-pub fits_arguments : (o : Option Session) (slot : ℕ) (k : Kept) → slot_fits o slot k ≡ true → IfSome o (λ s. length k.call.arguments ≤ s.granted.request_size)
+pub fits_arguments : (o : Option Session) (slot : ℕ) (k : Cached) → slot_fits o slot k ≡ true → IfSome o (λ s. length k.call.arguments ≤ s.granted.request_size)
 fits_arguments None slot k h = tt
 fits_arguments (Some s) slot k h =
     at_most (length k.call.arguments) s.granted.request_size (both (nat_le (length k.call.arguments) s.granted.request_size) _ (both (nat_lt slot s.granted.slots) _ h).1).0
 
-pub fits_results : (o : Option Session) (slot : ℕ) (k : Kept) → slot_fits o slot k ≡ true → IfSome o (λ s. length k.results ≤ kept_size s.granted)
+pub fits_results : (o : Option Session) (slot : ℕ) (k : Cached) → slot_fits o slot k ≡ true → IfSome o (λ s. length k.results ≤ cache_size s.granted)
 fits_results None slot k h = tt
 fits_results (Some s) slot k h =
-    at_most (length k.results) (kept_size s.granted) (both (nat_le (length k.call.arguments) s.granted.request_size) _ (both (nat_lt slot s.granted.slots) _ h).1).1
+    at_most (length k.results) (cache_size s.granted) (both (nat_le (length k.call.arguments) s.granted.request_size) _ (both (nat_lt slot s.granted.slots) _ h).1).1
 
--- what of a session a kept call that fits a slot is below
+-- the bounds of a cached call that fits a slot
 pub ruleset slot_fit_facts = (fits_slot, fits_arguments, fits_results)
 
-pub slot_orderly : (r : Registry) (session slot : ℕ) (k : Kept) → IsOrderly r → IsOrderly (with_kept r session slot k)
+pub slot_orderly : (r : Registry) (session slot : ℕ) (k : Cached) → IsOrderly r → IsOrderly (with_cached r session slot k)
 slot_orderly r session slot k o = with_session_orderly r session (with_place slot (restored k)) (λ s. refl) (λ s. refl) o
 
-pub slot_restored_orderly : (old new : Registry) (session slot : ℕ) (k : Kept) → new ≡ with_kept old session slot k → IsOrderly old → IsOrderly new
+pub slot_restored_orderly : (old new : Registry) (session slot : ℕ) (k : Cached) → new ≡ with_cached old session slot k → IsOrderly old → IsOrderly new
 slot_restored_orderly old new session slot k is o = subst IsOrderly (sym is) (slot_orderly old session slot k o)
 
 pub record_restored_orderly : {T E : Type 0} (old new : Registry) (c : Client) (result : Result T E) → record_fits old c ≡ true → OnOk result (new ≡ with_record old c) → OnErr result (new ≡ old) → IsOrderly old → IsOrderly new
@@ -251,7 +251,7 @@ begun_heads r session a = heads_stay r session (λ s. session_begun s a) (λ s. 
 pub kept_heads : (r : Registry) (session slot : ℕ) (results : List ℕ) → HeadsStay r (with_session session (with_place slot (λ p. finished p results)) r)
 kept_heads r session slot results = heads_stay r session (with_place slot (λ p. finished p results)) (λ s. refl)
 
--- ---- a client is let go
+-- ---- a client is expired
 
 -- a change that changes nothing
 pub changed_by_nothing : (n : ℕ) (clients : List (ℕ × Client)) → changed_client n (λ c. c) clients ≡ clients
@@ -264,8 +264,8 @@ changed_by_nothing n clients = nothing_if n clients (lookup (is_at (nat_cmp n)) 
 fewer : (l m n : ℕ) → l ≤ m → m ≤ n → l ≤ n
 fewer l m n h i = omega (arith, h, i)
 
-pub let_go_orderly : (client : ℕ) (r : Registry) → IsOrderly r → IsOrderly (let_go client r)
-let_go_orderly client r o =
+pub expire_orderly : (client : ℕ) (r : Registry) → IsOrderly r → IsOrderly (expire client r)
+expire_orderly client r o =
     let p : ℕ × Client → Bool = λ e. not (e.0 == client) in
     let q : ℕ × Session → Bool = λ e. not (e.1.client == client) in record {
       numbered = λ e h. o.numbered e (in_filter p r.clients e h).0;
@@ -284,8 +284,8 @@ let_go_orderly client r o =
       sessions_end = o.sessions_end;
     }
 
-pub gone_orderly : (old new : Registry) (client : ℕ) → new ≡ let_go client old → IsOrderly old → IsOrderly new
-gone_orderly old new client is o = subst IsOrderly (sym is) (let_go_orderly client old o)
+pub expired_orderly : (old new : Registry) (client : ℕ) → new ≡ expire client old → IsOrderly old → IsOrderly new
+expired_orderly old new client is o = subst IsOrderly (sym is) (expire_orderly client old o)
 
 -- ---- a record that is found has a form
 

@@ -2,7 +2,7 @@
 use Rattle.std.proofs.Common.{◌≡◌, ℕ, ◌+◌, ◌-◌, ◌%◌, ◌/◌, ◌^◌, ◌<◌, ◌≤◌, ◌==◌, ◌&&◌, Bool, true, false, not, nat_le, if◌then◌else◌, List, Option, Some, None, refl, sym, ap, subst, ◌∙◌, inl, inr, arith}
 use Rattle.session_slots.specs.Limits.{MOST_AHEAD}
 use Rattle.session_slots.specs.Counting.{due, ahead, is_next, last_number}
-use Rattle.session_slots.specs.Slots.{Call, Kept, Place, number_of, opened, kept_after, lags_after, begun, finished, with_results}
+use Rattle.session_slots.specs.Slots.{Call, Cached, Place, number_of, opened, kept_after, lags_after, begun, finished, with_results}
 use Rattle.session_slots.specs.Covering.{IsLater, PlaceCovers, lagging}
 use Rattle.session_slots.specs.Keeping.{passes}
 
@@ -17,11 +17,11 @@ in_range d g h = grind (arith, g, h)
 is_in_range : (d : ℕ) → (nat_le 1 d && nat_le d MOST_AHEAD) ≡ true → (1 ≤ d) × (d ≤ MOST_AHEAD)
 is_in_range d h = (grind (arith, h), grind (arith, h))
 
--- the next number is one ahead
+-- the next sequence ID is one ahead
 one_ahead : (last n : ℕ) → last < 2 ^ 32 → n ≡ due last → (1 ≤ ahead last n) × (ahead last n ≤ MOST_AHEAD)
 one_ahead last n few e = (omega (arith, few, e), omega (arith, few, e))
 
--- and that after a later number of the same span is at most 2^20 ahead
+-- the sequence ID after a later one of the same span is at most 2^20 ahead
 near_ahead : (earlier last n : ℕ) → last < 2 ^ 32 → earlier < last → earlier / MOST_AHEAD ≡ last / MOST_AHEAD → n ≡ due last
     → (1 ≤ ahead earlier n) × (ahead earlier n ≤ MOST_AHEAD)
 near_ahead earlier last n few later near e = (omega (arith, few, later, near, e), omega (arith, few, later, near, e))
@@ -29,14 +29,14 @@ near_ahead earlier last n few later near e = (omega (arith, few, later, near, e)
 due_fits : (last n : ℕ) → n ≡ due last → n < 2 ^ 32
 due_fits last n e = omega (arith, e)
 
--- a new number of the same span is later
+-- a new sequence ID of the same span is later
 next_later : (last n : ℕ) → last < 2 ^ 32 → n ≡ due last → last / MOST_AHEAD ≡ n / MOST_AHEAD → last < n
 next_later last n few e near = omega (arith, few, e, near)
 
 ahead_later : (last n : ℕ) → last < 2 ^ 32 → n < 2 ^ 32 → 1 ≤ ahead last n → ahead last n ≤ MOST_AHEAD → last / MOST_AHEAD ≡ n / MOST_AHEAD → last < n
 ahead_later last n few fits some most near = omega (arith, few, fits, some, most, near)
 
--- ---- a new call is new on the slot that covers
+-- ---- a new call is new on the covering slot
 
 abbrev pub last_of : Place → ℕ
 last_of p = last_number number_of p.kept
@@ -61,7 +61,7 @@ next_covers q p n c is = elim (c.kept) [
 pub begun_new : (p : Place) (call : Call) → is_next p.lags (last_of p) call.number ≡ true → begun p call ≡ record p { kept = Some (opened call); lags = false }
 begun_new p call is = λ i. record p { kept = if' (is i); lags = lags' (is i) }
   where
-    if' : Bool → Option Kept
+    if' : Bool → Option Cached
     if' b = if b then Some (opened call) else p.kept
 
     lags' : Bool → Bool
@@ -70,7 +70,7 @@ begun_new p call is = λ i. record p { kept = if' (is i); lags = lags' (is i) }
 new_fits : (lags : Bool) (last n : ℕ) → n < 2 ^ 32 → is_next lags last n ≡ true → n < 2 ^ 32
 new_fits lags last n fits is = fits
 
--- both slots keep the call
+-- both slots cache the call
 pub begun_covers : (q p : Place) (call : Call) → PlaceCovers q p → call.number < 2 ^ 32 → is_next p.lags (last_of p) call.number ≡ true
     → PlaceCovers (begun (lagging q) call) (begun p call)
 begun_covers q p call c fits is =
@@ -79,11 +79,11 @@ begun_covers q p call c fits is =
     (subst (λ x. PlaceCovers (record q { kept = Some (opened call); lags = false }) x) (sym (begun_new p call is))
     (record { arguments = c.arguments; results = c.results; number = fits; kept = inl refl }))
 
-last_results : (results : List ℕ) (kept : Option Kept) → last_number number_of (with_results results kept) ≡ last_number number_of kept
+last_results : (results : List ℕ) (kept : Option Cached) → last_number number_of (with_results results kept) ≡ last_number number_of kept
 last_results results None = refl
 last_results results (Some kept) = refl
 
--- and its results
+-- both slots cache the results
 pub finished_covers : (q p : Place) (results : List ℕ) → PlaceCovers q p → q.kept ≡ p.kept → PlaceCovers (finished q results) (finished p results)
 finished_covers q p results c same = record {
   arguments = c.arguments;
@@ -99,7 +99,7 @@ same_span last n none = is_number (last / MOST_AHEAD) (n / MOST_AHEAD) (is_true 
     is_true true h = refl
     is_true false h = cc
 
--- The slot that covers stays, where the call isn't kept: its number is in the span of the one before.
+-- The covering slot stays if the call isn't logged: its sequence ID is in the span of the one before.
 pub idle_covers : (q p : Place) (call : Call) (results : List ℕ) → PlaceCovers q p → call.number < 2 ^ 32 → is_next p.lags (last_of p) call.number ≡ true
     → passes (last_of p) call.number ≡ false → PlaceCovers q (finished (begun p call) results)
 idle_covers q p call results c fits is none =

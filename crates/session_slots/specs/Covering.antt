@@ -1,15 +1,15 @@
--- Sessions after a restart cover those of the server before it: each is the same, except that slots
--- may lag (RFC 8881, section 2.10.6.5). A slot lags where it keeps an earlier call than the last one
--- that it accepted. The calls after the earlier one changed nothing and weren't kept.
-use Rattle.std.specs.Prelude.{◌≡◌, ◌⊎◌, ◌<◌, ℕ, ◌/◌, ◌^◌, true, false, List, [], ◌∷◌, Option}
+-- Sessions after a restart cover those of the server before it. Each is the same, except that slots may lag (RFC
+-- 8881, section 2.10.6.5). A slot lags if it caches an earlier call than the last one that it accepted. The calls
+-- after the earlier one changed nothing and weren't logged.
+use Rattle.std.specs.Prelude.{◌≡◌, ◌⊎◌, ◌<◌, ℕ, ◌/◌, ◌^◌, true, false, List, [], ◌∷◌, Option, map}
 use Rattle.session_slots.specs.Counting.{last_number}
 use Rattle.session_slots.specs.Limits.{MOST_AHEAD}
 use Rattle.session_slots.specs.Registry.{Session, Registry, with_session, with_place}
-use Rattle.session_slots.specs.Slots.{Kept, Place, number_of}
+use Rattle.session_slots.specs.Slots.{Cached, Place, number_of}
 
--- The slot has accepted a later call than the earlier one, and doesn't lag. Both numbers are in the
--- same span of 2^20.
-pub record IsLater (p : Place) (earlier : Option Kept) : Type 0 where
+-- The slot has accepted a later call than the earlier one, and doesn't lag. Both sequence IDs are in the same span of
+-- 2^20.
+pub record IsLater (p : Place) (earlier : Option Cached) : Type 0 where
   pub lags : p.lags ≡ false
   pub later : last_number number_of earlier < last_number number_of p.kept
   pub near : last_number number_of earlier / MOST_AHEAD ≡ last_number number_of p.kept / MOST_AHEAD
@@ -47,3 +47,13 @@ lagging p = record p { lags = true }
 -- a slot of a session lags
 abbrev pub lagging_at : ℕ → ℕ → Registry → Registry
 lagging_at session slot r = with_session session (with_place slot lagging) r
+
+-- ---- the slots of a server that starts
+
+-- all slots of a session lag
+abbrev pub session_lagging : Session → Session
+session_lagging s = record s { slots = map lagging s.slots }
+
+-- all slots of all sessions lag
+abbrev pub all_lagging : Registry → Registry
+all_lagging r = record r { sessions = map (λ e. (e.0, session_lagging e.1)) r.sessions }

@@ -15,17 +15,17 @@ use Rattle.session_slots.specs.declared.creating.Made.{Made}
 use Rattle.session_slots.specs.declared.creating.Judged.{Judged}
 use Rattle.session_slots.specs.declared.creating.Judged.TheVariants.{Answers, Refuses, Makes}
 use Rattle.session_slots.specs.Limits.{MOST_SESSIONS, MOST_SLOTS, MOST_BYTES, LEAST_REPLY, MOST_OPERATIONS, END}
-use Rattle.session_slots.specs.Counting.{due, accepted, last_number, StandsFor}
+use Rattle.session_slots.specs.Counting.{due, accepted, last_number, RepresentsHistory}
 use Rattle.session_slots.specs.Registry.{Client, Registry, client_at, is_confirmed_of, changed_client, new_session}
 use Rattle.session_slots.specs.Registry.{without_record, without_sessions}
 
 abbrev pub number_of : Creation → ℕ
 number_of c = c.number
 
--- the result of the last call, where this has its number
-abbrev pub repeated : Option Creation → ℕ → Option (Result Created Status)
-repeated None number = None
-repeated (Some kept) number = if kept.number == number then Some kept.result else None
+-- the result of the last call, if this is its sequence ID
+abbrev pub cached_result : Option Creation → ℕ → Option (Result Created Status)
+cached_result None number = None
+cached_result (Some kept) number = if kept.number == number then Some kept.result else None
 
 -- the part of a channel that is granted
 abbrev pub granted : Channel → Channel
@@ -38,7 +38,7 @@ granted asked = record {
   slots = max 1 (min asked.slots MOST_SLOTS);
 }
 
--- why a call with the next number is refused
+-- why a call with the next sequence ID is refused
 abbrev pub creation_fault : Client → Registry → Create → Option Status
 creation_fault c r a =
     if not c.confirmed && not (c.uid == a.uid) then Some statuses.ClidInUse
@@ -46,7 +46,7 @@ creation_fault c r a =
     else if nat_le MOST_SESSIONS (length r.sessions) || nat_le END r.next_session then Some statuses.NoSpc
     else None
 
--- the session: its slots are said to persist where it was asked for, and the server keeps them over a restart
+-- the session: it is persistent if that was asked for, and if the server's sessions are persistent
 abbrev pub created_of : Registry → Create → Created
 created_of r a = record {
   session = r.next_session;
@@ -70,7 +70,7 @@ is_other owner number c = is_confirmed_of owner c && not (c.number == number)
 abbrev pub other_record : List ℕ → ℕ → List (ℕ × Client) → Option ℕ
 other_record owner number clients = option_map (λ c. c.number) (find (is_other owner number) (values_of clients))
 
--- the record is confirmed, and the owner's other confirmed record goes with its sessions
+-- the record is confirmed, and the owner's other confirmed record is removed with its sessions
 abbrev pub with_creation : Registry → Create → Option ℕ → Registry
 with_creation r a other = record r {
   clients =
@@ -82,33 +82,33 @@ with_creation r a other = record r {
 }
 
 abbrev pub refusing : Status → Made
-refusing status = record { result = Err status; gone = None }
+refusing status = record { result = Err status; removed = None }
 
--- a call with the next number: it is refused and kept, or it creates a session
+-- a call with the next sequence ID: it is refused and cached, or it creates a session
 abbrev pub judged_due : Option Status → Client → Registry → Create → Judged
 judged_due (Some status) c r a = Refuses status
 judged_due None c r a = Makes (other_record c.owner a.client r.clients)
 
 abbrev pub judged_unless : Option (Result Created Status) → Client → Registry → Create → Judged
-judged_unless (Some kept) c r a = Answers (record { result = kept; gone = None })
+judged_unless (Some kept) c r a = Answers (record { result = kept; removed = None })
 judged_unless None c r a =
     if a.sequence == due (last_number number_of c.created) then judged_due (creation_fault c r a) c r a
     else Answers (refusing statuses.SeqMisordered)
 
 abbrev pub judged_for : Option Client → Registry → Create → Judged
 judged_for None r a = Answers (refusing statuses.StaleClientId)
-judged_for (Some c) r a = judged_unless (repeated c.created a.sequence) c r a
+judged_for (Some c) r a = judged_unless (cached_result c.created a.sequence) c r a
 
 abbrev pub judged : Registry → Create → Judged
 judged r a = judged_for (client_at r a.client) r a
 
 abbrev pub delayed : Made
-delayed = record { result = Err statuses.Delay; gone = None }
+delayed = record { result = Err statuses.Delay; removed = None }
 
--- a session is created, unless memory is refused: then nothing changes
+-- a session is created, unless an allocation fails: then nothing changes
 abbrev pub MakesSession : Registry → Create → Option ℕ → Made → Registry → Type 0
 MakesSession r a other made new =
-    ((made ≡ record { result = Ok (created_of r a); gone = other }) × (new ≡ with_creation r a other))
+    ((made ≡ record { result = Ok (created_of r a); removed = other }) × (new ≡ with_creation r a other))
     ⊎ ((made ≡ delayed) × (new ≡ r))
 
 abbrev pub CreatesBy : Judged → Registry → Create → Made → Registry → Type 0
@@ -130,38 +130,38 @@ abbrev pub is_accepted : Result Created Status → Bool
 is_accepted (Ok created) = true
 is_accepted (Err status) = not (is_delay_status status)
 
--- a call that found no memory isn't accepted
+-- a call whose allocation failed isn't accepted
 abbrev pub keeps : Creation → Bool
 keeps c = is_accepted c.result
 
-abbrev pub RecordStandsFor : Option Creation → List Creation → Type 0
-RecordStandsFor kept history = StandsFor number_of keeps kept history
+abbrev pub RecordRepresents : Option Creation → List Creation → Type 0
+RecordRepresents kept history = RepresentsHistory number_of keeps kept history
 
--- the fate of a call: it is new, or it gets this result
+-- how a call is handled: it is new, or it gets this result
 pub data CreationFate : Type 0 where
   Runs : CreationFate
   Gets : Result Created Status → CreationFate
 
-abbrev pub fate_behind : List Creation → ℕ → CreationFate
-fate_behind [] number = if number == 1 then Runs else Gets (Err statuses.SeqMisordered)
-fate_behind (last ∷ before) number =
+abbrev pub fate_after : List Creation → ℕ → CreationFate
+fate_after [] number = if number == 1 then Runs else Gets (Err statuses.SeqMisordered)
+fate_after (last ∷ before) number =
     if number == length (last ∷ before) % 2 ^ 32 then Gets last.result
     else if number == due (length (last ∷ before)) then Runs
     else Gets (Err statuses.SeqMisordered)
 
 abbrev pub fate : List Creation → ℕ → CreationFate
-fate history number = fate_behind (accepted number_of keeps history) number
+fate history number = fate_after (accepted number_of keeps history) number
 
 abbrev pub Agrees : CreationFate → Result Created Status → Type 0
 Agrees Runs result = Unit {0}
 Agrees (Gets given) result = result ≡ given
 
--- For every history that the record stood for, the call got the history's result, and the record
--- stands for the history with the call.
+-- For every history that the record represented, the call got the history's result, and the record represents the
+-- history with the call.
 pub record CreatesByHistory (old new : Option Creation) (number : ℕ) (result : Result Created Status) : Type 0 where
-  pub fate : (history : List Creation) → RecordStandsFor old history → Agrees (fate history number) result
-  pub stands : (history : List Creation) → RecordStandsFor old history
-      → RecordStandsFor new (record { number = number; result = result } ∷ history)
+  pub fate : (history : List Creation) → RecordRepresents old history → Agrees (fate history number) result
+  pub represents : (history : List Creation) → RecordRepresents old history
+      → RecordRepresents new (record { number = number; result = result } ∷ history)
 
 -- if the client has a record
 pub record CreatesAt (old new : Registry) (a : Create) (result : Result Created Status) : Type 0 where

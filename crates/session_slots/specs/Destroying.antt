@@ -33,7 +33,7 @@ busy_unless_none (Some c) opens sessions =
     else if sessions then Some statuses.ClientIdBusy
     else None
 
--- why a client isn't destroyed: it isn't there, or has opens or sessions
+-- why a client isn't destroyed: it doesn't exist, or has opens or sessions
 abbrev pub destroy_client_refusal : Registry → ℕ → Bool → Option Status
 destroy_client_refusal r client has_opens = busy_unless_none (client_at r client) has_opens (has_sessions r client)
 
@@ -46,7 +46,7 @@ abbrev pub complete_already : Option Client → Option Status
 complete_already None = Some statuses.StaleClientId
 complete_already (Some c) = if c.reclaimed then Some statuses.CompleteAlready else None
 
--- why a RECLAIM_COMPLETE is refused: the client isn't there, or has sent it before
+-- why a RECLAIM_COMPLETE is refused: the client doesn't exist, or has sent it before
 abbrev pub reclaim_refusal : Registry → ℕ → Option Status
 reclaim_refusal r client = complete_already (client_at r client)
 

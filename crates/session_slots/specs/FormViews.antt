@@ -1,6 +1,5 @@
--- The values that were read of the bytes of a checkpoint or a record, as the definitions see them.
-use Rattle.std.specs.Prelude.{ℕ, Bool, not, nat_le, List, None}
-use Rattle.std.specs.List.{list_any}
+-- The values that were read from the bytes of a checkpoint or a record, as the definitions see them.
+use Rattle.std.specs.Prelude.{ℕ, List, None}
 use Rattle.xdr_wire.specs.Xdr.{Value, uint}
 use Rattle.xdr_wire.specs.Wire.{array_values}
 use Rattle.session_slots.specs.declared.forms.RecordForm.{RecordForm}
@@ -19,13 +18,9 @@ form_client f = record {
   reclaimed = f.reclaimed;
 }
 
--- the groups as they were read
+-- the groups in the order in which they were read
 abbrev pub groups_in : ℕ → List ℕ → List ℕ
 groups_in count bytes = array_values uint None count bytes
-
--- a group is above all of these
-abbrev pub is_above : List ℕ → ℕ → Bool
-is_above set group = not (list_any (λ g. nat_le group g) set)
 
 abbrev pub form_call : CallForm → Value call
 form_call f = (

@@ -1,4 +1,4 @@
--- The XDR forms of what is kept over a restart (RFC 4506), and the value of each part.
+-- The XDR forms of stored clients, sessions and calls (RFC 4506), and the value of each part.
 use Rattle.std.specs.Prelude.{ℕ, [], ◌∷◌, Result, Ok, Err}
 use Rattle.std.specs.Option.{option_map}
 use Rattle.std.proofs.Common.{inl, inr}
@@ -11,7 +11,7 @@ use Rattle.session_slots.specs.declared.session.Channel.{Channel}
 use Rattle.session_slots.specs.declared.session.Held.{Held}
 use Rattle.session_slots.specs.declared.client.Created.{Created}
 use Rattle.session_slots.specs.declared.client.Creation.{Creation}
-use Rattle.session_slots.specs.Slots.{Kept}
+use Rattle.session_slots.specs.Slots.{Cached}
 use Rattle.session_slots.specs.Registry.{Client}
 
 -- ---- forms
@@ -20,19 +20,21 @@ use Rattle.session_slots.specs.Registry.{Client}
 abbrev pub channel : Xdr
 channel = fields (uint ∷ uint ∷ uint ∷ uint ∷ uint ∷ uint ∷ [])
 
--- session, sequence ID, whether the session is kept over a restart, the fore channel, the backchannel
+-- session, sequence ID, whether the session is persistent, the fore channel, the backchannel
 abbrev pub created : Xdr
 created = fields (hyper ∷ uint ∷ boolean ∷ channel ∷ channel ∷ [])
 
--- a sequence ID, and the session or one of the refusals that are kept: NOSPC, TOOSMALL and CLID_INUSE, by their numbers
+-- a sequence ID, and the session or one of the refusals that are cached: NOSPC, TOOSMALL and CLID_INUSE, by their
+-- numbers
 abbrev pub creation : Xdr
 creation = fields (uint ∷ union (arm 0 created (arm 28 void (arm 10005 void (arm 10017 void no_more)))) ∷ [])
 
--- number, owner, verifier, user, whether it is confirmed, the last CREATE_SESSION, whether RECLAIM_COMPLETE came
+-- client ID, owner, verifier, user, whether it is confirmed, the last CREATE_SESSION, whether RECLAIM_COMPLETE was
+-- received
 abbrev pub client : Xdr
 client = fields (hyper ∷ opaque 1024 ∷ hyper ∷ uint ∷ boolean ∷ optional creation ∷ boolean ∷ [])
 
--- number, client, the fore channel
+-- number, client ID, the fore channel
 abbrev pub session : Xdr
 session = fields (hyper ∷ hyper ∷ channel ∷ [])
 
@@ -52,7 +54,7 @@ channel_value c = (c.padding, (c.request_size, (c.reply_size, (c.cached_size, (c
 abbrev pub created_value : Created → Value created
 created_value c = (c.session, (c.sequence, (c.persist, (channel_value c.fore, channel_value c.back))))
 
--- a refusal that is kept; no other one is
+-- a refusal that is cached; no other one is
 abbrev pub refusal_value : Status → Value (union (arm 28 void (arm 10005 void (arm 10017 void no_more))))
 refusal_value statuses.NoSpc = inl tt
 refusal_value statuses.TooSmall = inr (inl tt)
@@ -76,6 +78,6 @@ session_value number held = (number, (held.client, channel_value held.granted))
 abbrev pub caller_value : Identity → Value caller
 caller_value c = (c.uid, (c.gid, c.groups))
 
-abbrev pub call_value : ℕ → ℕ → Kept → Value call
+abbrev pub call_value : ℕ → ℕ → Cached → Value call
 call_value session slot k =
     (session, (slot, (k.call.number, (caller_value k.call.caller, (k.call.arguments, k.results)))))

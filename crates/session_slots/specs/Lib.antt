@@ -10,11 +10,12 @@ pub mod Destroying
 pub mod Restoring
 pub mod Restored
 pub mod Acting
-pub mod Letting
+pub mod Expiring
 pub mod Forms
 pub mod FormViews
 pub mod Views
-pub mod Repeating
+pub mod Retrying
 pub mod Calls
 pub mod Keeping
 pub mod Covering
+pub mod internal

@@ -17,7 +17,7 @@ MOST_SLOTS = 8
 abbrev pub MOST_BYTES : ℕ
 MOST_BYTES = 65536
 
--- bytes of a reply that a client has to take
+-- the fewest bytes of a reply that a client may request
 abbrev pub LEAST_REPLY : ℕ
 LEAST_REPLY = 4096
 
@@ -37,8 +37,8 @@ MOST_OPERATIONS = 16
 abbrev pub MOST_AHEAD : ℕ
 MOST_AHEAD = 1048576
 
--- A slot is written after each call whose number is a multiple of this, whatever the call changed.
--- It is 2 ^ 20, which divides 2 ^ 32.
+-- A slot is written after each call whose sequence ID is a multiple of this, whatever the call changed. It is 2 ^ 20,
+-- which divides 2 ^ 32.
 abbrev pub WRITTEN_EVERY : ℕ
 WRITTEN_EVERY = 1048576
 

@@ -15,23 +15,23 @@ abbrev pub IsIn : {X : Type 0} → X → List X → Type 0
 IsIn x [] = ⊥
 IsIn x (y ∷ ys) = (x ≡ y) ⊎ IsIn x ys
 
--- a refusal of CREATE_SESSION that is kept with its number
-abbrev pub is_kept_refusal : Status → Bool
-is_kept_refusal statuses.NoSpc = true
-is_kept_refusal statuses.TooSmall = true
-is_kept_refusal statuses.ClidInUse = true
-is_kept_refusal _ = false
+-- a refusal of CREATE_SESSION that is cached with its sequence ID
+abbrev pub is_cached_refusal : Status → Bool
+is_cached_refusal statuses.NoSpc = true
+is_cached_refusal statuses.TooSmall = true
+is_cached_refusal statuses.ClidInUse = true
+is_cached_refusal _ = false
 
-abbrev pub is_kept_result : Result Created Status → Bool
-is_kept_result (Ok created) = true
-is_kept_result (Err status) = is_kept_refusal status
+abbrev pub is_cached_result : Result Created Status → Bool
+is_cached_result (Ok created) = true
+is_cached_result (Err status) = is_cached_refusal status
 
 abbrev pub has_creation_form : Option Creation → Bool
 has_creation_form None = true
-has_creation_form (Some c) = is_kept_result c.result
+has_creation_form (Some c) = is_cached_result c.result
 
--- A record has a form, in which it is kept over a restart. Its owner isn't too long, and a refusal
--- that it keeps is one of those that are kept.
+-- A record has a form, in which it is stored, if two things hold. Its owner isn't too long, and a refusal that it
+-- caches is one that may be cached.
 abbrev pub has_form : Client → Bool
 has_form c = if nat_lt MOST_OWNER (length c.owner) then false else has_creation_form c.created
 
@@ -44,7 +44,7 @@ pub record IsWithin (granted : Channel) : Type 0 where
   pub slots : granted.slots ≤ MOST_SLOTS
 
 pub record IsOrderly (r : Registry) : Type 0 where
-  -- a record is kept by its own number, which was given to it
+  -- a record is stored under its own client ID, which was given to it
   pub numbered : (e : ℕ × Client) → IsIn e r.clients → (e.1.number ≡ e.0) × (e.0 < r.next_client)
   -- an owner has at most one confirmed record
   pub one_confirmed : (owner : List ℕ) (e f : ℕ × Client) → IsIn e r.clients → IsIn f r.clients

@@ -12,7 +12,7 @@ use Rattle.session_slots.specs.Limits.{REPLY_HEADER}
 use Rattle.session_slots.specs.Slots.{Place, results_of}
 
 pub record Session : Type 0 where
-  -- the number of the session's client
+  -- the client ID of the session's client
   pub client : ℕ
   pub granted : Channel
   pub slots : List Place
@@ -30,7 +30,7 @@ pub record Client : Type 0 where
   -- the client has sent RECLAIM_COMPLETE
   pub reclaimed : Bool
 
--- clients and sessions by rising number, and the numbers that the next ones get
+-- clients and sessions by rising number, and the numbers of the next ones
 pub record Registry : Type 0 where
   pub clients : List (ℕ × Client)
   pub sessions : List (ℕ × Session)
@@ -53,7 +53,7 @@ abbrev pub place_results : Option Place → List ℕ
 place_results None = []
 place_results (Some p) = results_of p.kept
 
--- the results that a slot keeps: none where it keeps no call, or isn't there
+-- the results that a slot caches; none if it caches no call, or doesn't exist
 abbrev pub results_at : Registry → ℕ → ℕ → List ℕ
 results_at r session slot = place_results (place_at r session slot)
 
@@ -64,18 +64,18 @@ is_confirmed_of owner c = c.confirmed && pointwise nat_eq c.owner owner
 abbrev pub confirmed_entry : Registry → List ℕ → Option Client
 confirmed_entry r owner = find (is_confirmed_of owner) (values_of r.clients)
 
--- the clients after a change f of the record of a number
+-- the clients after a change f of the record of a client ID
 abbrev pub changed_client : ℕ → (Client → Client) → List (ℕ × Client) → List (ℕ × Client)
 changed_client number f clients =
     option_map_or (λ c. set_value (is_at (nat_cmp number)) clients (f c))
     (lookup (is_at (nat_cmp number)) clients) clients
 
--- the clients without the record of a client that goes, if one does
+-- the clients without the record of this client, if one is named
 abbrev pub without_record : Option ℕ → List (ℕ × Client) → List (ℕ × Client)
 without_record None clients = clients
 without_record (Some client) clients = filter (λ e. not (e.0 == client)) clients
 
--- the sessions without those of a client that goes, if one does
+-- the sessions without those of this client, if one is named
 abbrev pub without_sessions : Option ℕ → List (ℕ × Session) → List (ℕ × Session)
 without_sessions None sessions = sessions
 without_sessions (Some client) sessions = filter (λ e. not (e.1.client == client)) sessions
@@ -96,7 +96,7 @@ changed_place slot f slots = option_map_or (λ p. set slots slot (f p)) (slice_g
 abbrev pub with_place : ℕ → (Place → Place) → Session → Session
 with_place slot f s = record s { slots = changed_place slot f s.slots }
 
--- this many slots that have accepted no call, or that keep none and lag
+-- `count` slots that have accepted no call, or that cache none and lag
 abbrev pub unused_places : Bool → ℕ → ℕ → ℕ → List Place
 unused_places lags count most_arguments most_results = replicate count (record {
   kept = None;
@@ -106,25 +106,25 @@ unused_places lags count most_arguments most_results = replicate count (record {
 })
 
 -- how many bytes of results each slot of a session caches: those of a reply after its header
-abbrev pub kept_size : Channel → ℕ
-kept_size granted = granted.reply_size - REPLY_HEADER
+abbrev pub cache_size : Channel → ℕ
+cache_size granted = granted.reply_size - REPLY_HEADER
 
--- the slots of a session that may be absent
-abbrev pub most_kept : Option Session → ℕ
-most_kept None = 0
-most_kept (Some s) = kept_size s.granted
+-- the room for results of each slot of a session that may be absent
+abbrev pub most_cached : Option Session → ℕ
+most_cached None = 0
+most_cached (Some s) = cache_size s.granted
 
 abbrev pub new_session : ℕ → Channel → Session
 new_session client granted = record {
   client = client;
   granted = granted;
-  slots = unused_places false granted.slots granted.request_size (kept_size granted);
+  slots = unused_places false granted.slots granted.request_size (cache_size granted);
 }
 
--- a session after a restart, whose slots keep no call yet
+-- a session after a restart, whose slots cache no call yet
 abbrev pub restored_session : ℕ → Channel → Session
 restored_session client granted = record {
   client = client;
   granted = granted;
-  slots = unused_places true granted.slots granted.request_size (kept_size granted);
+  slots = unused_places true granted.slots granted.request_size (cache_size granted);
 }

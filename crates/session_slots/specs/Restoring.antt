@@ -1,5 +1,4 @@
--- How clients, sessions and slots are kept over a restart, and made again of what is kept
--- (RFC 8881, section 2.10.6.5).
+-- How stored clients, sessions and slots are restored after a restart (RFC 8881, section 2.10.6.5).
 use Rattle.std.specs.Prelude.{◌≡◌, ℕ, ◌&&◌, Bool, false, not, nat_lt, nat_le, List, [], map, length, Option, Some, None}
 use Rattle.std.specs.Prelude.{is_some, is_none, find}
 use Rattle.std.specs.List.Sorted.{IsStrictlySortedBy}
@@ -11,10 +10,10 @@ use Rattle.session_slots.specs.declared.session.Channel.{Channel}
 use Rattle.session_slots.specs.declared.session.Held.{Held}
 use Rattle.session_slots.specs.Limits.{MOST_CLIENTS, MOST_SESSIONS, MOST_SLOTS, MOST_BYTES, LEAST_REPLY}
 use Rattle.session_slots.specs.Limits.{MOST_OPERATIONS, END}
-use Rattle.session_slots.specs.Slots.{Kept, restored}
+use Rattle.session_slots.specs.Slots.{Cached, restored}
 use Rattle.session_slots.specs.Orderly.{has_form}
 use Rattle.session_slots.specs.Registry.{Client, Session, Registry, client_at, session_at, place_at, confirmed_entry}
-use Rattle.session_slots.specs.Registry.{kept_size, restored_session, with_session, with_place}
+use Rattle.session_slots.specs.Registry.{cache_size, restored_session, with_session, with_place}
 
 -- nothing is restored yet: the next client and the next session get these numbers
 abbrev pub nothing_yet : ℕ → ℕ → Registry
@@ -25,8 +24,8 @@ nothing_yet next_client next_session = record {
   next_session = next_session;
 }
 
--- Numbers that the next client and the next session may get: none is below that which would have been given, or above
--- 2 ^ 63.
+-- Numbers that the next client and the next session may get: none is below the number that it replaces, or above 2 ^
+-- 63.
 abbrev pub numbers_fit : Registry → ℕ → ℕ → Bool
 numbers_fit r next_client next_session =
     nat_le r.next_client next_client
@@ -37,7 +36,7 @@ with_numbers next_client next_session r = record r { next_client = next_client; 
 
 -- ---- a record
 
--- a record may stand beside those that are there
+-- a record fits beside the existing ones
 abbrev pub record_fits : Registry → Client → Bool
 record_fits r c =
     nat_lt c.number r.next_client
@@ -61,7 +60,7 @@ abbrev pub is_home : Option Client → Bool
 is_home None = false
 is_home (Some c) = c.confirmed
 
--- a session may stand: it has a number that was given, and its client a confirmed record
+-- a session fits: its number was given and is free, and its client has a confirmed record
 abbrev pub session_fits : Registry → ℕ → Held → Bool
 session_fits r number held =
     nat_lt number r.next_session
@@ -74,15 +73,15 @@ with_restored r number held =
 
 -- ---- a slot
 
--- a call may stand in a slot: the slot is there, and there is room
-abbrev pub slot_fits : Option Session → ℕ → Kept → Bool
+-- a call fits a slot: the slot exists, and has room
+abbrev pub slot_fits : Option Session → ℕ → Cached → Bool
 slot_fits None slot k = false
 slot_fits (Some s) slot k =
     nat_lt slot s.granted.slots
-    && (nat_le (length k.call.arguments) s.granted.request_size && nat_le (length k.results) (kept_size s.granted))
+    && (nat_le (length k.call.arguments) s.granted.request_size && nat_le (length k.results) (cache_size s.granted))
 
-abbrev pub with_kept : Registry → ℕ → ℕ → Kept → Registry
-with_kept r session slot k = with_session session (with_place slot (restored k)) r
+abbrev pub with_cached : Registry → ℕ → ℕ → Cached → Registry
+with_cached r session slot k = with_session session (with_place slot (restored k)) r
 
 -- ---- what is read out
 
@@ -90,15 +89,15 @@ with_kept r session slot k = with_session session (with_place slot (restored k))
 abbrev pub IsRising : {X : Type 0} → List (ℕ × X) → Type 0
 IsRising es = IsStrictlySortedBy nat_cmp (keys_of es)
 
--- the least number that is at least this one
+-- the least number that is at least `number`
 abbrev pub number_from : {X : Type 0} → ℕ → List (ℕ × X) → Option ℕ
 number_from number es = find (λ n. nat_le number n) (keys_of es)
 
 abbrev pub held_of : Session → Held
 held_of s = record { client = s.client; granted = s.granted }
 
--- the call that a slot keeps
-abbrev pub kept_at : Registry → ℕ → ℕ → Option Kept
+-- the call that a slot caches
+abbrev pub kept_at : Registry → ℕ → ℕ → Option Cached
 kept_at r session slot = option_and_then (λ p. p.kept) (place_at r session slot)
 
 -- the sessions without their slots, by number

@@ -10,7 +10,7 @@ use Rattle.session_slots.specs.declared.slot.Turn.{Turn}
 use Rattle.session_slots.specs.declared.slot.Turn.TheVariants as turns
 use Rattle.session_slots.specs.Limits.{MOST_BYTES, LEAST_REPLY}
 use Rattle.session_slots.specs.Slots.{Call, Place, turn_of, begun, BeginsBy, KeepsByHistory}
-use Rattle.session_slots.specs.Registry.{Session, Registry, kept_size, session_at, place_at, client_at, with_session}
+use Rattle.session_slots.specs.Registry.{Session, Registry, cache_size, session_at, place_at, client_at, with_session}
 use Rattle.session_slots.specs.Registry.{with_place}
 
 -- the arguments of SEQUENCE, and its COMPOUND
@@ -79,37 +79,37 @@ UnlessNew (begins.New new) A = Unit {0}
 UnlessNew begins.Repeat A = A
 UnlessNew (begins.Refused status) A = A
 
--- a session has as many slots as were granted, each with the room that was granted
+-- a session has as many slots as were granted, each with the granted room
 pub record HasSlots (granted : Channel) (slots : List Place) : Type 0 where
   pub count : length slots ≡ granted.slots
   pub some : 1 ≤ granted.slots
   pub arguments : All (λ p. p.most_arguments ≡ granted.request_size) slots
-  pub results : All (λ p. p.most_results ≡ kept_size granted) slots
+  pub results : All (λ p. p.most_results ≡ cache_size granted) slots
 
 -- the turn of an answer
-abbrev pub turn_told : Begin → Turn
-turn_told (begins.New new) = turns.New
-turn_told begins.Repeat = turns.Repeat
-turn_told (begins.Refused status) = turns.Refused status
+abbrev pub turn_of_begin : Begin → Turn
+turn_of_begin (begins.New new) = turns.New
+turn_of_begin begins.Repeat = turns.Repeat
+turn_of_begin (begins.Refused status) = turns.Refused status
 
--- A call that isn't refused before its number is checked. For every history of its slot it gets the
--- history's result, and the slot stands for the history with the call.
+-- A call that isn't refused before its sequence ID is checked. For every history of its slot it gets the history's
+-- result, and the slot represents the history with the call.
 pub record SequencesByHistory (old new : Registry) (session : ℕ) (a : Asked) (answer : Begin) : Type 0 where
   pub by_history : (s : Session) (p : Place) → session_at old session ≡ Some s → grant_fault s.granted a ≡ None
       → slice_get s.slots a.slot ≡ Some p →
-      (q : Place) × (place_at new session a.slot ≡ Some q) × BeginsBy p.lags p.kept q a.call (turn_told answer)
+      (q : Place) × (place_at new session a.slot ≡ Some q) × BeginsBy p.lags p.kept q a.call (turn_of_begin answer)
 
--- A new call has a session that is there, with its slot and its client, until one of them is
--- destroyed. Its results may be cached.
-abbrev pub StandsIn : Registry → ℕ → ℕ → Begin → Type 0
-StandsIn r session slot (begins.New new) =
+-- The session of a new call exists, with its slot and its client, until one of them is destroyed. Its results may be
+-- cached.
+abbrev pub HasSlot : Registry → ℕ → ℕ → Begin → Type 0
+HasSlot r session slot (begins.New new) =
     (s : Session) × (session_at r session ≡ Some s) × (s.client ≡ new.client) × (s.granted.reply_size ≡ new.reply_size)
     × (s.granted.slots ≡ new.highest_slot + 1) × (slot ≤ new.highest_slot) × IsSome (client_at r new.client)
     × (LEAST_REPLY ≤ new.reply_size) × (new.reply_size ≤ MOST_BYTES)
-StandsIn r session slot begins.Repeat = Unit {0}
-StandsIn r session slot (begins.Refused status) = Unit {0}
+HasSlot r session slot begins.Repeat = Unit {0}
+HasSlot r session slot (begins.Refused status) = Unit {0}
 
--- A slot that is there has the results of its newest call now, for every history.
+-- A slot that exists has the results of its newest call now, for every history.
 pub record KeepsAt (old new : Registry) (session slot : ℕ) (results : List ℕ) : Type 0 where
   pub by_history : (s : Session) (p : Place) → session_at old session ≡ Some s → slice_get s.slots slot ≡ Some p →
       (q : Place) × (place_at new session slot ≡ Some q) × KeepsByHistory p.kept q.kept results

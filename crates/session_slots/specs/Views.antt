@@ -1,4 +1,4 @@
--- The arguments of calls, and what is kept over a restart, as the definitions see them.
+-- The arguments of calls, and stored state, as the definitions see them.
 use Rattle.std.specs.Prelude.{ℕ, List, ◌++◌}
 use Rattle.session_slots.specs.declared.call_bytes.CallBytes.{CallBytes}
 use Rattle.session_slots.specs.declared.session.Sequence.{Sequence}
@@ -6,13 +6,13 @@ use Rattle.session_slots.specs.declared.exchanging.Exchange.{Exchange}
 use Rattle.session_slots.specs.Exchanging.{Exchanging}
 use Rattle.session_slots.specs.declared.client.Record.{Record}
 use Rattle.session_slots.specs.Registry.{Client}
-use Rattle.session_slots.specs.Slots.{Call, Kept}
-use Rattle.session_slots.specs.declared.slot.KeptCall.{KeptCall}
+use Rattle.session_slots.specs.Slots.{Call, Cached}
+use Rattle.session_slots.specs.declared.slot.CachedCall.{CachedCall}
 use Rattle.session_slots.specs.Sequencing.{Asked}
 
--- the bytes that a repeat of a call has to have
+-- the bytes that a retry of a call has to repeat
 abbrev pub bytes_of : CallBytes → List ℕ
-bytes_of c = c.front.now ++ c.back.now
+bytes_of c = c.prefix.now ++ c.back.now
 
 abbrev pub call_of : Sequence → Call
 call_of s = record { number = s.number; caller = s.caller.now; arguments = bytes_of s.arguments }
@@ -29,7 +29,7 @@ exchanging_of e = record {
   has_opens = e.has_opens;
 }
 
-abbrev pub kept_of : KeptCall → Kept
+abbrev pub kept_of : CachedCall → Cached
 kept_of k = record {
   call = record { number = k.number; caller = k.caller.now; arguments = k.arguments.now };
   results = k.results.now;

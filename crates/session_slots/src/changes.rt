@@ -1,10 +1,11 @@
 //! Changes of clients and of sessions, by number.
-ghost use Rattle.std.specs.Prelude.{◌≡◌, ◌==◌, ◌||◌, true, not, filter, find, length, Some, Ok, OnOk, OnErr};
+ghost use Rattle.std.specs.Prelude.{◌≡◌, ◌==◌, ◌||◌, true, not, filter, find, length, map, Some, Ok, OnOk, OnErr};
 ghost use Rattle.std.specs.Option.{option_copied};
 ghost use Rattle.std.specs.List.{list_any};
 ghost use Rattle.std.specs.Map.{values_of};
 ghost use Rattle.std.specs.BTreeMap.{insert_entry};
 ghost use Rattle.std.specs.Ordering.{nat_cmp};
+ghost use Rattle.session_slots.specs.Covering.{session_lagging};
 ghost use Rattle.session_slots.specs.Destroying.{has_reclaimed};
 ghost use Rattle.session_slots.specs.Exchanging.{goes, stays, is_unconfirmed_of};
 ghost use Rattle.session_slots.specs.Creating.{other_record};
@@ -15,7 +16,7 @@ use crate::session::Session;
 use std::alloc::{AllocError, Allocator};
 use std::collections::BTreeMap;
 
-/// Keeps a CREATE_SESSION of a client.
+/// Caches a CREATE_SESSION of a client.
 pub fn accept<A: Allocator>(
     clients: &mut BTreeMap<u64, Client<A>, A>,
     number: u64,
@@ -43,78 +44,88 @@ pub fn confirm<A: Allocator>(
     }
 }
 
-/// Takes away the sessions of a client that goes, if one does.
+/// Removes the sessions of the client `removed`, if there is one.
 pub fn remove_sessions<A: Allocator + Copy>(
     sessions: &mut BTreeMap<u64, Session<A>, A>,
-    gone: Option<u64>,
+    removed: Option<u64>,
 )
-    ensures { sessions.new.entries ≡ without_sessions gone sessions.old.entries }
+    ensures { sessions.new.entries ≡ without_sessions removed sessions.old.entries }
 {
-    if let Some(client) = gone {
+    if let Some(client) = removed {
         remove_sessions_of(sessions, client);
     }
 }
 
-/// Takes away the sessions of a client.
+/// Removes the sessions of a client.
 fn remove_sessions_of<A: Allocator + Copy>(sessions: &mut BTreeMap<u64, Session<A>, A>, client: u64)
     ensures { sessions.new.entries ≡ filter (λ e. not (e.1.client == client)) sessions.old.entries }
 {
     sessions.retain(|_, session| session.client() != client);
 }
 
-/// Takes away the unconfirmed record of an owner.
+/// Makes all slots of these sessions lag.
+pub fn lag_each<A: Allocator + Copy>(sessions: &mut BTreeMap<u64, Session<A>, A>)
+    ensures { sessions.new.entries ≡ map (λ e. (e.0, session_lagging e.1)) sessions.old.entries }
+{
+    sessions.retain(|_, session| {
+        session.lag_all();
+        true
+    });
+}
+
+/// Removes the unconfirmed record of an owner.
 pub fn remove_unconfirmed<A: Allocator>(clients: &mut BTreeMap<u64, Client<A>, A>, owner: &[u8])
     ensures { clients.new.entries ≡ filter (λ e. not (is_unconfirmed_of owner.now e.1)) clients.old.entries }
 {
     clients.retain(|_, client| !client.is_unconfirmed_of(owner));
 }
 
-/// Whether this is the client that goes.
-fn goes(gone: Option<u64>, number: u64) -> bool
-    ensures { result ≡ goes gone number }
+/// Whether this client is removed.
+fn goes(removed: Option<u64>, number: u64) -> bool
+    ensures { result ≡ goes removed number }
 {
-    match gone {
+    match removed {
         Some(client) => number == client,
         None => false,
     }
 }
 
-/// Whether a record stays as its owner gets a new one and a client goes.
-fn stays<A: Allocator>(gone: Option<u64>, owner: &[u8], number: u64, client: &Client<A>) -> bool
-    ensures { result ≡ stays gone owner.now (number, client.now) }
+/// Whether a record stays when its owner gets a new one and the client `removed` is removed.
+fn stays<A: Allocator>(removed: Option<u64>, owner: &[u8], number: u64, client: &Client<A>) -> bool
+    ensures { result ≡ stays removed owner.now (number, client.now) }
 {
-    !client.is_unconfirmed_of(owner) && !goes(gone, number)
+    !client.is_unconfirmed_of(owner) && !goes(removed, number)
 }
 
-/// Takes away the records that don't stay as an owner gets this new one and a client goes.
+/// Removes the records that don't stay when an owner gets this new one and the client `removed` is removed.
 pub fn remove_others<A: Allocator>(
     clients: &mut BTreeMap<u64, Client<A>, A>,
     number: u64,
     owner: &[u8],
-    gone: Option<u64>,
+    removed: Option<u64>,
 )
-    ensures { clients.new.entries ≡ filter (λ e. e.0 == number || stays gone owner.now e) clients.old.entries }
+    ensures { clients.new.entries ≡ filter (λ e. e.0 == number || stays removed owner.now e) clients.old.entries }
 {
-    clients.retain(|n, client| *n == number || stays(gone, owner, *n, client));
+    clients.retain(|n, client| *n == number || stays(removed, owner, *n, client));
 }
 
-/// Takes away the record of a client that goes, if one does.
-pub fn remove_record<A: Allocator>(clients: &mut BTreeMap<u64, Client<A>, A>, gone: Option<u64>)
-    ensures { clients.new.entries ≡ without_record gone clients.old.entries }
+/// Removes the record of the client `removed`, if there is one.
+pub fn remove_record<A: Allocator>(clients: &mut BTreeMap<u64, Client<A>, A>, removed: Option<u64>)
+    ensures { clients.new.entries ≡ without_record removed clients.old.entries }
 {
-    if let Some(number) = gone {
+    if let Some(number) = removed {
         remove_number(clients, number);
     }
 }
 
-/// Takes away the record of this number.
+/// Removes the record of this client ID.
 fn remove_number<A: Allocator>(clients: &mut BTreeMap<u64, Client<A>, A>, number: u64)
     ensures { clients.new.entries ≡ filter (λ e. not (e.0 == number)) clients.old.entries }
 {
     clients.retain(|n, _| *n != number);
 }
 
-/// Keeps that a client has sent RECLAIM_COMPLETE.
+/// Records that a client has sent RECLAIM_COMPLETE.
 pub fn reclaim<A: Allocator>(clients: &mut BTreeMap<u64, Client<A>, A>, number: u64)
     ensures { clients.new.entries ≡ changed_client number has_reclaimed clients.old.entries }
 {
@@ -123,12 +134,12 @@ pub fn reclaim<A: Allocator>(clients: &mut BTreeMap<u64, Client<A>, A>, number: 
     }
 }
 
-/// A client was heard in this second.
-pub fn hear<A: Allocator>(clients: &mut BTreeMap<u64, Client<A>, A>, number: u64, now: u64)
+/// Renews a client's lease in this second.
+pub fn renew<A: Allocator>(clients: &mut BTreeMap<u64, Client<A>, A>, number: u64, now: u64)
     ensures { clients.new.entries ≡ changed_client number (λ c. c) clients.old.entries }
 {
     if let Some(client) = clients.get_mut(&number) {
-        client.hear(now);
+        client.renew(now);
     }
 }
 
@@ -142,17 +153,17 @@ pub fn has_sessions<A: Allocator + Copy>(
     sessions.values().any(|session| session.client() == client)
 }
 
-/// How many records stay as an owner gets a new one and a client goes.
+/// How many records stay when an owner gets a new one and the client `removed` is removed.
 pub fn staying_count<A: Allocator>(
     clients: &BTreeMap<u64, Client<A>, A>,
     owner: &[u8],
-    gone: Option<u64>,
+    removed: Option<u64>,
 ) -> usize
-    ensures { result ≡ length (filter (stays gone owner.now) clients.now.entries) }
+    ensures { result ≡ length (filter (stays removed owner.now) clients.now.entries) }
 {
     clients
         .iter()
-        .filter(|e| stays(gone, owner, *e.0, e.1))
+        .filter(|e| stays(removed, owner, *e.0, e.1))
         .count()
 }
 
@@ -168,7 +179,7 @@ pub fn confirmed_in<'c, A: Allocator>(
         .find(|client| client.is_confirmed_of(owner))
 }
 
-/// The number of an owner's confirmed record, unless it is this number.
+/// The client ID of an owner's confirmed record, unless it is `number`.
 pub fn other_in<A: Allocator>(
     clients: &BTreeMap<u64, Client<A>, A>,
     owner: &[u8],
@@ -182,7 +193,7 @@ pub fn other_in<A: Allocator>(
         .map(|client| client.number())
 }
 
-/// Adds the record of a client. `Err`: there is no memory for it.
+/// Adds the record of a client. `Err`: an allocation failed.
 pub fn add_client<A: Allocator + Copy>(
     clients: &mut BTreeMap<u64, Client<A>, A>,
     number: u64,
@@ -195,7 +206,7 @@ pub fn add_client<A: Allocator + Copy>(
     Ok(())
 }
 
-/// Adds a session. `Err`: there is no memory for it.
+/// Adds a session. `Err`: an allocation failed.
 pub fn add_session<A: Allocator + Copy>(
     sessions: &mut BTreeMap<u64, Session<A>, A>,
     number: u64,

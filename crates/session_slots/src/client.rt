@@ -2,7 +2,7 @@
 ghost use Rattle.std.specs.Prelude.{◌≡◌, ◌==◌, ◌&&◌, if◌then◌else◌, not, true, false, Some, None, Ok, IfOk};
 ghost use Rattle.std.specs.Option.{option_map};
 ghost use Rattle.session_slots.specs.Counting.{due, last_number};
-ghost use Rattle.session_slots.specs.Creating.{number_of, repeated};
+ghost use Rattle.session_slots.specs.Creating.{number_of, cached_result};
 ghost use Rattle.session_slots.specs.Destroying.{has_reclaimed};
 ghost use Rattle.session_slots.specs.Exchanging.{is_unconfirmed_of};
 ghost use Rattle.session_slots.specs.Registry.{is_confirmed_of};
@@ -14,6 +14,12 @@ use nfs_types::Status;
 use std::alloc::{AllocError, Allocator, Global};
 use std::marker::Model;
 
+// the seconds of the lease of a client whose runs are short
+const SHORT_LEASE: u64 = 10;
+
+// the first bytes of such a client's owner: those of a run of `nfsc` with one command
+const SHORT_RUN: &[u8] = b"nfsc";
+
 /// The answer to a CREATE_SESSION that created a session (RFC 8881, section 18.36).
 #[derive(Clone, Copy, Debug, PartialEq, Eq)]
 pub struct Created {
@@ -21,9 +27,9 @@ pub struct Created {
     pub session: u64,
     /// The sequence ID of the call.
     pub sequence: u32,
-    /// Whether the session and its slots are kept over a restart, CREATE_SESSION4_FLAG_PERSIST.
+    /// Whether the session is persistent, CREATE_SESSION4_FLAG_PERSIST.
     pub persist: bool,
-    /// The fore channel, as far as it is granted.
+    /// The fore channel, as granted.
     pub fore: Channel,
     /// The backchannel, as it was requested.
     pub back: Channel,
@@ -38,10 +44,10 @@ pub struct Creation {
     pub result: Result<Created, Status>,
 }
 
-/// The record of a client, as it is kept over a restart.
+/// The record of a client, as it is stored.
 #[derive(Clone, Copy, Debug)]
 pub struct Record<'a> {
-    /// The number of the client.
+    /// The client ID.
     pub number: u64,
     /// The client owner's ID.
     pub owner: &'a [u8],
@@ -67,8 +73,8 @@ pub struct Client<A: Allocator = Global> {
     confirmed: bool,
     created: Option<Creation>,
     reclaimed: bool,
-    // the second in which the client was heard last, which is no part of the model
-    heard: u64,
+    // the second of the lease's last renewal, which isn't part of the model
+    renewed: u64,
 }
 
 impl<A: Allocator> Model for Client<A> {
@@ -88,7 +94,7 @@ impl<A: Allocator> Model for Client<A> {
 }
 
 impl<A: Allocator> Client<A> {
-    /// The record of an owner that isn't confirmed, heard in this second. `Err`: there is no memory for it.
+    /// A new record of an owner, not confirmed, whose lease begins in this second. `Err`: an allocation failed.
     pub fn new(
         alloc: A,
         number: u64,
@@ -115,11 +121,11 @@ impl<A: Allocator> Client<A> {
             confirmed: false,
             created: None,
             reclaimed: false,
-            heard: now,
+            renewed: now,
         })
     }
 
-    /// A record of before a restart, which counts as heard in this second. `Err`: there is no memory for it.
+    /// A record of before a restart, whose lease begins in this second. `Err`: an allocation failed.
     pub fn restored(alloc: A, kept: Record<'_>, now: u64) -> Result<Self, AllocError>
         ensures { IfOk result (λ c. c ≡ client_of kept.entry) }
     {
@@ -131,11 +137,11 @@ impl<A: Allocator> Client<A> {
             confirmed: kept.confirmed,
             created: kept.created,
             reclaimed: kept.reclaimed,
-            heard: now,
+            renewed: now,
         })
     }
 
-    /// The record as it is kept over a restart.
+    /// The record, as it is stored.
     pub fn record(&self) -> Record<'_>
         ensures { client_of result ≡ self.now }
     {
@@ -150,19 +156,25 @@ impl<A: Allocator> Client<A> {
         }
     }
 
-    /// The second in which the client was heard last.
-    pub fn heard(&self) -> u64 {
-        self.heard
+    /// The last second of the lease, after which the client may expire when room is wanted: `lease` after its last
+    /// renewal, or 10 if that is less and its runs are short.
+    pub(crate) fn lease_end(&self, lease: u64) -> u64 {
+        let seconds = if has_short_runs(&self.owner) {
+            lease.min(SHORT_LEASE)
+        } else {
+            lease
+        };
+        self.renewed.saturating_add(seconds)
     }
 
-    /// The client was heard.
-    pub fn hear(&mut self, now: u64)
+    /// Renews the lease.
+    pub fn renew(&mut self, now: u64)
         ensures { self.new ≡ self.old }
     {
-        self.heard = self.heard.max(now);
+        self.renewed = self.renewed.max(now);
     }
 
-    /// The number of the client.
+    /// The client ID.
     pub fn number(&self) -> u64
         ensures { result ≡ self.now.number }
     {
@@ -222,8 +234,8 @@ impl<A: Allocator> Client<A> {
     }
 
     /// The result of the last CREATE_SESSION, if this is its sequence ID.
-    pub fn repeated(&self, number: u32) -> Option<Result<Created, Status>>
-        ensures { result ≡ repeated self.now.created number }
+    pub fn cached_result(&self, number: u32) -> Option<Result<Created, Status>>
+        ensures { result ≡ cached_result self.now.created number }
     {
         match &self.created {
             Some(creation) if creation.number == number => Some(creation.result),
@@ -231,14 +243,14 @@ impl<A: Allocator> Client<A> {
         }
     }
 
-    /// Keeps a CREATE_SESSION as the last one.
+    /// Caches a CREATE_SESSION as the last one.
     pub fn accept(&mut self, creation: Creation)
         ensures { self.new ≡ record self.old { created = Some creation } }
     {
         self.created = Some(creation);
     }
 
-    /// Confirms the record, and keeps the CREATE_SESSION that confirmed it.
+    /// Confirms the record, and caches the CREATE_SESSION that confirmed it.
     pub fn confirm(&mut self, creation: Creation)
         ensures { self.new ≡ record self.old { confirmed = true; created = Some creation } }
     {
@@ -253,10 +265,16 @@ impl<A: Allocator> Client<A> {
         self.reclaimed
     }
 
-    /// Keeps that the client has sent RECLAIM_COMPLETE.
+    /// Records that the client has sent RECLAIM_COMPLETE.
     pub fn reclaim(&mut self)
         ensures { self.new ≡ has_reclaimed self.old }
     {
         self.reclaimed = true;
     }
+}
+
+/// Whether an owner names a program whose runs take a moment, so that a run that was killed needn't keep its place for
+/// a whole lease.
+fn has_short_runs(owner: &[u8]) -> bool {
+    owner.starts_with(SHORT_RUN)
 }

@@ -3,12 +3,12 @@ ghost use Rattle.std.specs.Prelude.{◌≡◌, ◌≤◌, ◌<◌, true, false, 
 ghost use Rattle.std.specs.Prelude.{IsOk, OnOk, OnErr, MatchOption};
 ghost use Rattle.std.specs.Option.{option_map};
 ghost use Rattle.session_slots.specs.Limits as limits;
-ghost use Rattle.session_slots.specs.Covering.{lagging_at};
+ghost use Rattle.session_slots.specs.Covering.{all_lagging, lagging_at};
 ghost use Rattle.session_slots.specs.Keeping.{is_created, last_at, passes};
 ghost use Rattle.session_slots.specs.Slots.{finished};
-ghost use Rattle.session_slots.specs.Registry.{nobody, client_at, session_at, results_at, kept_size, confirmed_entry};
+ghost use Rattle.session_slots.specs.Registry.{nobody, client_at, session_at, results_at, cache_size, confirmed_entry};
 ghost use Rattle.session_slots.specs.Registry.{with_session, with_place};
-ghost use Rattle.session_slots.specs.Sequencing.{sequence_begin, sequence_begun, SequencesByHistory, StandsIn};
+ghost use Rattle.session_slots.specs.Sequencing.{sequence_begin, sequence_begun, SequencesByHistory, HasSlot};
 ghost use Rattle.session_slots.specs.Sequencing.{UnlessNew, KeepsAt, HasSlots};
 ghost use Rattle.session_slots.specs.Creating.{Creates, CreatesAt};
 ghost use Rattle.session_slots.specs.Exchanging.{Exchanges};
@@ -16,9 +16,9 @@ ghost use Rattle.session_slots.specs.Destroying.{destroy_session_refusal, withou
 ghost use Rattle.session_slots.specs.Destroying.{without_client, reclaim_refusal, with_reclaimed};
 ghost use Rattle.session_slots.specs.Orderly.{IsOrderly, has_form};
 ghost use Rattle.session_slots.specs.Restoring.{IsRising, number_from, numbers_fit, record_fits, with_record};
-ghost use Rattle.session_slots.specs.Restoring.{session_fits, with_restored, slot_fits, with_kept, held_of, kept_at};
+ghost use Rattle.session_slots.specs.Restoring.{session_fits, with_restored, slot_fits, with_cached, held_of, kept_at};
 ghost use Rattle.session_slots.specs.Restoring.{with_numbers};
-ghost use Rattle.session_slots.specs.Letting.{let_go};
+ghost use Rattle.session_slots.specs.Expiring.{expire};
 ghost use Rattle.session_slots.specs.Views.{asked_of, bytes_of, exchanging_of, client_of, kept_of};
 
 use crate::client::Record;
@@ -28,7 +28,7 @@ use crate::limits::MOST_AHEAD;
 use crate::registry::Registry;
 use crate::restoring::RestoreFault;
 use crate::session::{Begin, Held, Sequence};
-use crate::slot::KeptCall;
+use crate::slot::CachedCall;
 use nfs_types::Status;
 use std::alloc::{Allocator, Global};
 use std::marker::Model;
@@ -61,14 +61,14 @@ impl<A: Allocator + Copy> Clients<A> {
         }
     }
 
-    /// The number of an owner's confirmed record. It takes no memory.
+    /// The client ID of an owner's confirmed record. It allocates no memory.
     pub fn confirmed_of(&self, owner: &[u8]) -> Option<u64>
         ensures { result ≡ option_map (λ c. c.number) (confirmed_entry self.now owner.now) }
     {
         self.registry.confirmed_of(owner)
     }
 
-    /// EXCHANGE_ID (RFC 8881, section 18.35). DELAY: there is no memory for a new record, and nothing changes.
+    /// EXCHANGE_ID (RFC 8881, section 18.35). DELAY: the allocation of a new record failed, and nothing changes.
     pub fn exchange_id(&mut self, asked: Exchange<'_>) -> Result<Exchanged, Status>
         requires { length asked.owner.now ≤ limits.MOST_OWNER }
         ensures { Exchanges self.old (exchanging_of asked.entry) result self.new }
@@ -76,10 +76,9 @@ impl<A: Allocator + Copy> Clients<A> {
         self.registry.exchange(asked)
     }
 
-    /// CREATE_SESSION (RFC 8881, section 18.36). A call with the sequence ID of the last one gets
-    /// the result that is kept. A call that is refused after its sequence ID was checked is kept as
-    /// the last one, but for DELAY. At DELAY there is no memory for a new session, and nothing
-    /// changes.
+    /// CREATE_SESSION (RFC 8881, section 18.36). A call with the sequence ID of the last one gets the cached result.
+    /// A call that is refused after its sequence ID was checked is cached as the last one, except for DELAY. DELAY:
+    /// the allocation of a new session failed, and nothing changes.
     #[tactic(auto, using(crate::proofs::Creations::creates_by_history))]
     pub fn create_session(&mut self, asked: Create) -> Made
         ensures creates { Creates self.old asked result self.new }
@@ -88,7 +87,7 @@ impl<A: Allocator + Copy> Clients<A> {
         self.registry.create(asked)
     }
 
-    /// DESTROY_SESSION (RFC 8881, section 18.37). BADSESSION: the session isn't there. It takes no memory.
+    /// DESTROY_SESSION (RFC 8881, section 18.37). BADSESSION: the session doesn't exist. It allocates no memory.
     pub fn destroy_session(&mut self, session: u64) -> Result<(), Status>
         ensures refused { MatchOption (destroy_session_refusal self.old session) (IsOk result)
             (λ status. result ≡ Err status) }
@@ -98,8 +97,8 @@ impl<A: Allocator + Copy> Clients<A> {
         self.registry.destroy_session(session)
     }
 
-    /// DESTROY_CLIENTID (RFC 8881, section 18.50). STALE_CLIENTID: the client isn't there.
-    /// CLIENTID_BUSY: it has opens or sessions. It takes no memory.
+    /// DESTROY_CLIENTID (RFC 8881, section 18.50). STALE_CLIENTID: the client doesn't exist. CLIENTID_BUSY: it has
+    /// opens or sessions. It allocates no memory.
     pub fn destroy_client(&mut self, client: u64, has_opens: bool) -> Result<(), Status>
         ensures refused { MatchOption (destroy_client_refusal self.old client has_opens) (IsOk result)
             (λ status. result ≡ Err status) }
@@ -109,8 +108,8 @@ impl<A: Allocator + Copy> Clients<A> {
         self.registry.destroy_client(client, has_opens)
     }
 
-    /// RECLAIM_COMPLETE for all file systems (RFC 8881, section 18.51). COMPLETE_ALREADY: the
-    /// client has sent it before. STALE_CLIENTID: the client isn't there. It takes no memory.
+    /// RECLAIM_COMPLETE for all file systems (RFC 8881, section 18.51). COMPLETE_ALREADY: the client has sent it
+    /// before. STALE_CLIENTID: the client doesn't exist. It allocates no memory.
     pub fn reclaim_complete(&mut self, client: u64) -> Result<(), Status>
         ensures refused { MatchOption (reclaim_refusal self.old client) (IsOk result) (λ status. result ≡ Err status) }
         ensures ok { OnOk result (self.new ≡ with_reclaimed self.old client) }
@@ -119,21 +118,21 @@ impl<A: Allocator + Copy> Clients<A> {
         self.registry.reclaim_complete(client)
     }
 
-    /// SEQUENCE (RFC 8881, section 18.46): begins a call on a slot. A repeat gets
-    /// [`Clients::results`]. A call that isn't new changes nothing. It takes no memory.
+    /// SEQUENCE (RFC 8881, section 18.46): begins a call on a slot. A retry gets [`Clients::results`]. A call that
+    /// isn't new changes nothing. It allocates no memory.
     #[tactic(auto, using(crate::proofs::Beginning::sequences_by_history, crate::proofs::Staying::stays))]
     pub fn begin(&mut self, session: u64, asked: Sequence<'_>) -> Begin
         requires { length (bytes_of asked.arguments) ≤ asked.record_len }
         ensures answer { result ≡ sequence_begin self.old session (asked_of asked.entry) }
         ensures begun { self.new ≡ sequence_begun self.old session (asked_of asked.entry) }
         ensures by_history { SequencesByHistory self.old self.new session (asked_of asked.entry) result }
-        ensures stands { StandsIn self.new session asked.entry.slot result }
+        ensures has_slot { HasSlot self.new session asked.entry.slot result }
         ensures stays { UnlessNew result (self.new ≡ self.old) }
     {
         self.registry.begin(session, asked)
     }
 
-    /// The results that a slot keeps: none where it keeps no call, or isn't there. It takes no memory.
+    /// The results that a slot caches. None if it caches no call, or doesn't exist. It allocates no memory.
     #[tactic(auto, using(crate::proofs::Orderly::kept_are_few))]
     pub fn results(&self, session: u64, slot: u32) -> &[u8]
         ensures kept { result.now ≡ results_at self.now session slot }
@@ -142,12 +141,12 @@ impl<A: Allocator + Copy> Clients<A> {
         self.registry.results(session, slot)
     }
 
-    /// Keeps the results of the call that was begun last on a slot. They are those of a reply of
-    /// the granted size, after its header of 24 bytes. It takes no memory.
+    /// Caches the results of the newest call of a slot. They are those of a reply of the granted size, after its
+    /// header of 24 bytes. It allocates no memory.
     #[tactic(auto, using(crate::proofs::Keeping::keeps_at_by_history))]
     pub fn keep(&mut self, session: u64, slot: u32, results: &[u8])
         requires slot { IfSome (session_at self.old session) (λ s. slot < s.granted.slots) }
-        requires few { IfSome (session_at self.old session) (λ s. length results.now ≤ kept_size s.granted) }
+        requires few { IfSome (session_at self.old session) (λ s. length results.now ≤ cache_size s.granted) }
         ensures kept { self.new ≡ with_session session (with_place slot (λ p. finished p results.now)) self.old }
         ensures by_history { KeepsAt self.old self.new session slot results.now }
     {
@@ -156,32 +155,39 @@ impl<A: Allocator + Copy> Clients<A> {
 
     // ---- over a restart
 
-    /// Whether a call with this sequence ID takes the number of its slot past a multiple of 2^20. The
-    /// call is then kept over a restart, whatever it changes.
+    /// Whether a call with this sequence ID takes its slot past a multiple of 2^20. The call is then logged, whatever
+    /// it changes.
     pub fn passes(&self, session: u64, slot: u32, number: u32) -> bool
         ensures { result ≡ passes (last_at self.now session slot) number }
     {
         self.registry.last_number(session, slot) / MOST_AHEAD != number / MOST_AHEAD
     }
 
-    /// Whether a CREATE_SESSION of a client with this sequence ID is a repeat of its last one.
+    /// Whether a CREATE_SESSION of a client with this sequence ID is a retry of its last one.
     pub fn is_created(&self, client: u64, sequence: u32) -> bool
         ensures { result ≡ is_created self.now client sequence }
     {
         self.registry.is_created(client, sequence)
     }
 
-    /// Marks a slot as lagging, if it is there: it may have accepted calls after the one that it
-    /// keeps. From now on a call is new where its sequence ID is 1 to 2^20 ahead of the kept one.
+    /// Makes a slot lag, if it exists: it may have accepted calls after the cached one. From now on a call is new if
+    /// its sequence ID is 1 to 2^20 ahead of the cached one.
     pub fn lag(&mut self, session: u64, slot: u32)
         ensures { self.new ≡ lagging_at session slot self.old }
     {
         self.registry.lag(session, slot);
     }
 
-    /// The next client and the next session get these numbers, which were kept over a restart.
-    /// `false`: one of them is below that which would have been given, or above 2^63, and nothing
-    /// changes.
+    /// Makes all slots lag, as after a restart: each may have accepted calls after the cached one, or its first calls
+    /// (RFC 8881, section 2.10.6.5). It allocates no memory.
+    pub fn lag_all(&mut self)
+        ensures { self.new ≡ all_lagging self.old }
+    {
+        self.registry.lag_all();
+    }
+
+    /// The next client and the next session get these stored numbers. `false`: one of them is below the number that
+    /// it replaces, or above 2^63, and nothing changes.
     pub fn restore_numbers(&mut self, next_client: u64, next_session: u64) -> bool
         ensures fits { result ≡ numbers_fit self.old next_client next_session }
         ensures given { self.new ≡ (if result then with_numbers next_client next_session self.old else self.old) }
@@ -193,9 +199,9 @@ impl<A: Allocator + Copy> Clients<A> {
         true
     }
 
-    /// Restores the record of a client, which counts as heard in this second. It is `Misfit` where
-    /// its number wasn't given yet, or is there; its owner has another confirmed record, or more
-    /// than 1,024 bytes; it keeps a refusal that is never kept; or there are 64 records.
+    /// Restores the record of a client, whose lease begins in this second. It is `Misfit` if its client ID wasn't
+    /// given yet, or has a record; its owner has another confirmed record, or more than 1,024 bytes; it caches a
+    /// refusal that is never cached; or there are 64 records.
     pub fn restore_record(&mut self, kept: Record<'_>, now: u64) -> Result<(), RestoreFault>
         ensures fits { OnOk result (record_fits self.old (client_of kept.entry) ≡ true) }
         ensures misfit { result ≡ Err RestoreFault.Misfit → record_fits self.old (client_of kept.entry) ≡ false }
@@ -212,9 +218,8 @@ impl<A: Allocator + Copy> Clients<A> {
         Ok(())
     }
 
-    /// Restores a session, whose slots lag and keep no call yet. It is `Misfit` where its number
-    /// wasn't given yet, or is there; its client has no confirmed record; more is granted than may
-    /// be; or there are 64 sessions.
+    /// Restores a session, whose slots lag and cache no call yet. It is `Misfit` if its number wasn't given yet, or
+    /// is in use; its client has no confirmed record; more is granted than may be; or there are 64 sessions.
     #[tactic(auto, using(crate::proofs::Restored::session_has_slots))]
     pub fn restore_session(&mut self, number: u64, held: Held) -> Result<(), RestoreFault>
         ensures fits { OnOk result (session_fits self.old number held ≡ true) }
@@ -232,12 +237,12 @@ impl<A: Allocator + Copy> Clients<A> {
         Ok(())
     }
 
-    /// Restores the last call of a slot, which lags. `false`: the slot isn't there, or hasn't the
-    /// room, and nothing changes. It takes no memory.
+    /// Restores the last call of a slot, which lags. `false`: the slot doesn't exist, or has too little room, and
+    /// nothing changes. It allocates no memory.
     #[tactic(auto, using(crate::proofs::Restored::slot_fit_facts))]
-    pub fn restore_slot(&mut self, session: u64, slot: u32, kept: KeptCall<'_>) -> bool
+    pub fn restore_slot(&mut self, session: u64, slot: u32, kept: CachedCall<'_>) -> bool
         ensures fits { result ≡ slot_fits (session_at self.old session) slot (kept_of kept.entry) }
-        ensures kept { self.new ≡ (if result then with_kept self.old session slot (kept_of kept.entry) else self.old) }
+        ensures kept { self.new ≡ (if result then with_cached self.old session slot (kept_of kept.entry) else self.old) }
     {
         if !self.registry.slot_fits(session, slot, kept) {
             return false;
@@ -246,23 +251,23 @@ impl<A: Allocator + Copy> Clients<A> {
         true
     }
 
-    /// The least number of a client's record that is at least this one, so that all are found in
-    /// order from 0 on. It takes no memory.
+    /// The least client ID of a record that is at least `number`. From 0 on it finds all in order. It allocates no
+    /// memory.
     pub fn client_from(&self, number: u64) -> Option<u64>
         ensures { result ≡ number_from number self.now.clients }
     {
         self.registry.client_from(number)
     }
 
-    /// The least number of a session that is at least this one, so that all are found in order from
-    /// 0 on. It takes no memory.
+    /// The least number of a session that is at least `number`. From 0 on it finds all in order. It allocates no
+    /// memory.
     pub fn session_from(&self, number: u64) -> Option<u64>
         ensures { result ≡ number_from number self.now.sessions }
     {
         self.registry.session_from(number)
     }
 
-    /// How many records and sessions there are, at most 64 of each. They are kept by rising number.
+    /// How many records and sessions there are, at most 64 of each. Both are in the order of rising numbers.
     pub fn counts(&self) -> (usize, usize)
         ensures counts { result ≡ (length self.now.clients, length self.now.sessions) }
         ensures rising { IsRising self.now.clients × IsRising self.now.sessions }
@@ -271,7 +276,7 @@ impl<A: Allocator + Copy> Clients<A> {
         self.registry.counts()
     }
 
-    /// The record of a client, as it is kept over a restart.
+    /// The record of a client, as it is stored.
     #[tactic(auto, using(crate::proofs::Restored::found_form))]
     pub fn record(&self, client: u64) -> Option<Record<'_>>
         ensures record { option_map client_of result ≡ client_at self.now client }
@@ -280,7 +285,7 @@ impl<A: Allocator + Copy> Clients<A> {
         self.registry.record(client)
     }
 
-    /// A session, as it is kept over a restart, without its slots.
+    /// A session, as it is stored, without its slots.
     pub fn held(&self, session: u64) -> Option<Held>
         ensures held { result ≡ option_map held_of (session_at self.now session) }
         ensures slots { IfSome (session_at self.now session) (λ s. HasSlots s.granted s.slots) }
@@ -288,8 +293,8 @@ impl<A: Allocator + Copy> Clients<A> {
         self.registry.held(session)
     }
 
-    /// The call that a slot keeps, with its results: it fits the slot when it is restored.
-    pub fn kept(&self, session: u64, slot: u32) -> Option<KeptCall<'_>>
+    /// The call that a slot caches, with its results. It fits the slot when it is restored.
+    pub fn kept(&self, session: u64, slot: u32) -> Option<CachedCall<'_>>
         ensures kept { option_map kept_of result ≡ kept_at self.now session slot }
         ensures fits { IfSome result (λ k. slot_fits (session_at self.now session) slot (kept_of k) ≡ true) }
     {
@@ -303,10 +308,10 @@ impl<A: Allocator + Copy> Clients<A> {
         (self.registry.next_client, self.registry.next_session)
     }
 
-    // ---- clients that are let go
+    // ---- expired clients
 
-    /// Sets the second of a monotonic clock, from any start. From now on leases are renewed and expire
-    /// by it (RFC 8881, section 8.3), and not by the seconds of calls, whose clock can be set. It is no
+    /// Sets the second of a monotonic clock, from any start. From now on leases are renewed and expire by it (RFC
+    /// 8881, section 8.3). The seconds of calls, whose clock can be set back, aren't used any more. The clock isn't
     /// part of the model.
     pub fn set_second(&mut self, second: u64)
         ensures { self.new ≡ self.old }
@@ -314,30 +319,31 @@ impl<A: Allocator + Copy> Clients<A> {
         self.registry.set_second(second);
     }
 
-    /// A client was heard in this second, which is no part of the model. A second before the last one changes nothing.
-    pub fn hear(&mut self, client: u64, now: u64)
+    /// Renews a client's lease in this second, which isn't part of the model. A second before the last one changes
+    /// nothing.
+    pub fn renew(&mut self, client: u64, now: u64)
         ensures { self.new ≡ self.old }
     {
-        self.registry.hear(client, now);
+        self.registry.renew(client, now);
     }
 
-    /// The client that was silent longest, if it was for more seconds than the lease.
+    /// The client with the oldest renewal, if that was more than `lease` seconds ago.
     pub fn silent(&self, now: u64, lease: u64) -> Option<u64>
         ensures { IfSome result (λ client. IsSome (client_at self.now client)) }
     {
         self.registry.silent(now, lease)
     }
 
-    /// Lets a client go: its record goes with its sessions, and nothing else. `false`: it has no
-    /// record, and nothing changes. It takes no memory.
-    pub fn let_go(&mut self, client: u64) -> bool
+    /// Expires a client: its record is removed with its sessions, and nothing else. `false`: it has no record, and
+    /// nothing changes. It allocates no memory.
+    pub fn expire(&mut self, client: u64) -> bool
         ensures live { result ≡ is_some (client_at self.old client) }
-        ensures gone { self.new ≡ (if result then let_go client self.old else self.old) }
+        ensures removed { self.new ≡ (if result then expire client self.old else self.old) }
     {
         if !self.registry.has_record(client) {
             return false;
         }
-        self.registry.let_go(client);
+        self.registry.expire(client);
         true
     }
 }

@@ -25,7 +25,7 @@ pub struct Create {
     pub uid: u32,
     /// Whether CREATE_SESSION4_FLAG_PERSIST is asked for.
     pub persist: bool,
-    /// Whether the server keeps sessions and slots over a restart, and so may grant it.
+    /// Whether the server's sessions are persistent, so that it may grant the flag.
     pub lasting: bool,
     /// The fore channel that is requested.
     pub fore: Channel,
@@ -38,8 +38,8 @@ pub struct Create {
 pub struct Made {
     /// The session, or why there is none.
     pub result: Result<Created, Status>,
-    /// The client whose record went, with its sessions.
-    pub gone: Option<u64>,
+    /// The client whose record was removed, with its sessions.
+    pub removed: Option<u64>,
 }
 
 impl Made {
@@ -48,7 +48,7 @@ impl Made {
     {
         Made {
             result: Err(status),
-            gone: None,
+            removed: None,
         }
     }
 
@@ -59,14 +59,14 @@ impl Made {
     }
 }
 
-/// The fate of a CREATE_SESSION, memory apart.
+/// The decision on a CREATE_SESSION, before memory is allocated.
 #[derive(Clone, Copy, Debug, PartialEq, Eq)]
 enum Judged {
     /// The call is answered, and nothing changes.
     Answers(Made),
-    /// The call is refused, and kept.
+    /// The call is refused, and cached.
     Refuses(Status),
-    /// The call creates a session, and the record of this client goes.
+    /// The call creates a session, and the record of this client is removed.
     Makes(Option<u64>),
 }
 
@@ -102,15 +102,18 @@ impl<A: Allocator + Copy> Registry<A> {
         None
     }
 
-    /// The fate of a CREATE_SESSION, memory apart.
+    /// The decision on a CREATE_SESSION, before memory is allocated.
     fn judge_creation(&self, asked: Create) -> Judged
         ensures { result ≡ judged self.now asked }
     {
         let Some(client) = self.clients.get(&asked.client) else {
             return Judged::Answers(Made::refused(Status::StaleClientId));
         };
-        if let Some(result) = client.repeated(asked.sequence) {
-            return Judged::Answers(Made { result, gone: None });
+        if let Some(result) = client.cached_result(asked.sequence) {
+            return Judged::Answers(Made {
+                result,
+                removed: None,
+            });
         }
         if asked.sequence != client.due() {
             return Judged::Answers(Made::refused(Status::SeqMisordered));
@@ -121,7 +124,7 @@ impl<A: Allocator + Copy> Registry<A> {
         Judged::Makes(other_in(&self.clients, client.owner(), asked.client))
     }
 
-    /// Creates a session, and confirms its client. The owner's other confirmed record goes with its sessions.
+    /// Creates a session, and confirms its client. The owner's other confirmed record is removed with its sessions.
     fn make_session(&mut self, asked: Create, other: Option<u64>) -> Made
         requires { self.old.next_session < 2 ^ 63 }
         ensures { MakesSession self.old asked other result self.new }
@@ -151,7 +154,7 @@ impl<A: Allocator + Copy> Registry<A> {
         self.next_session += 1;
         Made {
             result: Ok(created),
-            gone: other,
+            removed: other,
         }
     }
 

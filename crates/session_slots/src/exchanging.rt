@@ -1,6 +1,7 @@
 //! EXCHANGE_ID (RFC 8881, section 18.35).
 ghost use Rattle.std.specs.Prelude.{◌≡◌, ◌<◌, ◌^◌, Ok, Err, Some, None};
-ghost use Rattle.session_slots.specs.Exchanging.{known, answered_flags, standing_new, standing, without_unconfirmed};
+ghost use Rattle.session_slots.specs.Exchanging.{confirmed_answer, answered_flags, decision_for_new, exchange_decision};
+ghost use Rattle.session_slots.specs.Exchanging.{without_unconfirmed};
 ghost use Rattle.session_slots.specs.Exchanging.{MakesClient, Exchanges};
 ghost use Rattle.session_slots.specs.Views.{exchanging_of};
 
@@ -34,7 +35,7 @@ pub struct Exchange<'a> {
 /// The answer to EXCHANGE_ID: the record of the client.
 #[derive(Clone, Copy, Debug, PartialEq, Eq)]
 pub struct Exchanged {
-    /// The number of the client.
+    /// The client ID.
     pub client: u64,
     /// The sequence ID of the next CREATE_SESSION.
     pub sequence: u32,
@@ -55,20 +56,20 @@ impl Exchanged {
     }
 }
 
-/// The fate of an EXCHANGE_ID, memory apart.
+/// The decision on an EXCHANGE_ID, before memory is allocated.
 #[derive(Clone, Copy, Debug, PartialEq, Eq)]
-enum Standing {
+enum ExchangeDecision {
     /// The call is refused, and nothing changes.
     Refuses(Status),
     /// The owner's confirmed record is answered.
     Knows(Exchanged),
-    /// A record is created, and this client goes with its sessions.
+    /// A record is created, and this client is removed with its sessions.
     Makes(Option<u64>),
 }
 
-/// Answers a confirmed record.
-fn known<A: Allocator>(client: &Client<A>) -> Exchanged
-    ensures { result ≡ known client.now }
+/// The answer for a confirmed record.
+fn confirmed_answer<A: Allocator>(client: &Client<A>) -> Exchanged
+    ensures { result ≡ confirmed_answer client.now }
 {
     Exchanged {
         client: client.number(),
@@ -78,47 +79,51 @@ fn known<A: Allocator>(client: &Client<A>) -> Exchanged
 }
 
 impl<A: Allocator + Copy> Registry<A> {
-    /// Whether there is room for one more record, where this client goes.
-    fn judge_new(&self, asked: Exchange<'_>, gone: Option<u64>) -> Standing
-        ensures { result ≡ standing_new gone self.now (exchanging_of asked.entry) }
+    /// Whether there is room for one more record, if the client `removed` is removed.
+    fn judge_new(&self, asked: Exchange<'_>, removed: Option<u64>) -> ExchangeDecision
+        ensures { result ≡ decision_for_new removed self.now (exchanging_of asked.entry) }
     {
-        let staying = staying_count(&self.clients, asked.owner, gone);
+        let staying = staying_count(&self.clients, asked.owner, removed);
         if staying >= MOST_CLIENTS || self.next_client >= END {
-            return Standing::Refuses(Status::NoSpc);
+            return ExchangeDecision::Refuses(Status::NoSpc);
         }
-        Standing::Makes(gone)
+        ExchangeDecision::Makes(removed)
     }
 
-    /// The fate of an EXCHANGE_ID, memory apart.
-    fn judge_exchange(&self, asked: Exchange<'_>) -> Standing
-        ensures { result ≡ standing self.now (exchanging_of asked.entry) }
+    /// The decision on an EXCHANGE_ID, before memory is allocated.
+    fn judge_exchange(&self, asked: Exchange<'_>) -> ExchangeDecision
+        ensures { result ≡ exchange_decision self.now (exchanging_of asked.entry) }
     {
         if asked.flags & CONFIRMED != 0 {
-            return Standing::Refuses(Status::Inval);
+            return ExchangeDecision::Refuses(Status::Inval);
         }
         if asked.flags & UPDATE_CONFIRMED != 0 {
-            return Standing::Refuses(Status::NotSupp);
+            return ExchangeDecision::Refuses(Status::NotSupp);
         }
         let Some(client) = confirmed_in(&self.clients, asked.owner) else {
             return self.judge_new(asked, None);
         };
         if client.uid() != asked.uid {
             if asked.has_opens {
-                return Standing::Refuses(Status::ClidInUse);
+                return ExchangeDecision::Refuses(Status::ClidInUse);
             }
             return self.judge_new(asked, Some(client.number()));
         }
         if client.verifier() != asked.verifier {
             return self.judge_new(asked, None);
         }
-        Standing::Knows(known(client))
+        ExchangeDecision::Knows(confirmed_answer(client))
     }
 
-    /// Creates a record that isn't confirmed. The owner's other unconfirmed record goes, and this
-    /// client with its sessions.
-    fn make_client(&mut self, asked: Exchange<'_>, gone: Option<u64>) -> Result<Exchanged, Status>
+    /// Creates a record that isn't confirmed. The owner's other unconfirmed record is removed, and the client `removed`
+    /// with its sessions.
+    fn make_client(
+        &mut self,
+        asked: Exchange<'_>,
+        removed: Option<u64>,
+    ) -> Result<Exchanged, Status>
         requires { self.old.next_client < 2 ^ 63 }
-        ensures { MakesClient self.old (exchanging_of asked.entry) gone result self.new }
+        ensures { MakesClient self.old (exchanging_of asked.entry) removed result self.new }
     {
         let number = self.next_client;
         let now = self.second_at(asked.now);
@@ -135,8 +140,8 @@ impl<A: Allocator + Copy> Registry<A> {
         if let Err(_) = add_client(&mut self.clients, number, client) {
             return Err(Status::Delay);
         }
-        remove_others(&mut self.clients, number, asked.owner, gone);
-        remove_sessions(&mut self.sessions, gone);
+        remove_others(&mut self.clients, number, asked.owner, removed);
+        remove_sessions(&mut self.sessions, removed);
         self.next_client += 1;
         Ok(Exchanged {
             client: number,
@@ -145,12 +150,13 @@ impl<A: Allocator + Copy> Registry<A> {
         })
     }
 
-    /// A client is known: the owner's unconfirmed record goes, and the client counts as heard.
+    /// The client has a confirmed record: the owner's unconfirmed record is removed, and the client's lease is
+    /// renewed.
     fn meet(&mut self, owner: &[u8], client: u64, now: u64)
         ensures { self.new ≡ without_unconfirmed owner.now self.old }
     {
         remove_unconfirmed(&mut self.clients, owner);
-        self.hear(client, now);
+        self.renew(client, now);
     }
 
     /// EXCHANGE_ID.
@@ -158,12 +164,12 @@ impl<A: Allocator + Copy> Registry<A> {
         ensures { Exchanges self.old (exchanging_of asked.entry) result self.new }
     {
         match self.judge_exchange(asked) {
-            Standing::Refuses(status) => Err(status),
-            Standing::Knows(known) => {
-                self.meet(asked.owner, known.client, asked.now);
-                Ok(known)
+            ExchangeDecision::Refuses(status) => Err(status),
+            ExchangeDecision::Knows(confirmed_answer) => {
+                self.meet(asked.owner, confirmed_answer.client, asked.now);
+                Ok(confirmed_answer)
             }
-            Standing::Makes(gone) => self.make_client(asked, gone),
+            ExchangeDecision::Makes(removed) => self.make_client(asked, removed),
         }
     }
 }

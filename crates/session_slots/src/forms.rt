@@ -1,4 +1,4 @@
-//! The XDR forms of what is kept over a restart (RFC 4506).
+//! The XDR forms of stored clients, sessions and calls (RFC 4506).
 ghost use Rattle.std.specs.Prelude.{◌≡◌, ◌≤◌, ◌<◌, ◌↔◌, nat_le, length, OnOk, IfSome, IsNone};
 ghost use Rattle.std.specs.List.{list_any};
 ghost use Rattle.std.specs.List.Sorted.{IsStrictlyIncreasing};
@@ -6,12 +6,13 @@ ghost use Rattle.xdr_wire.specs.Xdr.{HasSpelling, spelling};
 ghost use Rattle.xdr_wire.specs.Buffer.{Puts};
 ghost use Rattle.session_slots.specs.Forms as specs;
 ghost use Rattle.session_slots.specs.Forms.{caller_value};
-ghost use Rattle.session_slots.specs.FormViews.{form_client, groups_in, is_above};
+ghost use Rattle.session_slots.specs.FormViews.{form_client, groups_in};
+ghost use Rattle.session_slots.specs.internal.FormViews.{is_above};
 ghost use Rattle.session_slots.specs.Views.{client_of, kept_of};
 
 use crate::client::{Created, Creation, Record};
 use crate::session::{Channel, Held};
-use crate::slot::KeptCall;
+use crate::slot::CachedCall;
 use nfs_types::Status;
 use rpc_record::{Caller, GroupSet};
 use std::alloc::Allocator;
@@ -140,10 +141,10 @@ impl<'a> Wire<'a> for Creation {
     }
 }
 
-/// The record of a client, whose owner has at most 1,024 bytes, lent.
+/// The record of a client, whose owner has at most 1,024 bytes, borrowed.
 #[derive(Clone, Copy, Debug)]
 pub struct RecordForm<'a> {
-    /// The number of the client.
+    /// The client ID.
     pub number: u64,
     /// The client owner's ID.
     pub owner: Opaque<'a, 1024>,
@@ -160,7 +161,7 @@ pub struct RecordForm<'a> {
 }
 
 impl<'a> RecordForm<'a> {
-    /// The form of a record, or none where its owner has more than 1,024 bytes.
+    /// The form of a record. `None`: its owner has more than 1,024 bytes.
     pub fn new(kept: Record<'a>) -> Option<Self>
         ensures same { IfSome result (λ form. form_client form ≡ client_of kept.entry) }
         ensures none { IsNone result ↔ (1024 < length kept.entry.owner.now) }
@@ -196,7 +197,8 @@ impl<'a> Spell for RecordForm<'a> {
     ghost use Rattle.std.specs.Prelude.{None};
     ghost use Rattle.session_slots.specs.Forms.{client, client_value};
     ghost use Rattle.session_slots.specs.Forms.{caller_value};
-    ghost use Rattle.session_slots.specs.FormViews.{form_client, groups_in, is_above};
+    ghost use Rattle.session_slots.specs.FormViews.{form_client, groups_in};
+    ghost use Rattle.session_slots.specs.internal.FormViews.{is_above};
 
     ghost form = { client };
 
@@ -261,7 +263,7 @@ impl<'a> Wire<'a> for SessionForm {
     }
 }
 
-/// Groups by rising number, at most 17, lent.
+/// Groups by rising number, at most 17, borrowed.
 #[derive(Clone, Copy)]
 struct GroupsForm<'a> {
     groups: &'a [u32],
@@ -292,7 +294,7 @@ impl<'a> Spell for GroupsForm<'a> {
     }
 }
 
-/// A call that a slot kept, lent. Its groups aren't yet a set.
+/// A call that a slot cached, borrowed. Its groups aren't yet a set.
 #[derive(Drop)]
 pub struct CallForm<'a> {
     /// The session.
@@ -313,21 +315,21 @@ pub struct CallForm<'a> {
     pub results: Opaque<'a, 65512>,
 }
 
-/// Whether a group is at least another one.
+/// Whether `g` is at least `group`.
 fn reaches(group: u32, g: u32) -> bool
     ensures { result ≡ nat_le group g }
 {
     group <= g
 }
 
-/// Whether one of these groups is at least another one.
+/// Whether one of `groups` is at least `group`.
 fn any_reaches(groups: &[u32], group: u32) -> bool
     ensures { result ≡ list_any (λ g. nat_le group g) groups.now }
 {
     groups.iter().any(|g| reaches(group, *g))
 }
 
-/// Whether a group is above all of a set.
+/// Whether a group is greater than all of a set.
 fn is_above(set: &GroupSet, group: u32) -> bool
     ensures { result ≡ is_above set.now group }
 {
@@ -398,12 +400,12 @@ impl<'a> Wire<'a> for CallForm<'a> {
     }
 }
 
-/// Writes the call that a slot keeps, with its results: `Full` exactly where there is no room for
-/// it, and then nothing is written.
+/// Writes the call that a slot caches, with its results. `Full` if and only if there is no room for it, and then
+/// nothing is written.
 pub fn write_call<A: Allocator>(
     session: u64,
     slot: u32,
-    kept: KeptCall<'_>,
+    kept: CachedCall<'_>,
     writer: &mut Writer<A>,
 ) -> Result<(), Full>
     requires arguments { length kept.arguments.now ≤ 65536 }

@@ -1,7 +1,7 @@
 //! Clients, sessions and slots (RFC 8881, sections 2.4 and 2.10).
 //!
-//! A server keeps a client's record, the channels that were granted to a session, and the last call
-//! of a slot with its results. This state stands for every history of calls that leads to it.
+//! A server keeps a client's record, the granted channels of a session, and the last call of a slot with its results.
+//! This state represents every history of calls that leads to it.
 #![tactic(auto)]
 
 mod call_bytes;
@@ -11,9 +11,9 @@ mod clients;
 mod creating;
 mod destroying;
 mod exchanging;
+mod expiring;
 mod forms;
 mod laws;
-mod letting;
 mod limits;
 mod registry;
 mod restoring;
@@ -28,7 +28,7 @@ pub use exchanging::{Exchange, Exchanged};
 pub use forms::{CallForm, RecordForm, SessionForm, write_call};
 pub use laws::{
     World, calls_change_slots_alone, every_slot_has_a_history, nothing_was_accepted,
-    numbers_are_read_in_order, repeats_change_nothing, slots_go_by_history,
+    numbers_are_read_in_order, retries_change_nothing, slots_go_by_history,
     what_changes_the_world_acts_once, what_is_read_out_is_restored, what_is_written_is_of_one,
 };
 pub use limits::{
@@ -37,4 +37,4 @@ pub use limits::{
 };
 pub use restoring::{NextNumbers, RestoreFault};
 pub use session::{Begin, Channel, Held, NewCall, Sequence};
-pub use slot::{KeptCall, due};
+pub use slot::{CachedCall, due};

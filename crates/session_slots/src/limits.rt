@@ -12,7 +12,7 @@ pub const MOST_SLOTS: u32 = 8;
 /// The most bytes of a request, and of a reply.
 pub const MOST_BYTES: u32 = 65_536;
 
-/// The fewest bytes of a reply that a client may ask for.
+/// The fewest bytes of a reply that a client may request.
 pub const LEAST_REPLY: u32 = 4096;
 
 /// The bytes of the header of a reply to a COMPOUND, which isn't cached.

@@ -1,18 +1,19 @@
 //! Clients and their sessions, by number (RFC 8881, sections 2.4 and 2.10).
 //!
-//! Each call makes one change of the registry. [`crate::Clients`] gives its meaning for the
-//! histories of calls, and keeps records and sessions orderly.
+//! Each call makes one change of the registry. [`crate::Clients`] defines its meaning by the histories of calls, and
+//! keeps records and sessions orderly.
 ghost use Rattle.std.specs.Prelude.{◌≡◌, ◌≤◌, ◌<◌, length, IfSome};
 ghost use Rattle.std.specs.Option.{option_map};
-ghost use Rattle.session_slots.specs.Covering.{lagging_at};
+ghost use Rattle.session_slots.specs.Covering.{all_lagging, lagging_at};
 ghost use Rattle.session_slots.specs.Keeping.{is_created, last_at};
 ghost use Rattle.session_slots.specs.Slots.{finished};
-ghost use Rattle.session_slots.specs.Registry.{nobody, session_at, results_at, kept_size, most_kept, confirmed_entry};
+ghost use Rattle.session_slots.specs.Registry.{nobody, session_at, results_at, cache_size, most_cached};
+ghost use Rattle.session_slots.specs.Registry.{confirmed_entry};
 ghost use Rattle.session_slots.specs.Registry.{with_session, with_place};
 ghost use Rattle.session_slots.specs.Sequencing.{sequence_begin, sequence_begun};
 ghost use Rattle.session_slots.specs.Views.{asked_of, bytes_of};
 
-use crate::changes::{confirmed_in, hear};
+use crate::changes::{confirmed_in, lag_each, renew};
 use crate::client::Client;
 use crate::session::{Begin, Sequence, Session};
 use nfs_types::Status;
@@ -20,7 +21,7 @@ use std::alloc::{Allocator, Global};
 use std::collections::BTreeMap;
 use std::marker::Model;
 
-/// Clients and their sessions, and the numbers that the next ones get.
+/// Clients and their sessions, and the numbers of the next ones.
 #[derive(Drop)]
 pub struct Registry<A: Allocator = Global> {
     pub(crate) alloc: A,
@@ -28,7 +29,7 @@ pub struct Registry<A: Allocator = Global> {
     pub(crate) sessions: BTreeMap<u64, Session<A>, A>,
     pub(crate) next_client: u64,
     pub(crate) next_session: u64,
-    // the second of a monotonic clock, where one is set; it is no part of the model
+    // the second of a monotonic clock, if one is set; it isn't part of the model
     pub(crate) steady: Option<u64>,
 }
 
@@ -60,7 +61,7 @@ impl<A: Allocator + Copy> Registry<A> {
         }
     }
 
-    /// The number of an owner's confirmed record.
+    /// The client ID of an owner's confirmed record.
     pub fn confirmed_of(&self, owner: &[u8]) -> Option<u64>
         ensures { result ≡ option_map (λ c. c.number) (confirmed_entry self.now owner.now) }
     {
@@ -79,19 +80,19 @@ impl<A: Allocator + Copy> Registry<A> {
         }
     }
 
-    /// The client of a session was heard in this second.
+    /// Renews the lease of a session's client in this second.
     #[tactic(auto, using(crate::proofs::Restored::changed_by_nothing))]
-    fn hear_of(&mut self, session: u64, now: u64)
+    fn renew_of(&mut self, session: u64, now: u64)
         ensures { self.new ≡ self.old }
     {
         let now = self.second_at(now);
         if let Some(session) = self.sessions.get(&session) {
             let client = session.client();
-            hear(&mut self.clients, client, now);
+            renew(&mut self.clients, client, now);
         }
     }
 
-    /// Begins a call on a slot of a session. Where it is new or a repeat, its client counts as heard.
+    /// Begins a call on a slot of a session. If it is new or a retry, its client's lease is renewed.
     pub fn begin(&mut self, session: u64, asked: Sequence<'_>) -> Begin
         requires { length (bytes_of asked.arguments) ≤ asked.record_len }
         ensures answer { result ≡ sequence_begin self.old session (asked_of asked.entry) }
@@ -100,15 +101,15 @@ impl<A: Allocator + Copy> Registry<A> {
         let now = asked.now;
         let begun = self.begin_on_slot(session, asked);
         if !matches!(begun, Begin::Refused(_)) {
-            self.hear_of(session, now);
+            self.renew_of(session, now);
         }
         begun
     }
 
-    /// The results that a slot keeps.
+    /// The results that a slot caches.
     pub fn results(&self, session: u64, slot: u32) -> &[u8]
         ensures kept { result.now ≡ results_at self.now session slot }
-        ensures few { length result.now ≤ most_kept (session_at self.now session) }
+        ensures few { length result.now ≤ most_cached (session_at self.now session) }
     {
         match self.sessions.get(&session) {
             Some(session) => match session.slot(slot) {
@@ -119,10 +120,10 @@ impl<A: Allocator + Copy> Registry<A> {
         }
     }
 
-    /// Keeps the results of the call that was begun last on a slot.
+    /// Caches the results of the newest call of a slot.
     pub fn keep(&mut self, session: u64, slot: u32, results: &[u8])
         requires slot { IfSome (session_at self.old session) (λ s. slot < s.granted.slots) }
-        requires few { IfSome (session_at self.old session) (λ s. length results.now ≤ kept_size s.granted) }
+        requires few { IfSome (session_at self.old session) (λ s. length results.now ≤ cache_size s.granted) }
         ensures { self.new ≡ with_session session (with_place slot (λ p. finished p results.now)) self.old }
     {
         if let Some(session) = self.sessions.get_mut(&session) {
@@ -130,7 +131,7 @@ impl<A: Allocator + Copy> Registry<A> {
         }
     }
 
-    /// The sequence ID of the last call of a slot: 0 where none is kept, or the slot isn't there.
+    /// The sequence ID of the last call of a slot. 0 if none is cached, or the slot doesn't exist.
     pub fn last_number(&self, session: u64, slot: u32) -> u32
         ensures { result ≡ last_at self.now session slot }
     {
@@ -148,17 +149,24 @@ impl<A: Allocator + Copy> Registry<A> {
         ensures { result ≡ is_created self.now client sequence }
     {
         match self.clients.get(&client) {
-            Some(client) => client.repeated(sequence).is_some(),
+            Some(client) => client.cached_result(sequence).is_some(),
             None => false,
         }
     }
 
-    /// Marks a slot as lagging, if it is there.
+    /// Makes a slot lag, if it exists.
     pub fn lag(&mut self, session: u64, slot: u32)
         ensures { self.new ≡ lagging_at session slot self.old }
     {
         if let Some(session) = self.sessions.get_mut(&session) {
             session.lag(slot);
         }
+    }
+
+    /// Makes all slots of all sessions lag.
+    pub fn lag_all(&mut self)
+        ensures { self.new ≡ all_lagging self.old }
+    {
+        lag_each(&mut self.sessions);
     }
 }

@@ -4,11 +4,12 @@ ghost use Rattle.std.specs.Option.{option_map, option_copied};
 ghost use Rattle.std.specs.Map.{keys_of};
 ghost use Rattle.std.specs.BTreeMap.{insert_entry};
 ghost use Rattle.std.specs.Ordering.{nat_cmp};
-ghost use Rattle.session_slots.specs.Registry.{client_at, session_at, kept_size};
-ghost use Rattle.session_slots.specs.Orderly.{has_form, is_kept_refusal};
+ghost use Rattle.session_slots.specs.Registry.{client_at, session_at, cache_size};
+ghost use Rattle.session_slots.specs.Orderly.{has_form, is_cached_refusal};
 ghost use Rattle.session_slots.specs.Sequencing.{HasSlots};
 ghost use Rattle.session_slots.specs.Restoring.{IsRising, number_from, numbers_fit, record_fits, with_record};
-ghost use Rattle.session_slots.specs.Restoring.{is_within, is_home, session_fits, with_restored, slot_fits, with_kept};
+ghost use Rattle.session_slots.specs.Restoring.{is_within, is_home, session_fits, with_restored, slot_fits};
+ghost use Rattle.session_slots.specs.Restoring.{with_cached};
 ghost use Rattle.session_slots.specs.Restoring.{held_of, kept_at, with_numbers};
 ghost use Rattle.session_slots.specs.Views.{client_of, kept_of};
 ghost use Rattle.session_slots.specs.declared.restoring.RestoreFault.TheVariants.{Memory};
@@ -21,14 +22,14 @@ use crate::limits::{
 };
 use crate::registry::Registry;
 use crate::session::{Channel, Held, Session};
-use crate::slot::KeptCall;
+use crate::slot::CachedCall;
 use nfs_types::Status;
 use std::alloc::{AllocError, Allocator};
 use std::collections::BTreeMap;
 use thiserror::Error;
 
-/// The numbers that the next client, the next session and the next open file get. None is given twice, over any number
-/// of restarts.
+/// The numbers of the next client, the next session and the next open file. None is given twice, over any number of
+/// restarts.
 #[derive(Clone, Copy, Debug, PartialEq, Eq)]
 pub struct NextNumbers {
     /// The number of the next client, from 1 on.
@@ -42,10 +43,10 @@ pub struct NextNumbers {
 /// Why a record or a session isn't restored.
 #[derive(Clone, Copy, Debug, PartialEq, Eq, Error)]
 pub enum RestoreFault {
-    /// It can't stand beside what is there.
+    /// It doesn't fit beside the existing ones.
     #[error("a record or a session that can't stand beside the others")]
     Misfit,
-    /// There is no memory for it.
+    /// An allocation failed.
     #[error("out of memory")]
     Memory,
 }
@@ -58,9 +59,9 @@ impl From<AllocError> for RestoreFault {
     }
 }
 
-/// Whether a refusal of CREATE_SESSION is kept with its number.
-fn is_kept_refusal(status: Status) -> bool
-    ensures { result ≡ is_kept_refusal status }
+/// Whether a refusal of CREATE_SESSION is cached with its sequence ID.
+fn is_cached_refusal(status: Status) -> bool
+    ensures { result ≡ is_cached_refusal status }
 {
     match status {
         Status::NoSpc | Status::TooSmall | Status::ClidInUse => true,
@@ -68,7 +69,7 @@ fn is_kept_refusal(status: Status) -> bool
     }
 }
 
-/// Whether a record has a form, in which it is kept over a restart.
+/// Whether a record has a form, in which it is stored.
 fn has_form(kept: Record<'_>) -> bool
     ensures { result ≡ has_form (client_of kept.entry) }
 {
@@ -79,7 +80,7 @@ fn has_form(kept: Record<'_>) -> bool
         None => true,
         Some(creation) => match creation.result {
             Ok(_) => true,
-            Err(status) => is_kept_refusal(status),
+            Err(status) => is_cached_refusal(status),
         },
     }
 }
@@ -95,21 +96,21 @@ fn is_within(granted: Channel) -> bool
                     && (granted.slots <= MOST_SLOTS && 1 <= granted.slots))))
 }
 
-/// Whether a number is at least another one.
+/// Whether `number` is at most `n`.
 fn is_from(number: u64, n: u64) -> bool
     ensures { result ≡ nat_le number n }
 {
     number <= n
 }
 
-/// The least number that is at least this one, where it is kept.
+/// The least number in the map that is at least `number`, borrowed.
 fn kept_from<V, A: Allocator>(map: &BTreeMap<u64, V, A>, number: u64) -> Option<&u64>
     ensures { option_copied result ≡ find (λ n. nat_le number n) (keys_of map.now.entries) }
 {
     map.keys().find(|n| is_from(number, **n))
 }
 
-/// The least number that is at least this one.
+/// The least number in the map that is at least `number`.
 fn first_from<V, A: Allocator>(map: &BTreeMap<u64, V, A>, number: u64) -> Option<u64>
     ensures { result ≡ number_from number map.now.entries }
 {
@@ -136,7 +137,7 @@ impl<A: Allocator + Copy> Registry<A> {
         self.next_session = next_session;
     }
 
-    /// Whether a record may stand beside those that are there.
+    /// Whether a record fits beside the existing ones.
     pub fn record_fits(&self, kept: Record<'_>) -> bool
         ensures { result ≡ record_fits self.now (client_of kept.entry) }
     {
@@ -147,7 +148,7 @@ impl<A: Allocator + Copy> Registry<A> {
                         && has_form(kept))))
     }
 
-    /// Restores a record that fits, heard in this second.
+    /// Restores a record that fits, whose lease begins in this second.
     pub fn restore_record(&mut self, kept: Record<'_>, now: u64) -> Result<(), AllocError>
         ensures ok { OnOk result (self.new ≡ with_record self.old (client_of kept.entry)) }
         ensures err { OnErr result (self.new ≡ self.old) }
@@ -166,7 +167,7 @@ impl<A: Allocator + Copy> Registry<A> {
         }
     }
 
-    /// Whether a session may stand.
+    /// Whether a session fits.
     pub fn session_fits(&self, number: u64, held: Held) -> bool
         ensures { result ≡ session_fits self.now number held }
     {
@@ -186,8 +187,8 @@ impl<A: Allocator + Copy> Registry<A> {
         add_session(&mut self.sessions, number, session)
     }
 
-    /// Whether a call may stand in a slot.
-    pub fn slot_fits(&self, session: u64, slot: u32, kept: KeptCall<'_>) -> bool
+    /// Whether a call fits a slot.
+    pub fn slot_fits(&self, session: u64, slot: u32, kept: CachedCall<'_>) -> bool
         ensures { result ≡ slot_fits (session_at self.now session) slot (kept_of kept.entry) }
     {
         match self.sessions.get(&session) {
@@ -197,12 +198,12 @@ impl<A: Allocator + Copy> Registry<A> {
     }
 
     /// Restores the last call of a slot, which fits.
-    pub fn restore_slot(&mut self, session: u64, slot: u32, kept: KeptCall<'_>)
+    pub fn restore_slot(&mut self, session: u64, slot: u32, kept: CachedCall<'_>)
         requires slot { IfSome (session_at self.old session) (λ s. slot < s.granted.slots) }
         requires arguments { IfSome (session_at self.old session)
             (λ s. length kept.arguments.now ≤ s.granted.request_size) }
-        requires results { IfSome (session_at self.old session) (λ s. length kept.results.now ≤ kept_size s.granted) }
-        ensures { self.new ≡ with_kept self.old session slot (kept_of kept.entry) }
+        requires results { IfSome (session_at self.old session) (λ s. length kept.results.now ≤ cache_size s.granted) }
+        ensures { self.new ≡ with_cached self.old session slot (kept_of kept.entry) }
     {
         if let Some(session) = self.sessions.get_mut(&session) {
             session.restore(slot, kept);
@@ -252,8 +253,8 @@ impl<A: Allocator + Copy> Registry<A> {
         }
     }
 
-    /// The call that a slot keeps.
-    pub fn kept(&self, session: u64, slot: u32) -> Option<KeptCall<'_>>
+    /// The call that a slot caches.
+    pub fn kept(&self, session: u64, slot: u32) -> Option<CachedCall<'_>>
         ensures kept { option_map kept_of result ≡ kept_at self.now session slot }
         ensures fits { IfSome result (λ k. slot_fits (session_at self.now session) slot (kept_of k) ≡ true) }
     {

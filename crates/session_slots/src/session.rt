@@ -1,9 +1,9 @@
 //! A session (RFC 8881, section 2.10).
-ghost use Rattle.std.specs.Prelude.{◌≡◌, ◌≤◌, ◌<◌, length, slice_get, Some, IfSome, IfOk};
+ghost use Rattle.std.specs.Prelude.{◌≡◌, ◌≤◌, ◌<◌, length, map, slice_get, Some, IfSome, IfOk};
 ghost use Rattle.std.specs.Option.{option_copied};
-ghost use Rattle.session_slots.specs.Covering.{lagging};
+ghost use Rattle.session_slots.specs.Covering.{lagging, session_lagging};
 ghost use Rattle.session_slots.specs.Slots.{begun, finished, restored};
-ghost use Rattle.session_slots.specs.Registry.{changed_place, kept_size, with_place, unused_places, new_session};
+ghost use Rattle.session_slots.specs.Registry.{changed_place, cache_size, with_place, unused_places, new_session};
 ghost use Rattle.session_slots.specs.Registry.{restored_session};
 ghost use Rattle.session_slots.specs.Restoring.{held_of, slot_fits};
 ghost use Rattle.session_slots.specs.Views.{asked_of, bytes_of, call_of, kept_of};
@@ -12,7 +12,7 @@ ghost use Rattle.session_slots.specs.Sequencing.{session_begun};
 
 use crate::call_bytes::CallBytes;
 use crate::limits::REPLY_HEADER;
-use crate::slot::{KeptCall, Slot, Turn};
+use crate::slot::{CachedCall, Slot, Turn};
 use nfs_types::Status;
 use rpc_record::Caller;
 use std::alloc::{AllocError, Allocator, Global};
@@ -48,12 +48,12 @@ pub struct Sequence<'a> {
     pub count: u32,
     /// How many bytes the call's record has.
     pub record_len: usize,
-    /// The bytes that a repeat of the call has to have, of those after its header.
+    /// The bytes that a retry of the call has to repeat, of those after its header.
     pub arguments: CallBytes<'a>,
     /// The caller.
     pub caller: &'a Caller,
-    /// The second of the server's clock. A new call and a repeat renew the client's lease in it, unless
-    /// a monotonic second is set ([`crate::Clients::set_second`]).
+    /// The second of the server's clock. In it a new call and a retry renew the client's lease, unless a monotonic
+    /// second is set ([`crate::Clients::set_second`]).
     pub now: u64,
 }
 
@@ -71,20 +71,20 @@ pub struct NewCall {
 /// The answer to SEQUENCE.
 #[derive(Clone, Copy, Debug, PartialEq, Eq)]
 pub enum Begin {
-    /// The call is new: its operations run, and its results are kept at the end.
+    /// The call is new: its operations run, and its results are cached at the end.
     New(NewCall),
-    /// The call repeats the last call of its slot: it gets the results that are kept.
+    /// The call is a retry of the last call of its slot: it gets the cached results.
     Repeat,
     /// The call is refused.
     Refused(Status),
 }
 
-/// A session, as it is kept over a restart, without its slots.
+/// A session, as it is stored, without its slots.
 #[derive(Clone, Copy, Debug, PartialEq, Eq)]
 pub struct Held {
     /// The client of the session.
     pub client: u64,
-    /// The fore channel, as far as it is granted.
+    /// The fore channel, as granted.
     pub granted: Channel,
 }
 
@@ -138,7 +138,7 @@ fn begin_at<A: Allocator + Copy>(slots: &mut Vec<Slot<A>, A>, asked: Sequence<'_
     slot.begin(asked.number, asked.arguments, asked.caller)
 }
 
-/// Keeps the results of the call that was begun last on one of these slots.
+/// Caches the results of the newest call of one of these slots.
 #[tactic(auto, using(crate::proofs::Places::changed_there, crate::proofs::Places::is_there))]
 fn keep_at<A: Allocator + Copy>(slots: &mut Vec<Slot<A>, A>, index: usize, results: &[u8])
     requires within { index < length slots.old.items }
@@ -149,7 +149,7 @@ fn keep_at<A: Allocator + Copy>(slots: &mut Vec<Slot<A>, A>, index: usize, resul
     slot.keep(results);
 }
 
-/// Marks one of these slots as lagging.
+/// Makes one of these slots lag.
 #[tactic(auto, using(crate::proofs::Places::changed_there, crate::proofs::Places::is_there))]
 fn lag_at<A: Allocator + Copy>(slots: &mut Vec<Slot<A>, A>, index: usize)
     requires within { index < length slots.old.items }
@@ -159,9 +159,18 @@ fn lag_at<A: Allocator + Copy>(slots: &mut Vec<Slot<A>, A>, index: usize)
     slot.lag();
 }
 
-/// Keeps a call of before a restart as the last one on one of these slots.
+/// Makes each of these slots lag.
+fn lag_each<A: Allocator + Copy>(slots: &mut Vec<Slot<A>, A>)
+    ensures { slots.new.items ≡ map lagging slots.old.items }
+{
+    for slot in slots.iter_mut() {
+        slot.lag();
+    }
+}
+
+/// Caches a call of before a restart as the last one of one of these slots.
 #[tactic(auto, using(crate::proofs::Places::changed_there, crate::proofs::Places::is_there))]
-fn restore_at<A: Allocator + Copy>(slots: &mut Vec<Slot<A>, A>, index: usize, kept: KeptCall<'_>)
+fn restore_at<A: Allocator + Copy>(slots: &mut Vec<Slot<A>, A>, index: usize, kept: CachedCall<'_>)
     requires within { index < length slots.old.items }
     requires arguments { IfSome (slice_get slots.old.items index) (λ p. length kept.arguments.now ≤ p.most_arguments) }
     requires results { IfSome (slice_get slots.old.items index) (λ p. length kept.results.now ≤ p.most_results) }
@@ -171,7 +180,7 @@ fn restore_at<A: Allocator + Copy>(slots: &mut Vec<Slot<A>, A>, index: usize, ke
     slot.restore(kept);
 }
 
-/// This many slots that keep no call, and lag or have accepted none, each with this room.
+/// `count` slots that cache no call, and lag or have accepted none, each with this room.
 fn new_slots<A: Allocator + Copy>(
     alloc: A,
     lags: bool,
@@ -189,8 +198,8 @@ fn new_slots<A: Allocator + Copy>(
 }
 
 impl<A: Allocator + Copy> Session<A> {
-    /// A session of a client, with the channels that were granted. Its slots have accepted no call,
-    /// and have the room for their calls and replies. `Err`: there is no memory for it.
+    /// A session of a client, with the granted channels. Its slots have accepted no call, and have room for their
+    /// calls and replies. `Err`: an allocation failed.
     #[tactic(auto, using(crate::proofs::Places::unused_has_slots))]
     pub fn new(alloc: A, client: u64, granted: Channel) -> Result<Self, AllocError>
         requires { 1 ≤ granted.slots }
@@ -205,7 +214,7 @@ impl<A: Allocator + Copy> Session<A> {
         })
     }
 
-    /// A session of before a restart. Its slots lag and keep no call yet. `Err`: there is no memory for it.
+    /// A session of before a restart. Its slots lag and cache no call yet. `Err`: an allocation failed.
     #[tactic(auto, using(crate::proofs::Places::unused_has_slots))]
     pub fn restored(alloc: A, held: Held) -> Result<Self, AllocError>
         requires { 1 ≤ held.granted.slots }
@@ -221,7 +230,7 @@ impl<A: Allocator + Copy> Session<A> {
         })
     }
 
-    /// The session as it is kept over a restart, without its slots.
+    /// The session, as it is stored, without its slots.
     pub fn held(&self) -> Held
         ensures held { result ≡ held_of self.now }
         ensures slots { HasSlots self.now.granted self.now.slots }
@@ -232,8 +241,8 @@ impl<A: Allocator + Copy> Session<A> {
         }
     }
 
-    /// Whether a call of before a restart may stand in a slot.
-    pub fn has_room(&self, number: u32, kept: KeptCall<'_>) -> bool
+    /// Whether a call of before a restart fits a slot.
+    pub fn has_room(&self, number: u32, kept: CachedCall<'_>) -> bool
         ensures { result ≡ slot_fits (Some self.now) number (kept_of kept.entry) }
     {
         let granted = &self.granted;
@@ -242,18 +251,18 @@ impl<A: Allocator + Copy> Session<A> {
                 && kept.results.len() <= (granted.reply_size as usize).saturating_sub(REPLY_HEADER))
     }
 
-    /// Keeps a call of before a restart as the last one on a slot, which lags. It takes no memory.
+    /// Caches a call of before a restart as the last one of a slot, which lags. It allocates no memory.
     #[tactic(auto, using(crate::proofs::Places::restored_slot_facts))]
-    pub fn restore(&mut self, number: u32, kept: KeptCall<'_>)
+    pub fn restore(&mut self, number: u32, kept: CachedCall<'_>)
         requires slot { number < self.old.granted.slots }
         requires arguments { length kept.arguments.now ≤ self.old.granted.request_size }
-        requires results { length kept.results.now ≤ kept_size self.old.granted }
+        requires results { length kept.results.now ≤ cache_size self.old.granted }
         ensures { self.new ≡ with_place number (restored (kept_of kept.entry)) self.old }
     {
         restore_at(&mut self.slots, number as usize, kept);
     }
 
-    /// The number of the session's client.
+    /// The client ID of the session's client.
     pub fn client(&self) -> u64
         ensures { result ≡ self.now.client }
     {
@@ -264,7 +273,7 @@ impl<A: Allocator + Copy> Session<A> {
     #[tactic(auto, using(crate::proofs::Places::has_size, crate::proofs::Places::has_argument_size))]
     pub fn slot(&self, number: u32) -> Option<&Slot<A>>
         ensures slot { option_copied result ≡ slice_get self.now.slots number }
-        ensures room { IfSome (slice_get self.now.slots number) (λ p. p.most_results ≡ kept_size self.now.granted) }
+        ensures room { IfSome (slice_get self.now.slots number) (λ p. p.most_results ≡ cache_size self.now.granted) }
         ensures argument_room { IfSome (slice_get self.now.slots number)
             (λ p. p.most_arguments ≡ self.now.granted.request_size) }
         ensures slots { HasSlots self.now.granted self.now.slots }
@@ -292,7 +301,7 @@ impl<A: Allocator + Copy> Session<A> {
         None
     }
 
-    /// Begins a call on a slot. It takes no memory.
+    /// Begins a call on a slot. It allocates no memory.
     #[tactic(auto, using(crate::proofs::Places::begun_has_slots, crate::proofs::Places::has_room_for_arguments))]
     pub fn begin(&mut self, asked: Sequence<'_>) -> Begin
         requires { length (bytes_of asked.arguments) ≤ asked.record_len }
@@ -306,17 +315,17 @@ impl<A: Allocator + Copy> Session<A> {
         begin_of(self.client, self.granted, turn)
     }
 
-    /// Keeps the results of the call that was begun last on a slot. It takes no memory.
+    /// Caches the results of the newest call of a slot. It allocates no memory.
     #[tactic(auto, using(crate::proofs::Places::finished_has_slots, crate::proofs::Places::has_room_for_results))]
     pub fn keep(&mut self, number: u32, results: &[u8])
         requires slot { number < self.old.granted.slots }
-        requires few { length results.now ≤ kept_size self.old.granted }
+        requires few { length results.now ≤ cache_size self.old.granted }
         ensures { self.new ≡ with_place number (λ p. finished p results.now) self.old }
     {
         keep_at(&mut self.slots, number as usize, results);
     }
 
-    /// Marks a slot as lagging, if it is there.
+    /// Makes a slot lag, if it exists.
     #[tactic(auto, using(crate::proofs::Places::lagging_has_slots, crate::proofs::Places::none_there))]
     pub fn lag(&mut self, number: u32)
         ensures { self.new ≡ with_place number lagging self.old }
@@ -324,5 +333,12 @@ impl<A: Allocator + Copy> Session<A> {
         if number < self.granted.slots {
             lag_at(&mut self.slots, number as usize);
         }
+    }
+
+    /// Makes all slots lag.
+    pub fn lag_all(&mut self)
+        ensures { self.new ≡ session_lagging self.old }
+    {
+        lag_each(&mut self.slots);
     }
 }

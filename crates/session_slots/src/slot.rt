@@ -4,7 +4,7 @@ ghost use Rattle.std.specs.Prelude.{IfSome};
 ghost use Rattle.std.specs.Option.{option_map};
 ghost use Rattle.session_slots.specs.Counting as specs;
 ghost use Rattle.session_slots.specs.Covering.{lagging};
-ghost use Rattle.session_slots.specs.Slots.{Call, Kept, Place, number_of, turn_of, begun, finished, restored};
+ghost use Rattle.session_slots.specs.Slots.{Call, Cached, Place, number_of, turn_of, begun, finished, restored};
 ghost use Rattle.session_slots.specs.Slots.{results_of, BeginsBy, KeepsByHistory};
 ghost use Rattle.session_slots.specs.Views.{bytes_of, kept_of};
 
@@ -20,7 +20,7 @@ use std::marker::Model;
 pub enum Turn {
     /// The call has the next sequence ID.
     New,
-    /// The call repeats the last one.
+    /// The call is a retry of the last one.
     Repeat,
     /// The call is refused.
     Refused(Status),
@@ -33,7 +33,7 @@ pub fn due(last: u32) -> u32
     last.wrapping_add(1)
 }
 
-/// Whether a new call may have this number, where the slot's last one is `last`, and the slot lags or not.
+/// Whether a new call may have this sequence ID after `last`, by whether the slot lags.
 fn is_next(lags: bool, last: u32, number: u32) -> bool
     ensures { result ≡ specs.is_next lags last number }
 {
@@ -44,9 +44,9 @@ fn is_next(lags: bool, last: u32, number: u32) -> bool
     ahead >= 1 && ahead <= MOST_AHEAD
 }
 
-/// The last call of a slot, with its results, as it is kept over a restart.
+/// The last call of a slot, with its results, as it is stored.
 #[derive(Clone, Copy, Debug)]
-pub struct KeptCall<'a> {
+pub struct CachedCall<'a> {
     /// The sequence ID.
     pub number: u32,
     /// The caller.
@@ -57,7 +57,7 @@ pub struct KeptCall<'a> {
     pub results: &'a [u8],
 }
 
-/// A slot: the last call that it accepted, with its results. The room for them is reserved at the slot's creation.
+/// A slot: the last call that it accepted, with its results. The room for them is reserved when the slot is created.
 #[derive(Drop)]
 pub struct Slot<A: Allocator = Global> {
     // the sequence ID and the caller; `None`: no call was accepted
@@ -93,8 +93,8 @@ impl<A: Allocator> Model for Slot<A> {
 }
 
 impl<A: Allocator + Copy> Slot<A> {
-    /// A slot that keeps no call, and lags or has accepted none. `Err`: there is no memory for its
-    /// calls and their results.
+    /// A slot that caches no call, and lags or has accepted none. `Err`: the allocation of room for its calls and
+    /// their results failed.
     pub fn new(
         alloc: A,
         lags: bool,
@@ -118,7 +118,7 @@ impl<A: Allocator + Copy> Slot<A> {
         })
     }
 
-    /// The results that the slot keeps: none where it has accepted no call.
+    /// The results that the slot caches. None if it has accepted no call.
     pub fn results(&self) -> &[u8]
         ensures kept { result.now ≡ results_of self.now.kept }
         ensures few { length result.now ≤ self.now.most_results }
@@ -129,7 +129,7 @@ impl<A: Allocator + Copy> Slot<A> {
         }
     }
 
-    /// The sequence ID of the last call: 0 where none is kept.
+    /// The sequence ID of the last call. 0 if none is cached.
     pub fn last_number(&self) -> u32
         ensures { result ≡ specs.last_number number_of self.now.kept }
     {
@@ -139,15 +139,14 @@ impl<A: Allocator + Copy> Slot<A> {
         }
     }
 
-    /// Marks the slot as lagging: it may have accepted calls after the one that it keeps, as after a
-    /// restart.
+    /// Makes the slot lag: it may have accepted calls after the cached one, as after a restart.
     pub fn lag(&mut self)
         ensures { self.new ≡ lagging self.old }
     {
         self.lags = true;
     }
 
-    /// Whether a call is new, a repeat of the last one, or refused.
+    /// Whether a call is new, a retry of the last one, or refused.
     fn turn(&self, number: u32, arguments: CallBytes<'_>, caller: &Caller) -> Turn
         ensures { result ≡ turn_of self.now.lags self.now.kept (record {
           number = number;
@@ -188,7 +187,7 @@ impl<A: Allocator + Copy> Slot<A> {
         if let Turn::New = turn {
             self.last = Some((number, *caller));
             self.arguments.clear();
-            self.arguments.extend_from_slice(arguments.front).unwrap();
+            self.arguments.extend_from_slice(arguments.prefix).unwrap();
             self.arguments.extend_from_slice(arguments.back).unwrap();
             self.results.clear();
             self.lags = false;
@@ -196,11 +195,11 @@ impl<A: Allocator + Copy> Slot<A> {
         turn
     }
 
-    /// Begins a call: a new call is kept, with no results yet. It takes no memory.
+    /// Begins a call: a new call is cached, with no results yet. It allocates no memory.
     ///
-    /// For every history of calls that the slot stood for, the call gets that history's result, and
-    /// the slot stands for the history with the call. Where the slot lags, it stands for those of
-    /// these histories in which the call is next.
+    /// For every history of calls that the slot represented, the call gets that history's result. The slot then
+    /// represents the history with the call. If the slot lags, it represents only those of these histories in which
+    /// the call is next.
     #[tactic(auto, using(crate::proofs::Lagging::begins_by))]
     pub fn begin(&mut self, number: u32, arguments: CallBytes<'_>, caller: &Caller) -> Turn
         requires { length (bytes_of arguments) ≤ self.old.most_arguments }
@@ -220,7 +219,7 @@ impl<A: Allocator + Copy> Slot<A> {
         self.take(number, arguments, caller)
     }
 
-    /// Keeps the results of the call that was begun last, as [`Slot::keep`] does.
+    /// Caches the results of the newest call, as [`Slot::keep`] does.
     fn put(&mut self, results: &[u8])
         requires { length results.now ≤ self.old.most_results }
         ensures { self.new ≡ finished self.old results.now }
@@ -229,7 +228,7 @@ impl<A: Allocator + Copy> Slot<A> {
         self.results.extend_from_slice(results).unwrap();
     }
 
-    /// Keeps the results of the call that was begun last. It takes no memory.
+    /// Caches the results of the newest call. It allocates no memory.
     #[tactic(auto, using(crate::proofs::Histories::keeps_by_history))]
     pub fn keep(&mut self, results: &[u8])
         requires { length results.now ≤ self.old.most_results }
@@ -239,14 +238,14 @@ impl<A: Allocator + Copy> Slot<A> {
         self.put(results);
     }
 
-    /// The last call, with its results; `None`: no call is kept.
-    pub fn kept(&self) -> Option<KeptCall<'_>>
+    /// The last call, with its results. `None`: no call is cached.
+    pub fn kept(&self) -> Option<CachedCall<'_>>
         ensures kept { option_map kept_of result ≡ self.now.kept }
         ensures few { IfSome result (λ k. (length k.arguments.now ≤ self.now.most_arguments) ×
             (length k.results.now ≤ self.now.most_results)) }
     {
         match &self.last {
-            Some((number, caller)) => Some(KeptCall {
+            Some((number, caller)) => Some(CachedCall {
                 number: *number,
                 caller,
                 arguments: &self.arguments,
@@ -256,8 +255,8 @@ impl<A: Allocator + Copy> Slot<A> {
         }
     }
 
-    /// Keeps a call of before a restart as the last one. The slot lags. It takes no memory.
-    pub fn restore(&mut self, kept: KeptCall<'_>)
+    /// Caches a call of before a restart as the last one. The slot lags. It allocates no memory.
+    pub fn restore(&mut self, kept: CachedCall<'_>)
         requires arguments { length kept.arguments.now ≤ self.old.most_arguments }
         requires results { length kept.results.now ≤ self.old.most_results }
         ensures { self.new ≡ restored (kept_of kept.entry) self.old }

@@ -9,7 +9,7 @@ use Rattle.xdr_wire.proofs.Steps.{ok_is}
 use Rattle.std.proofs.lemmas.List.{append_cancel_right}
 use Rattle.xdr_wire.proofs.Spelling.{again, spelled, begins_from_read}
 use Rattle.store_journal.specs.declared.current.Current.{Current}
-use Rattle.store_journal.specs.declared.digest.Identity.{Identity}
+use Rattle.store_journal.specs.declared.checksum.Identity.{Identity}
 use Rattle.store_journal.specs.declared.fault.CurrentFault.{CurrentFault}
 use Rattle.store_journal.specs.declared.frames.Place.{Place}
 use Rattle.store_journal.specs.declared.head.Head.{Head}
@@ -17,7 +17,7 @@ use Rattle.store_journal.specs.declared.journal.Journal.{Journal}
 use Rattle.store_journal.specs.declared.writing.Position.{Position}
 use Rattle.store_journal.specs.Begun.{IsUpTo, AreUpTo, MayBe, IsBegun, IsFresh, NewGenerationLaw, FreshLaw, AgainLaw}
 use Rattle.store_journal.specs.Current.{begun_next, turned_to_begun, current_bytes, current_in, IsFitCurrent}
-use Rattle.store_journal.specs.Digest.{head_digest}
+use Rattle.store_journal.specs.Checksum.{head_checksum}
 use Rattle.store_journal.specs.Disk.{Bytes, Act, Read, Unread, Found, Unfound, Wrote, Tore, Synced, Unsynced, Turned, Unturned, Pointer, IsAmong, other, on_current, MayRead}
 use Rattle.store_journal.specs.Frames.{Frame, MAX_BODY, fitting_head, framed, form, frame_at, head_at, head_for, head_form, head_of, head_value, log_end, place_after, start, wiped, IsFit}
 use Rattle.store_journal.specs.Keeping.{with_frame, with_part, with_checkpoint, with_begun, end_frame, resumed}
@@ -25,12 +25,12 @@ use Rattle.store_journal.specs.Writing.{at_start, ended, next_position}
 use Rattle.store_journal.proofs.CurrentForms.{current_again}
 use Rattle.store_journal.proofs.LaterHeads.{gave_head}
 use Rattle.store_journal.proofs.Placing.{placed}
-use Rattle.store_journal.proofs.Standing.{took, place_generation}
+use Rattle.store_journal.proofs.StoredFrames.{took, place_generation}
 
 -- ---- heads
 
-same_digest : (n : ℕ) (x y : Option Head) → (if n == n then x else y) ≡ x
-same_digest n x y = grind (arith, nat_tests)
+same_checksum : (n : ℕ) (x y : Option Head) → (if n == n then x else y) ≡ x
+same_checksum n x y = grind (arith, nat_tests)
 
 some_head : (h g : Head) → Some h ≡ Some g → h ≡ g
 some_head h g e = cc
@@ -40,15 +40,15 @@ head_again : (id : Identity) (p : Place) (f : Frame) (rest : Bytes) → IsFit id
 unfolding framed IsFit head_at
 head_again id p f rest fit =
     let h = head_for id p f in
-    let d = head_digest id h in
+    let d = head_checksum id h in
     let head_bytes : Bytes = spelling head_form (head_value h) in
-    let digest_bytes : Bytes = spelling hyper d in
+    let checksum_bytes : Bytes = spelling hyper d in
     let body_bytes : Bytes = spelling (opaque MAX_BODY) f.body in
-    let parts : (head_bytes ++ (digest_bytes ++ body_bytes)) ++ rest ≡ (head_bytes ++ digest_bytes) ++ (body_bytes ++ rest) =
-    ap (λ (l : Bytes). l ++ rest) (sym (append_assoc head_bytes digest_bytes body_bytes)) ∙ append_assoc (head_bytes ++ digest_bytes) body_bytes rest in
+    let parts : (head_bytes ++ (checksum_bytes ++ body_bytes)) ++ rest ≡ (head_bytes ++ checksum_bytes) ++ (body_bytes ++ rest) =
+    ap (λ (l : Bytes). l ++ rest) (sym (append_assoc head_bytes checksum_bytes body_bytes)) ∙ append_assoc (head_bytes ++ checksum_bytes) body_bytes rest in
     ap (λ (l : Bytes). fitting_head id (read_at (pair head_form hyper) l)) parts
-    ∙ ap (fitting_head id) (again (pair head_form hyper) (head_value h, d) (head_bytes ++ digest_bytes) (body_bytes ++ rest) (spelled (pair head_form hyper) (head_value h, d) (fit.0, fit.1.0)))
-    ∙ same_digest d (Some h) None
+    ∙ ap (fitting_head id) (again (pair head_form hyper) (head_value h, d) (head_bytes ++ checksum_bytes) (body_bytes ++ rest) (spelled (pair head_form hyper) (head_value h, d) (fit.0, fit.1.0)))
+    ∙ same_checksum d (Some h) None
 
 frame_up_to : (id : Identity) (e : Position) (f : Frame) (most : ℕ) → IsFit id e.place f → e.place.generation ≤ most → IsUpTo id most (ended id e f)
 frame_up_to id e f most fit few h is =
@@ -58,27 +58,27 @@ frame_up_to id e f most fit few h is =
 regrouped : (h d o r : Bytes) → (h ++ (d ++ o)) ++ r ≡ (h ++ d) ++ (o ++ r)
 regrouped h d o r = simp append_assoc
 
--- a frame that was found begins with the head of its place
+-- a frame that was found starts with the head of its place
 found_up_to : (id : Identity) (p : Place) (bytes rest more : Bytes) (f : Frame) (most : ℕ) → frame_at id p (bytes ++ rest) ≡ Some (f, rest) → p.generation ≤ most → IsUpTo id most (bytes ++ more)
 found_up_to id p bytes rest more f most is few h at =
     let t = took id p (bytes ++ rest) f rest is in
     let b = begins_from_read form t.value (bytes ++ rest) rest t.is in
-    let same : bytes ≡ b.front = append_cancel_right bytes b.front rest b.parts in
+    let same : bytes ≡ b.prefix = append_cancel_right bytes b.prefix rest b.parts in
     let head = b.spelled.first in
     let later = b.spelled.second in
-    let parts : bytes ++ more ≡ (b.spelled.front ++ later.front) ++ (later.back ++ more) =
-    ap (λ (l : Bytes). l ++ more) (same ∙ b.spelled.joined ∙ ap (λ (l : Bytes). b.spelled.front ++ l) later.joined) ∙ regrouped b.spelled.front later.front later.back more in
+    let parts : bytes ++ more ≡ (b.spelled.prefix ++ later.prefix) ++ (later.back ++ more) =
+    ap (λ (l : Bytes). l ++ more) (same ∙ b.spelled.joined ∙ ap (λ (l : Bytes). b.spelled.prefix ++ l) later.joined) ∙ regrouped b.spelled.prefix later.prefix later.back more in
     let read : read_at (pair head_form hyper) (bytes ++ more) ≡ Ok ((t.value.0, t.value.1.0), later.back ++ more) =
     ap (read_at (pair head_form hyper)) parts
-    ∙ again (pair head_form hyper) (t.value.0, t.value.1.0) (b.spelled.front ++ later.front) (later.back ++ more) (record { front = b.spelled.front; back = later.front; joined = refl; first = head; second = later.first }) in
+    ∙ again (pair head_form hyper) (t.value.0, t.value.1.0) (b.spelled.prefix ++ later.prefix) (later.back ++ more) (record { prefix = b.spelled.prefix; back = later.prefix; joined = refl; first = head; second = later.first }) in
     let g = gave_head id (bytes ++ more) h at in
     let first : Value (pair head_form hyper) × Bytes = (g.value, g.after) in
     let second : Value (pair head_form hyper) × Bytes = ((t.value.0, t.value.1.0), later.back ++ more) in
     let both : first ≡ second = ok_is first second (sym g.is ∙ read) in
     let value : g.value ≡ second.0 = ap (λ (x : Value (pair head_form hyper) × Bytes). x.0) both in
-    let placed_so = placed id p (head_of t.value.0) t.value.1.0 t.value.1.1 t.placed in
+    let placed_is = placed id p (head_of t.value.0) t.value.1.0 t.value.1.1 t.placed in
     let generation : h.generation ≡ p.generation =
-    ap (λ (x : Head). x.generation) g.head_is ∙ ap (λ (v : Value (pair head_form hyper)). (head_of v.0).generation) value ∙ ap (λ (x : Head). x.generation) placed_so.head_is in
+    ap (λ (x : Head). x.generation) g.head_is ∙ ap (λ (v : Value (pair head_form hyper)). (head_of v.0).generation) value ∙ ap (λ (x : Head). x.generation) placed_is.head_is in
     omega (arith, generation, few)
 
 -- ---- acts
@@ -98,10 +98,10 @@ more_up_to id few most (Unturned bytes ∷ acts) less are = more_up_to id few mo
 
 -- ---- CURRENT
 
-abbrev Said : Type 0
-Said = Result Current CurrentFault
+abbrev CurrentResult : Type 0
+CurrentResult = Result Current CurrentFault
 
-abbrev fine : Current → Said
+abbrev fine : Current → CurrentResult
 fine c = Ok c
 
 one_current : (c d : Current) → fine c ≡ fine d → c ≡ d
@@ -110,7 +110,7 @@ one_current c d e = cc
 same_bytes : (a b : Bytes) → Some a ≡ Some b → a ≡ b
 same_bytes a b e = cc
 
--- two CURRENTs of the same bytes are one
+-- two CURRENTs with the same bytes are equal
 one_of_bytes : (c d : Current) → IsFitCurrent c → IsFitCurrent d → Some (current_bytes c) ≡ Some (current_bytes d) → c ≡ d
 one_of_bytes c d fit fit' same =
     one_current c d (sym (current_again c fit) ∙ ap current_in (same_bytes (current_bytes c) (current_bytes d) same) ∙ current_again d fit')
@@ -118,12 +118,12 @@ one_of_bytes c d fit fit' same =
 never : (c : Current) (bytes : Bytes) (p : Pointer) → p.doubtful ≡ [] → IsAmong p.doubtful (Some (current_bytes c)) → ⊥
 never c bytes p none among = subst (λ (l : List Bytes). IsAmong l (Some (current_bytes c))) none among
 
--- where CURRENT is sure, it is that one
+-- if no replacement is in doubt, CURRENT is that one
 sure_is : (c d : Current) (p : Pointer) → IsFitCurrent c → IsFitCurrent d → p.last ≡ Some (current_bytes d) → p.doubtful ≡ [] → MayRead p (Some (current_bytes c)) → c ≡ d
 sure_is c d p fit fit' last none (inl this) = one_of_bytes c d fit fit' (this ∙ last)
 sure_is c d p fit fit' last none (inr among) = absurd (never c (current_bytes d) p none among)
 
--- what a fresh journal leaves where CURRENT isn't turned
+-- what a journal leaves whose next generation is unused, if CURRENT isn't replaced
 still : (j : Journal) (acts acts' : List Act) → IsFresh j acts → on_current acts' ≡ on_current acts → AreUpTo j.current.identity j.current.begun acts' → IsBegun j.current.identity acts'
 still j acts acts' f same are = record {
   each = λ c fit may. subst (λ (x : Current). AreUpTo j.current.identity x.begun acts') (sym (is c fit may)) are;
@@ -135,7 +135,7 @@ still j acts acts' f same are = record {
     is : (c : Current) → IsFitCurrent c → MayBe acts' c → c ≡ j.current
     is c fit may = sure_is c j.current (on_current acts) fit f.fit f.last_is f.no_doubt (subst (λ (p : Pointer). MayRead p (Some (current_bytes c))) same may)
 
--- and where turning it to another one failed
+-- and if replacing it failed
 turning : (j : Journal) (d : Current) (acts mid : List Act) → IsFresh j acts → on_current mid ≡ on_current acts → AreUpTo j.current.identity j.current.begun mid → IsFitCurrent d → d.generation ≤ j.current.begun → j.current.begun ≤ d.begun → IsBegun j.current.identity (Unturned (current_bytes d) ∷ mid)
 turning j d acts mid f same are fit_d counts begun = record {
   each = λ c fit may. elim (which c fit may) [
@@ -202,11 +202,11 @@ none_isnt e is = cc
 next_same : (d e : Position) → Some d ≡ Some e → d ≡ e
 next_same d e is = cc
 
--- nothing was done, since the disk had failed before
+-- no act was done, since the disk had failed before
 unchanged : (j : Journal) (acts acts' : List Act) → IsFresh j acts → acts' ≡ acts → IsBegun j.current.identity acts'
 unchanged j acts acts' f is = still j acts acts' f (ap on_current is) (subst (AreUpTo j.current.identity j.current.begun) (sym is) f.may_begin.up_to)
 
--- these acts were added, and CURRENT wasn't turned
+-- these acts were added, and CURRENT wasn't replaced
 stopped : (j : Journal) (acts acts' added : List Act) → IsFresh j acts → acts' ≡ added → on_current added ≡ on_current acts → AreUpTo j.current.identity j.current.begun added → IsBegun j.current.identity acts'
 stopped j acts acts' added f is same are = subst (IsBegun j.current.identity) (sym is) (still j acts added f same are)
 
@@ -283,7 +283,7 @@ fresh_law j j' acts acts' f = (
   ],
 )
 
--- the last frame is written again, and CURRENT may be turned to what it says
+-- the last frame is written again, and CURRENT may be replaced by the same bytes
 stays_begun : (c : Current) (acts added : List Act) → IsBegun c.identity acts → IsFitCurrent c → MayBe acts c → ((d : Current) → MayBe added d → MayBe acts d) → ((most : ℕ) → c.generation ≤ most → AreUpTo c.identity most acts → AreUpTo c.identity most added) → IsBegun c.identity added
 stays_begun c acts added b fit may which up = record {
   each = λ d fit_d may_d. up d.begun (omega (arith, b.counts c fit may, b.begun d fit_d (which d may_d))) (b.each d fit_d (which d may_d));
@@ -325,4 +325,4 @@ again_law j c acts acts' file frames rest position last_at last b fit may l plac
 )
   where
     up : (most : ℕ) → c.generation ≤ most → IsUpTo c.identity most (last ++ wiped)
-    up most few = found_up_to c.identity (place_after c.identity (start c.generation) l.others) last rest wiped l.last most l.last_stands (omega (arith, place_generation c.identity (start c.generation) l.others, few))
+    up most few = found_up_to c.identity (place_after c.identity (start c.generation) l.others) last rest wiped l.last most l.last_is (omega (arith, place_generation c.identity (start c.generation) l.others, few))

@@ -1,8 +1,8 @@
--- A checkpoint leads from a journal that keeps a log to one that keeps the next, and a start to one that goes on.
+-- A checkpoint changes a journal that keeps a log into one that keeps the next, and a start opens a journal again.
 use Rattle.std.proofs.Common.{◌≡◌, ◌⊎◌, inl, inr, ℕ, ◌+◌, true, false, List, [], ◌∷◌, ◌++◌, length, Option, Some, None, Result, Ok, Err, refl, sym, ◌∙◌, ap, subst, arith}
 use Rattle.std.proofs.lemmas.List.{append-nil}
 use Rattle.store_journal.specs.declared.current.Current.{Current}
-use Rattle.store_journal.specs.declared.digest.Identity.{Identity}
+use Rattle.store_journal.specs.declared.checksum.Identity.{Identity}
 use Rattle.store_journal.specs.declared.disk.Slot.{Slot}
 use Rattle.store_journal.specs.declared.disk.Slot.TheVariants.{A, B}
 use Rattle.store_journal.specs.declared.fault.JournalFault.{JournalFault}
@@ -15,12 +15,12 @@ use Rattle.store_journal.specs.Current.{current_bytes, turned_to_begun, IsFitCur
 use Rattle.store_journal.specs.Disk.{Bytes, Act, Read, Found, Wrote, Tore, Synced, Unsynced, Turned, Unturned, other, on_disk, on_current, MayRead}
 use Rattle.store_journal.specs.Files.{Content, contents}
 use Rattle.store_journal.specs.Frames.{Frame, IsFit, log_end, next_place, place_after, start, framed, wiped}
-use Rattle.store_journal.specs.Journaled.{position_of, Log, IsLog, IsIn, IsJournal, at_begun, ByChance}
+use Rattle.store_journal.specs.Journaled.{position_of, Log, IsLog, IsIn, IsJournal, at_begun, HasCollision}
 use Rattle.store_journal.specs.Keeping.{resumed, ResumeGives, with_part, with_checkpoint, end_frame}
 use Rattle.store_journal.specs.Serving.{of_acts, Matches, Serves, Writes, GoesOn, StopsThere, AfterResume, FurtherLaw, made_log, FinishLaw, RestartLaw, EitherLaw}
 use Rattle.store_journal.specs.Steps.{Resumes, AreApart, IsOf, with_phase, with_later, all_kept, new_log, all_seen}
 use Rattle.store_journal.specs.Writing.{ended, next_position}
-use Rattle.store_journal.proofs.Standing.{place_append}
+use Rattle.store_journal.proofs.StoredFrames.{place_append}
 use Rattle.store_journal.proofs.Stepping.{first_law, part_law, whole_law, other_law, admit_law, turn_law, sync_law, read_law, resume_law, of_seen, some_is, none_isnt}
 
 never_true : false ≡ true → ⊥
@@ -50,7 +50,7 @@ part_written id generation s parts e acts f place_is (inl first) fit =
     (subst (λ (n : ℕ). IsWritten id generation [] (f ∷ []) (n + length (framed id e.place f)) Going (on_disk s (Wrote s n (framed id e.place f ++ log_end) ∷ acts))) (sym first.1)
     (subst (λ (x : Place). IsWritten id generation [] (f ∷ []) (0 + length (framed id x f)) Going (on_disk s (Wrote s 0 (framed id x f ++ log_end) ∷ acts))) (sym at_start) counted))
 
--- the log that counts is in the journal's file
+-- the active log is in the journal's file
 in_its_file : (j : Journal) (log : Option Log) → Matches j log → (l : Log) → IsIn (Some l) (log ∷ []) → l.current.slot ≡ other (other j.current.slot)
 in_its_file j None m l (inl this) = absurd (none_isnt l this)
 in_its_file j (Some log) m l (inl this) = ap (λ (x : Log). x.current.slot) (some_is l log this) ∙ sym (ap (λ (c : Current). c.slot) m.current_is) ∙ sym (other_other j.current.slot)
@@ -106,7 +106,7 @@ position_with place at = record { place = place; at = at }
 
 -- ---- the end
 
--- the checkpoint's end is written
+-- the end frame is written
 abbrev end_acts : Journal → Position → List Act → List Act
 end_acts j e acts = Wrote (other j.current.slot) e.at (ended j.current.identity e end_frame) ∷ acts
 
@@ -116,7 +116,7 @@ journal_ends j log parts acts e act w of =
     (aside j log parts acts (Wrote (other j.current.slot) e.at (ended j.current.identity e end_frame)) w refl)
     w.there (in_its_file j log w.serves.matches) of
 
--- the new log stands, and CURRENT that names it is turned to it
+-- the new log is complete, and CURRENT is replaced by one that names it
 whole : (j : Journal) (log : Option Log) (machine : ℕ) (parts : List Frame) (content : Content) (acts : List Act) → (w : Writes j log parts acts) → contents (parts ++ end_frame ∷ []) ≡ Some content → IsFit j.current.identity w.at.place end_frame → IsFitCurrent (turned_to_begun j.current machine)
     → IsJournal (Some (made_log j machine (parts ++ end_frame ∷ []) content (next_position j.current.identity w.at end_frame).at) ∷ []) (Turned (current_bytes (turned_to_begun j.current machine)) ∷ Synced (other j.current.slot) ∷ end_acts j w.at acts)
     × IsJournal (Some (made_log j machine (parts ++ end_frame ∷ []) content (next_position j.current.identity w.at end_frame).at) ∷ log ∷ []) (Unturned (current_bytes (turned_to_begun j.current machine)) ∷ Synced (other j.current.slot) ∷ end_acts j w.at acts)
@@ -194,13 +194,13 @@ seen_apart log others acts found file apart = record {
       ap (λ (x : Log). x.current.slot) w.is ∙ apart.elsewhere w.was w.of_these;
 }
 
-unseen : (log : Log) (file : Bytes) → ByChance (with_phase log (after_start log.phase)) file → ByChance log file
-unseen log file fluke = record { tail = fluke.tail; behind = fluke.behind; loose = λ settled. fluke.loose (ap after_start settled); fluke = fluke.fluke }
+unseen : (log : Log) (file : Bytes) → HasCollision (with_phase log (after_start log.phase)) file → HasCollision log file
+unseen log file collision = record { tail = collision.tail; follows = collision.follows; loose = λ settled. collision.loose (ap after_start settled); collision = collision.collision }
 
--- what is written again goes on, by each of its three acts
+-- the journal after the last frame is written again, after each of the three acts
 module _ (log : Log) (others : List (Option Log)) (begun : ℕ) (content : Option Content) (position : Position) (last_at : ℕ) (last : Bytes) (acts1 : List Act) (apart1 : AreApart (with_phase log (after_start log.phase)) (all_seen others) acts1) (fit : IsFitCurrent (at_begun log.current begun)) (r : Resumes (with_phase log (after_start log.phase)) (all_seen others) acts1 content position last_at last) where
   abbrev one : Log
-  one = with_later log r.front position.at Going
+  one = with_later log r.prefix position.at Going
 
   abbrev wrote : List Act
   wrote = Wrote log.current.slot last_at (last ++ wiped) ∷ acts1
@@ -211,14 +211,14 @@ module _ (log : Log) (others : List (Option Log)) (begun : ℕ) (content : Optio
   turned : IsJournal (Some (all_kept one) ∷ []) (Turned (current_bytes (at_begun log.current begun)) ∷ Synced log.current.slot ∷ wrote) × IsJournal (Some (all_kept one) ∷ all_seen others) (Unturned (current_bytes (at_begun log.current begun)) ∷ Synced log.current.slot ∷ wrote)
   turned = turn_law (Some (all_kept one) ∷ all_seen others) (Synced log.current.slot ∷ wrote) (Some (all_kept one)) (current_bytes (at_begun log.current begun)) kept.0 (inl refl) (begun, refl, fit)
 
-  stops : (acts' : List Act) → IsJournal (Some (with_later log r.front position.at Stuck) ∷ all_seen others) acts' ⊎ IsJournal (Some (all_kept one) ∷ all_seen others) acts' → StopsThere log others content acts'
-  stops acts' journal = record { front = r.front; at = position.at; of_later = r.of_later; content_is = r.content_is; journal = journal }
+  stops : (acts' : List Act) → IsJournal (Some (with_later log r.prefix position.at Stuck) ∷ all_seen others) acts' ⊎ IsJournal (Some (all_kept one) ∷ all_seen others) acts' → StopsThere log others content acts'
+  stops acts' journal = record { prefix = r.prefix; at = position.at; of_later = r.of_later; content_is = r.content_is; journal = journal }
 
   goes_on : (j : Journal) (acts' : List Act) → j ≡ resumed (at_begun log.current begun) position → acts' ≡ Turned (current_bytes (at_begun log.current begun)) ∷ Synced log.current.slot ∷ wrote → GoesOn j log content acts'
   goes_on j acts' is acts_are = record {
-    front = r.front;
+    prefix = r.prefix;
     at = position.at;
-    has_all = record { front = r.front; of_later = r.of_later; content_is = r.content_is };
+    has_all = record { prefix = r.prefix; of_later = r.of_later; content_is = r.content_is };
     serves = record {
       journal = subst (IsJournal (Some (all_kept one) ∷ [])) (sym acts_are) turned.0;
       matches = record {
@@ -241,19 +241,19 @@ resumes log others begun content position last_at last acts1 acts' (Err Memory) 
 resumes log others begun content position last_at last acts1 acts' (Err Full) apart1 j1 r gives = absurd gives
 resumes log others begun content position last_at last acts1 acts' (Err NoCheckpoint) apart1 j1 r gives = absurd gives
 resumes log others begun content position last_at last acts1 acts' (Err Failed) apart1 j1 r (inl tore) =
-    record { front = r.front; at = position.at; of_later = r.of_later; content_is = r.content_is; journal = inl (subst (IsJournal (Some (with_later log r.front position.at Stuck) ∷ all_seen others)) (sym tore) r.tore) }
+    record { prefix = r.prefix; at = position.at; of_later = r.of_later; content_is = r.content_is; journal = inl (subst (IsJournal (Some (with_later log r.prefix position.at Stuck) ∷ all_seen others)) (sym tore) r.tore) }
 resumes log others begun content position last_at last acts1 acts' (Err Failed) apart1 j1 r (inr (inl both)) =
-    let one = with_later log r.front position.at Going in
+    let one = with_later log r.prefix position.at Going in
     let wrote : List Act = Wrote log.current.slot last_at (last ++ wiped) ∷ acts1 in
     let kept = sync_law one (all_seen others) wrote r.wrote (record { there = apart1.there; elsewhere = apart1.elsewhere }) refl in
     let acts_are : acts' ≡ Unsynced log.current.slot ∷ wrote = both.two ∙ ap (λ (l : List Act). Unsynced log.current.slot ∷ l) both.one in
-    record { front = r.front; at = position.at; of_later = r.of_later; content_is = r.content_is; journal = inl (subst (IsJournal (Some (with_later log r.front position.at Stuck) ∷ all_seen others)) (sym acts_are) kept.1) }
+    record { prefix = r.prefix; at = position.at; of_later = r.of_later; content_is = r.content_is; journal = inl (subst (IsJournal (Some (with_later log r.prefix position.at Stuck) ∷ all_seen others)) (sym acts_are) kept.1) }
 resumes log others begun content position last_at last acts1 acts' (Err Failed) apart1 j1 r (inr (inr all)) =
     let wrote : List Act = Wrote log.current.slot last_at (last ++ wiped) ∷ acts1 in
     let acts_are : acts' ≡ Unturned (current_bytes (at_begun log.current begun)) ∷ Synced log.current.slot ∷ wrote =
     all.0.three ∙ ap (λ (l : List Act). Unturned (current_bytes (at_begun log.current begun)) ∷ l) (all.0.two ∙ ap (λ (l : List Act). Synced log.current.slot ∷ l) all.0.one) in
     stops log others begun content position last_at last acts1 apart1 all.1 r acts'
-    (inr (subst (IsJournal (Some (all_kept (with_later log r.front position.at Going)) ∷ all_seen others)) (sym acts_are) (turned log others begun content position last_at last acts1 apart1 all.1 r).1))
+    (inr (subst (IsJournal (Some (all_kept (with_later log r.prefix position.at Going)) ∷ all_seen others)) (sym acts_are) (turned log others begun content position last_at last acts1 apart1 all.1 r).1))
 
 pub restart_law : RestartLaw
 restart_law log others begun acts acts' found file content position last_at last result journal apart left ch gives =
@@ -263,7 +263,7 @@ restart_law log others begun acts acts' found file content position last_at last
     let j1 : IsJournal (Some slog ∷ all_seen others) acts1 = (read_law (Some log ∷ others) read ((read_law (Some log ∷ others) acts journal).0 found)).3 log.current.slot file in
     let apart1 = seen_apart log others acts found file apart in
     elim (resume_law slog (all_seen others) begun read file content position last_at last j1 apart1 left ch) [
-      | inr fluke ↦ inr (unseen log file fluke)
+      | inr collision ↦ inr (unseen log file collision)
       | inl r ↦ inl (resumes log others begun content position last_at last acts1 acts' result apart1 j1 r gives)
     ]
 

@@ -1,8 +1,8 @@
--- The last frame of a file that was read, and what is chosen of it.
+-- The last frame of a file that was read, and what is chosen of the file.
 use Rattle.std.proofs.Common.{◌≡◌, inl, inr, ℕ, ◌+◌, ◌-◌, true, List, ◌++◌, length, take, drop, Some, None, sym, ◌∙◌, ap, subst, arith, length-append}
 use Rattle.std.proofs.lemmas.List.{take_at, drop_at}
 use Rattle.store_journal.specs.declared.current.Current.{Current}
-use Rattle.store_journal.specs.declared.digest.Identity.{Identity}
+use Rattle.store_journal.specs.declared.checksum.Identity.{Identity}
 use Rattle.store_journal.specs.declared.frames.Place.{Place}
 use Rattle.store_journal.specs.declared.writing.Position.{Position}
 use Rattle.store_journal.specs.Disk.{Bytes}
@@ -10,7 +10,7 @@ use Rattle.store_journal.specs.Files.{Content, contents, if_whole, IsRead, IsRot
 use Rattle.store_journal.specs.Frames.{Frame, start}
 use Rattle.store_journal.specs.Opening.{Chooses}
 
--- of a whole checkpoint some frame is the last
+-- a complete checkpoint has a last frame
 pub some_last : (id : Identity) (generation : ℕ) (file : Bytes) (place : Place) (rest : Bytes) (at : ℕ) (parts records : List Bytes) → (r : IsRead id generation file place rest at true parts records) → (bytes : Bytes) × LastFrame id (start generation) file r.frames rest at bytes
 some_last id generation file place rest at parts records r = elim r.last [
   | inl none ↦ absurd (apart (sym (ap contents none) ∙ r.content))

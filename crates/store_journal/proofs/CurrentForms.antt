@@ -8,13 +8,13 @@ use Rattle.xdr_wire.specs.Xdr.{spelling}
 use Rattle.xdr_wire.specs.Reading.{read_at}
 use Rattle.xdr_wire.proofs.Spelling.{again, spelled}
 use Rattle.store_journal.specs.declared.current.Current.{Current}
-use Rattle.store_journal.specs.declared.digest.Identity.{Identity}
+use Rattle.store_journal.specs.declared.checksum.Identity.{Identity}
 use Rattle.store_journal.specs.declared.disk.Slot.{Slot}
 use Rattle.store_journal.specs.declared.disk.Slot.TheVariants.{A, B}
 use Rattle.store_journal.specs.declared.fault.CurrentFault.{CurrentFault}
-use Rattle.store_journal.specs.declared.fault.CurrentFault.TheVariants.{Damaged}
+use Rattle.store_journal.specs.declared.fault.CurrentFault.TheVariants.{Corrupt}
 use Rattle.store_journal.specs.Current.{current_bytes, current_form, current_in, current_value, form_of, in_known_slot, of_read, IsFitCurrent}
-use Rattle.store_journal.specs.Digest.{current_digest}
+use Rattle.store_journal.specs.Checksum.{current_checksum}
 use Rattle.store_journal.specs.Disk.{Bytes}
 
 if_same : (n : ℕ) (x y : Result Current CurrentFault) → (if n == n then x else y) ≡ x
@@ -30,5 +30,5 @@ current_again c fit =
     let bytes : Bytes = spelling current_form (current_value c) in
     ap (λ (b : Bytes). of_read (read_at current_form b)) (sym (append-nil bytes))
     ∙ ap of_read (again current_form (current_value c) bytes [] (spelled current_form (current_value c) fit))
-    ∙ if_same (current_digest (form_of c)) (in_known_slot (form_of c)) (Err Damaged)
+    ∙ if_same (current_checksum (form_of c)) (in_known_slot (form_of c)) (Err Corrupt)
     ∙ known c.identity c.generation c.begun c.machine c.slot

@@ -5,15 +5,15 @@ use Rattle.std.specs.Prelude.{◌==◌}
 use Rattle.std.proofs.lemmas.Bool.{cases_eq}
 use Rattle.std.proofs.lemmas.List.{append_cancel_left}
 use Rattle.std.proofs.Math.Seq.{drop-append-add}
-use Rattle.store_journal.specs.declared.digest.Identity.{Identity}
+use Rattle.store_journal.specs.declared.checksum.Identity.{Identity}
 use Rattle.store_journal.specs.declared.frames.Place.{Place}
 use Rattle.store_journal.specs.Disk.{Bytes, FileState, MayLeave}
-use Rattle.store_journal.specs.Crash.{IsFront, Phase, Settled, StandsSo, IsWritten, Fluke, HeadFluke, Chance}
+use Rattle.store_journal.specs.Crash.{IsPrefix, Phase, Settled, IsStoredAs, IsWritten, FrameCollision, HeadCollision, Collision}
 use Rattle.store_journal.specs.Files.{Content, contents, with_part, records_in, IsRotten}
-use Rattle.store_journal.specs.Frames.{Frame, END, MARK, frame_at, head_at, frame_with, log_end, next_place, place_after, start, Stand, Holds}
+use Rattle.store_journal.specs.Frames.{Frame, END, MARK, frame_at, head_at, frame_with, log_end, next_place, place_after, start, FramesAt, Holds}
 use Rattle.store_journal.proofs.Gathering.{Ends, frame_ends}
 use Rattle.store_journal.proofs.LogEnds.{none_at_end, not_rotten}
-use Rattle.store_journal.proofs.Standing.{Splits, splits, place_number, place_generation}
+use Rattle.store_journal.proofs.StoredFrames.{Splits, splits, place_number, place_generation}
 
 -- ---- equal or not
 
@@ -53,50 +53,50 @@ same_frame_or_not f g = elim (cases_eq f.kind g.kind) [
   | inr differ ↦ inr (λ e. differ (ap (λ (x : Frame). x.kind) e))
 ]
 
--- ---- a front, or a fluke
+-- ---- a prefix, or a checksum collision
 
-pub front_or_fluke : (id : Identity) (p : Place) (tail later : List Frame) (more rest : Bytes) → Holds id p more tail rest → IsFront tail later ⊎ Fluke id p later more
-front_or_fluke id p [] later more rest holds = inl (record { more = later; is = refl })
-front_or_fluke id p (s ∷ tail) [] more rest holds = inr (record {
-  front = [];
+pub prefix_or_collision : (id : Identity) (p : Place) (tail later : List Frame) (more rest : Bytes) → Holds id p more tail rest → IsPrefix tail later ⊎ FrameCollision id p later more
+prefix_or_collision id p [] later more rest holds = inl (record { more = later; is = refl })
+prefix_or_collision id p (s ∷ tail) [] more rest holds = inr (record {
+  prefix = [];
   left = [];
   parts = refl;
   stray = more;
-  stand = refl;
+  frames_at = refl;
   frame = s;
-  after = holds.stand.0;
-  fits = holds.stand.1;
+  after = holds.frames_at.0;
+  fits = holds.frames_at.1;
   differs = λ others e. apart others e;
 })
   where
     apart : (others : List Frame) → [] ≡ s ∷ others → ⊥
     apart others e = cc
-front_or_fluke id p (s ∷ tail) (f ∷ later) more rest holds = elim (same_frame_or_not f s) [
+prefix_or_collision id p (s ∷ tail) (f ∷ later) more rest holds = elim (same_frame_or_not f s) [
   | inl same ↦
-      let holds_after : Holds id (next_place id p s) holds.stand.0 tail rest = record { stand = holds.stand.2; no_more = holds.no_more } in
-      elim (front_or_fluke id (next_place id p s) tail later holds.stand.0 rest holds_after) [
-        | inl front ↦ inl (record { more = front.more; is = ap (λ (x : Frame). x ∷ later) same ∙ ap (λ (l : List Frame). s ∷ l) front.is })
-        | inr fluke ↦ inr (record {
-          front = s ∷ fluke.front;
-          left = fluke.left;
-          parts = ap (λ (x : Frame). x ∷ later) same ∙ ap (λ (l : List Frame). s ∷ l) fluke.parts;
-          stray = fluke.stray;
-          stand = (holds.stand.0, holds.stand.1, fluke.stand);
-          frame = fluke.frame;
-          after = fluke.after;
-          fits = fluke.fits;
-          differs = fluke.differs;
+      let holds_after : Holds id (next_place id p s) holds.frames_at.0 tail rest = record { frames_at = holds.frames_at.2; no_more = holds.no_more } in
+      elim (prefix_or_collision id (next_place id p s) tail later holds.frames_at.0 rest holds_after) [
+        | inl prefix ↦ inl (record { more = prefix.more; is = ap (λ (x : Frame). x ∷ later) same ∙ ap (λ (l : List Frame). s ∷ l) prefix.is })
+        | inr collision ↦ inr (record {
+          prefix = s ∷ collision.prefix;
+          left = collision.left;
+          parts = ap (λ (x : Frame). x ∷ later) same ∙ ap (λ (l : List Frame). s ∷ l) collision.parts;
+          stray = collision.stray;
+          frames_at = (holds.frames_at.0, holds.frames_at.1, collision.frames_at);
+          frame = collision.frame;
+          after = collision.after;
+          fits = collision.fits;
+          differs = collision.differs;
         })
       ]
   | inr differ ↦ inr (record {
-    front = [];
+    prefix = [];
     left = f ∷ later;
     parts = refl;
     stray = more;
-    stand = refl;
+    frames_at = refl;
     frame = s;
-    after = holds.stand.0;
-    fits = holds.stand.1;
+    after = holds.frames_at.0;
+    fits = holds.frames_at.1;
     differs = λ others e. differ (heads others e);
   })
 ]
@@ -110,27 +110,27 @@ no_frame id p tail more f after ends is = contradicts (ap (frame_at id p) (sym e
     contradicts : frame_at id p (log_end ++ more) ≡ Some (f, after) → frame_at id p (log_end ++ more) ≡ None → ⊥
     contradicts this that = cc
 
-no_fluke : (id : Identity) (p : Place) (later : List Frame) (tail more : Bytes) → tail ≡ log_end ++ more → Fluke id p later tail → ⊥
-no_fluke id p later tail more ends fluke = nothing fluke.front fluke.stray fluke.stand fluke.fits
+no_collision : (id : Identity) (p : Place) (later : List Frame) (tail more : Bytes) → tail ≡ log_end ++ more → FrameCollision id p later tail → ⊥
+no_collision id p later tail more ends collision = nothing collision.prefix collision.stray collision.frames_at collision.fits
   where
-    nothing : (front : List Frame) (stray : Bytes) → Stand id p front tail stray → frame_at id (place_after id p front) stray ≡ Some (fluke.frame, fluke.after) → ⊥
-    nothing [] stray stand fits = no_frame id p tail more fluke.frame fluke.after ends (ap (frame_at id p) (sym stand) ∙ fits)
-    nothing (f ∷ front) stray stand fits = no_frame id p tail more f stand.0 ends stand.1
+    nothing : (prefix : List Frame) (stray : Bytes) → FramesAt id p prefix tail stray → frame_at id (place_after id p prefix) stray ≡ Some (collision.frame, collision.after) → ⊥
+    nothing [] stray frames_at fits = no_frame id p tail more collision.frame collision.after ends (ap (frame_at id p) (sym frames_at) ∙ fits)
+    nothing (f ∷ prefix) stray frames_at fits = no_frame id p tail more f frames_at.0 ends frames_at.1
 
-pub stand_ends : (id : Identity) (p : Place) (frames : List Frame) (bytes rest : Bytes) → Stand id p frames bytes rest → Ends bytes rest
-stand_ends id p [] bytes rest stand = record { front = []; is = sym stand }
-stand_ends id p (f ∷ frames) bytes rest stand =
-    let first = frame_ends id p bytes f stand.0 stand.1 in
-    let later = stand_ends id (next_place id p f) frames stand.0 rest stand.2 in
-    record { front = first.front ++ later.front; is = first.is ∙ ap (λ (l : Bytes). first.front ++ l) later.is ∙ sym (append_assoc first.front later.front rest) }
+pub frames_end : (id : Identity) (p : Place) (frames : List Frame) (bytes rest : Bytes) → FramesAt id p frames bytes rest → Ends bytes rest
+frames_end id p [] bytes rest frames_at = record { prefix = []; is = sym frames_at }
+frames_end id p (f ∷ frames) bytes rest frames_at =
+    let first = frame_ends id p bytes f frames_at.0 frames_at.1 in
+    let later = frames_end id (next_place id p f) frames frames_at.0 rest frames_at.2 in
+    record { prefix = first.prefix ++ later.prefix; is = first.is ∙ ap (λ (l : Bytes). first.prefix ++ l) later.is ∙ sym (append_assoc first.prefix later.prefix rest) }
 
 -- ---- the file
 
--- the kept frames stand, and after them a front of the later ones
+-- the bytes begin with the durable frames, and then with a prefix of the later ones
 pub record Stays (kept later frames : List Frame) : Type 0 where
   pub tail : List Frame
   pub parts : frames ≡ kept ++ tail
-  pub of_later : IsFront tail later
+  pub of_later : IsPrefix tail later
 
 module _ (id : Identity) (generation : ℕ) (kept later : List Frame) (at : ℕ) (phase : Phase) (d : FileState) (w : IsWritten id generation kept later at phase d) (few : length later ≤ 1) (left : Bytes) (m : MayLeave d left) where
   abbrev pub tail : Bytes
@@ -139,38 +139,38 @@ module _ (id : Identity) (generation : ℕ) (kept later : List Frame) (at : ℕ)
   left_is : left ≡ w.kept_bytes ++ tail
   left_is = m.is ∙ ap (λ (l : Bytes). l ++ m.more) w.safe.is ∙ append_assoc w.kept_bytes w.safe.more m.more
 
-  pub behind : Stand id (start generation) kept left tail
-  behind = subst (λ (b : Bytes). Stand id (start generation) kept b tail) (sym left_is) (w.kept_are tail)
+  pub rest_at : FramesAt id (start generation) kept left tail
+  rest_at = subst (λ (b : Bytes). FramesAt id (start generation) kept b tail) (sym left_is) (w.kept_are tail)
 
   ended : phase ≡ Settled → (more : Bytes) × (tail ≡ log_end ++ more)
   ended settled =
-      let stands : StandsSo Settled w.kept_bytes w.later_bytes d = subst (λ (x : Phase). StandsSo x w.kept_bytes w.later_bytes d) settled w.stands in (
-        stands.1.more ++ m.more,
-        ap (λ (l : Bytes). l ++ m.more) (append_cancel_left w.kept_bytes w.safe.more (log_end ++ stands.1.more) (sym w.safe.is ∙ stands.1.is)) ∙ append_assoc log_end stands.1.more m.more,
+      let stored : IsStoredAs Settled w.kept_bytes w.later_bytes d = subst (λ (x : Phase). IsStoredAs x w.kept_bytes w.later_bytes d) settled w.stored in (
+        stored.1.more ++ m.more,
+        ap (λ (l : Bytes). l ++ m.more) (append_cancel_left w.kept_bytes w.safe.more (log_end ++ stored.1.more) (sym w.safe.is ∙ stored.1.is)) ∙ append_assoc log_end stored.1.more m.more,
       )
 
   module _ (frames : List Frame) (rest : Bytes) (holds : Holds id (start generation) left frames rest) where
     split : Splits id (start generation) kept frames tail rest
-    split = splits id (start generation) kept frames left tail rest behind holds
+    split = splits id (start generation) kept frames left tail rest rest_at holds
 
-    pub stays : Stays kept later frames ⊎ Chance id generation kept later phase left
-    stays = elim (front_or_fluke id (place_after id (start generation) kept) split.tail later tail rest split.holds) [
-      | inl front ↦ inl (record { tail = split.tail; parts = split.parts; of_later = front })
-      | inr fluke ↦ inr (record { tail = tail; behind = behind; loose = λ settled. no_fluke id (place_after id (start generation) kept) later tail (ended settled).0 (ended settled).1 fluke; fluke = inl fluke })
+    pub stays : Stays kept later frames ⊎ Collision id generation kept later phase left
+    stays = elim (prefix_or_collision id (place_after id (start generation) kept) split.tail later tail rest split.holds) [
+      | inl prefix ↦ inl (record { tail = split.tail; parts = split.parts; of_later = prefix })
+      | inr collision ↦ inr (record { tail = tail; follows = rest_at; loose = λ settled. no_collision id (place_after id (start generation) kept) later tail (ended settled).0 (ended settled).1 collision; collision = inl collision })
     ]
 
     settled_sound : phase ≡ Settled → IsRotten id (place_after id (start generation) frames) rest → ⊥
-    settled_sound settled rotten = nothing split.tail split.holds.stand
+    settled_sound settled rotten = nothing split.tail split.holds.frames_at
       where
-        nothing : (more : List Frame) → Stand id (place_after id (start generation) kept) more tail rest → ⊥
-        nothing [] stand = not_rotten id (place_after id (start generation) frames) rest (ended settled).0 (stand ∙ (ended settled).1) rotten
-        nothing (f ∷ more) stand = no_frame id (place_after id (start generation) kept) tail (ended settled).0 f stand.0 (ended settled).1 stand.1
+        nothing : (more : List Frame) → FramesAt id (place_after id (start generation) kept) more tail rest → ⊥
+        nothing [] frames_at = not_rotten id (place_after id (start generation) frames) rest (ended settled).0 (frames_at ∙ (ended settled).1) rotten
+        nothing (f ∷ more) frames_at = no_frame id (place_after id (start generation) kept) tail (ended settled).0 f frames_at.0 (ended settled).1 frames_at.1
 
-    head_fluke : IsRotten id (place_after id (start generation) frames) rest → HeadFluke id (place_after id (start generation) kept) tail
-    head_fluke rotten =
-        let ends = stand_ends id (place_after id (start generation) kept) split.tail tail rest split.holds.stand in
-        let n = length ends.front + 4 * rotten.later.place in
-        let same : drop n tail ≡ drop (4 * rotten.later.place) rest = ap (drop n) ends.is ∙ drop-append-add ends.front rest (4 * rotten.later.place) in
+    head_collides : IsRotten id (place_after id (start generation) frames) rest → HeadCollision id (place_after id (start generation) kept) tail
+    head_collides rotten =
+        let ends = frames_end id (place_after id (start generation) kept) split.tail tail rest split.holds.frames_at in
+        let n = length ends.prefix + 4 * rotten.later.place in
+        let same : drop n tail ≡ drop (4 * rotten.later.place) rest = ap (drop n) ends.is ∙ drop-append-add ends.prefix rest (4 * rotten.later.place) in
         let l = rotten.later.later in
         let many : length frames ≡ length kept + length split.tail = ap length split.parts ∙ length-append kept split.tail in
         record {
@@ -182,10 +182,10 @@ module _ (id : Identity) (generation : ℕ) (kept later : List Frame) (at : ℕ)
           never = omega (arith, many, place_number id (start generation) frames, place_number id (start generation) kept, l.number);
         }
 
-    pub sound : IsRotten id (place_after id (start generation) frames) rest → Chance id generation kept later phase left
-    sound rotten = elim (front_or_fluke id (place_after id (start generation) kept) split.tail later tail rest split.holds) [
-      | inl front ↦ record { tail = tail; behind = behind; loose = λ settled. settled_sound settled rotten; fluke = inr (head_fluke rotten) }
-      | inr fluke ↦ record { tail = tail; behind = behind; loose = λ settled. no_fluke id (place_after id (start generation) kept) later tail (ended settled).0 (ended settled).1 fluke; fluke = inl fluke }
+    pub sound : IsRotten id (place_after id (start generation) frames) rest → Collision id generation kept later phase left
+    sound rotten = elim (prefix_or_collision id (place_after id (start generation) kept) split.tail later tail rest split.holds) [
+      | inl prefix ↦ record { tail = tail; follows = rest_at; loose = λ settled. settled_sound settled rotten; collision = inr (head_collides rotten) }
+      | inr collision ↦ record { tail = tail; follows = rest_at; loose = λ settled. no_collision id (place_after id (start generation) kept) later tail (ended settled).0 (ended settled).1 collision; collision = inl collision }
     ]
 
 -- ---- contents
@@ -198,7 +198,7 @@ pub records_append : (xs ys : List Frame) → records_in (xs ++ ys) ≡ records_
 records_append [] ys = refl
 records_append (x ∷ xs) ys = by_mark (x.kind == MARK) x.body (records_in xs) (records_in ys) (records_in (xs ++ ys)) (records_append xs ys)
 
--- frames more are records more
+-- more frames hold more records
 pub more_contents : (kept more : List Frame) (c : Content) → contents kept ≡ Some c → contents (kept ++ more) ≡ Some (record { parts = c.parts; records = c.records ++ records_in more })
 more_contents [] more c is = absurd (apart is)
   where

@@ -2,7 +2,7 @@ pub mod BegunOnce
 pub mod Checkpointed
 pub mod Choosing
 pub mod CurrentForms
-pub mod Fronts
+pub mod Prefixes
 pub mod Gathering
 pub mod LaterHeads
 pub mod Left
@@ -10,7 +10,7 @@ pub mod LogEnds
 pub mod Placing
 pub mod Rewritten
 pub mod Served
-pub mod Standing
+pub mod StoredFrames
 pub mod Started
 pub mod Stepping
 pub mod Surviving

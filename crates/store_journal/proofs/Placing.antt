@@ -1,4 +1,4 @@
--- A head that was read and is in its place is that of the frame with its kind and body.
+-- A head that was read in its place is the head of the frame with its kind and body.
 use Rattle.std.proofs.Common.{◌≡◌, ℕ, ◌<◌, ◌+◌, Bool, true, false, length, Option, Some, None, Ok, ◌∙◌, ap, arith, length-append}
 use Rattle.std.specs.Bool.{if◌then◌else◌}
 use Rattle.std.specs.Prelude.{◌==◌}
@@ -6,11 +6,11 @@ use Rattle.std.proofs.lemmas.Bool.Decides.{nat_tests}
 use Rattle.xdr_wire.specs.Xdr.{Value}
 use Rattle.xdr_wire.proofs.Spelling.{begins_from_read}
 use Rattle.xdr_wire.specs.Reading.{read_at}
-use Rattle.store_journal.specs.declared.digest.Identity.{Identity}
+use Rattle.store_journal.specs.declared.checksum.Identity.{Identity}
 use Rattle.store_journal.specs.declared.frames.Place.{Place}
 use Rattle.store_journal.specs.declared.head.Head.{Head}
 use Rattle.store_journal.specs.Current.{VERSION}
-use Rattle.store_journal.specs.Digest.{digest, head_digest}
+use Rattle.store_journal.specs.Checksum.{checksum, head_checksum}
 use Rattle.store_journal.specs.Disk.{Bytes}
 use Rattle.store_journal.specs.Frames.{Frame, form, frame_of, head_for, head_value, next_place, in_place, fitting, frame_at}
 
@@ -20,9 +20,9 @@ passes a b t is = (grind (arith, nat_tests), grind (arith, nat_tests))
 passes_last : (a b : ℕ) → (a == b) ≡ true → a ≡ b
 passes_last a b is = grind (arith, nat_tests)
 
--- what the tests of a frame's place say
+-- what the checks of a frame's place establish
 pub record Placed (id : Identity) (p : Place) (h : Head) (d : ℕ) (body : Bytes) : Type 0 where
-  pub digest_is : d ≡ head_digest id h
+  pub checksum_is : d ≡ head_checksum id h
   pub head_is : h ≡ head_for id p (frame_of h body)
 
 abbrev head_with : ℕ → ℕ → ℕ → ℕ → ℕ → ℕ → ℕ → Head
@@ -31,15 +31,15 @@ head_with version generation number before kind len body =
 
 pub placed : (id : Identity) (p : Place) (h : Head) (d : ℕ) (body : Bytes) → in_place id p h d body ≡ true → Placed id p h d body
 placed id p h d body is =
-    let a = passes d (head_digest id h) _ is in
+    let a = passes d (head_checksum id h) _ is in
     let b = passes h.version VERSION _ a.1 in
     let c = passes h.generation p.generation _ b.1 in
     let e = passes h.number p.number _ c.1 in
     let f = passes h.before p.before _ e.1 in
     let g = passes h.length (length body) _ f.1 in
-    let last = passes_last h.body (digest id body) g.1 in
+    let last = passes_last h.body (checksum id body) g.1 in
     record {
-      digest_is = a.0;
+      checksum_is = a.0;
       head_is = ap (λ (n : ℕ). head_with n h.generation h.number h.before h.kind h.length h.body) b.0
           ∙ ap (λ (n : ℕ). head_with VERSION n h.number h.before h.kind h.length h.body) c.0
           ∙ ap (λ (n : ℕ). head_with VERSION p.generation n h.before h.kind h.length h.body) e.0
@@ -52,7 +52,7 @@ abbrev place_with : Place → ℕ → Place
 place_with p before = record { generation = p.generation; number = p.number + 1; before = before }
 
 pub place_goes_on : (id : Identity) (p : Place) (h : Head) (d : ℕ) (body : Bytes) → Placed id p h d body → place_with p d ≡ next_place id p (frame_of h body)
-place_goes_on id p h d body is = ap (place_with p) (is.digest_is ∙ ap (head_digest id) is.head_is)
+place_goes_on id p h d body is = ap (place_with p) (is.checksum_is ∙ ap (head_checksum id) is.head_is)
 
 if_true : (t : Bool) (x y : Option (Frame × Bytes)) → t ≡ true → (if t then x else y) ≡ x
 if_true t x y is = ap (λ (b : Bool). if b then x else y) is
@@ -70,13 +70,13 @@ unfolding frame_at
 takes_none id p bytes rest h d body is bad =
     ap (fitting id p) is ∙ if_false (in_place id p h d body) (Some (frame_of h body, rest)) None bad
 
--- after what was read there are fewer bytes
+-- a read leaves fewer bytes
 pub read_shortens : (bytes rest : Bytes) (v : Value form) → read_at form bytes ≡ Ok (v, rest) → length rest < length bytes
 read_shortens bytes rest v is =
     let begins = begins_from_read form v bytes rest is in
-    let whole : length bytes ≡ length begins.front + length rest = ap length begins.parts ∙ length-append begins.front rest in
+    let whole : length bytes ≡ length begins.prefix + length rest = ap length begins.parts ∙ length-append begins.prefix rest in
     let head = begins.spelled.first in
-    let parts : length begins.front ≡ length begins.spelled.front + length begins.spelled.back = ap length begins.spelled.joined ∙ length-append begins.spelled.front begins.spelled.back in
-    let heads : length begins.spelled.front ≡ length head.front + length head.back = ap length head.joined ∙ length-append head.front head.back in
-    let eight : length head.front ≡ 8 = head.first.len in
+    let parts : length begins.prefix ≡ length begins.spelled.prefix + length begins.spelled.back = ap length begins.spelled.joined ∙ length-append begins.spelled.prefix begins.spelled.back in
+    let heads : length begins.spelled.prefix ≡ length head.prefix + length head.back = ap length head.joined ∙ length-append head.prefix head.back in
+    let eight : length head.prefix ≡ 8 = head.first.len in
     omega (arith, whole, parts, heads, eight)

@@ -1,4 +1,4 @@
--- Each call leads from a journal that keeps a log to the next.
+-- Each call changes a journal that keeps a log into one that keeps the next log.
 use Rattle.std.proofs.Common.{◌≡◌, inl, inr, ℕ, ◌+◌, true, false, List, [], ◌∷◌, Option, Some, None, Ok, Err, refl, sym, ◌∙◌, ap, subst, arith}
 use Rattle.store_journal.specs.declared.current.Current.{Current}
 use Rattle.store_journal.specs.declared.disk.Slot.{Slot}
@@ -18,7 +18,7 @@ use Rattle.store_journal.proofs.Stepping.{frame_law, sync_law, turn_law}
 
 -- ---- appending
 
--- where a log alone may count CURRENT is there
+-- if only one log may be active, CURRENT is on the disk
 pub alone : (log : Log) (acts : List Act) → IsJournal (Some log ∷ []) acts → AreApart log [] acts
 alone log acts j = record {
   there = λ may. absent (j.named None may).log (j.named None may).of_these (j.named None may).names;
@@ -33,7 +33,7 @@ alone log acts j = record {
     absent (Some l) (inl this) names = names
     absent o (inr none) names = absurd none
 
--- the act that the call makes is that of the law
+-- the act of the call is the act of the law
 wrote_is : (j : Journal) (log : Log) (f : Frame) → Follows j log → Wrote j.current.slot j.position.at (ended j.current.identity j.position f) ≡ Wrote log.current.slot log.at (ended log.current.identity (position_of log) f)
 wrote_is j log f m =
     ap (λ (c : Current). Wrote c.slot j.position.at (ended c.identity j.position f)) m.current_is
@@ -102,7 +102,7 @@ append_law j j' log acts acts' f (Err Failed) s (inr now) =
 
 -- ---- beginning a checkpoint
 
--- CURRENT with another number of the generation that was begun last names the same
+-- CURRENT with another number of the last begun generation names the same log
 names_next : (j : Journal) (log : Option Log) (acts : List Act) → Matches j log → IsFitCurrent (begun_next j.current) → Names acts log (Some (current_bytes (begun_next j.current)))
 names_next j None acts m fit = (begun_next j.current, refl, fit, m)
 names_next j (Some log) acts m fit =

@@ -1,8 +1,8 @@
--- The acts of each call lead from one journal to the next.
+-- What each act of a call does to a journal.
 use Rattle.std.proofs.Common.{◌≡◌, inl, inr, ℕ, ◌≤◌, ◌+◌, List, [], ◌∷◌, ◌++◌, length, Option, Some, None, refl, sym, ◌∙◌, ap, subst, arith, length-append}
 use Rattle.std.proofs.lemmas.List.{append-nil}
 use Rattle.store_journal.specs.declared.current.Current.{Current}
-use Rattle.store_journal.specs.declared.digest.Identity.{Identity}
+use Rattle.store_journal.specs.declared.checksum.Identity.{Identity}
 use Rattle.store_journal.specs.declared.disk.Slot.{Slot}
 use Rattle.store_journal.specs.declared.disk.Slot.TheVariants.{A, B}
 use Rattle.store_journal.specs.declared.frames.Place.{Place}
@@ -17,7 +17,7 @@ use Rattle.store_journal.specs.Steps.{with_phase, with_later, with_one, all_kept
 use Rattle.store_journal.specs.Writing.{ended}
 use Rattle.store_journal.proofs.Left.{stays, more_contents}
 use Rattle.store_journal.proofs.Rewritten.{reads, weakens, rewrites, rewriting_tears}
-use Rattle.store_journal.proofs.Standing.{place_append}
+use Rattle.store_journal.proofs.StoredFrames.{place_append}
 use Rattle.store_journal.proofs.Written.{writes, tears, writes_first, goes_on, keeps}
 
 -- ---- files
@@ -46,12 +46,12 @@ some_is a b e = cc
 pub none_isnt : (l : Log) → Some l ≡ None → ⊥
 none_isnt l e = cc
 
--- a log of the same CURRENT is named by the same
+-- CURRENT that names a log also names each other log of the same CURRENT
 renames : (acts acts' : List Act) (log log' : Log) (found : Option Bytes) → log.current ≡ log'.current → Names acts (Some log) found → Names acts' (Some log') found
 renames acts acts' log log' None same names = names
 renames acts acts' log log' (Some bytes) same names = subst (λ (c : Current). (begun : ℕ) × (bytes ≡ current_bytes (at_begun c begun)) × IsFitCurrent (at_begun c begun)) same names
 
--- where a CURRENT is there, it names the same whatever was done with the files
+-- if CURRENT is on the disk, it names the same log whatever was done with the files
 carries : (acts acts' : List Act) (log : Option Log) (found : Option Bytes) → (found ≡ None → ⊥) → Names acts log found → Names acts' log found
 carries acts acts' None None there names = absurd (there refl)
 carries acts acts' None (Some bytes) there names = names
@@ -72,13 +72,13 @@ same_log log acts acts' same l = record {
   finished = l.finished;
 }
 
--- CURRENT is there, where it may be read only so
+-- CURRENT is found, if it can't be missing
 is_there : (p : Pointer) (found : Option Bytes) → (MayRead p None → ⊥) → MayRead p found → found ≡ None → ⊥
 is_there p found there may none = there (subst (MayRead p) none may)
 
 -- ---- one log more or less
 
--- the first log is another one, of the same CURRENT, and the others stand as before
+-- the first log changes to another of the same CURRENT, and the other logs stay
 step : (log log' : Log) (others : List (Option Log)) (acts acts' : List Act) → log.current ≡ log'.current → on_current acts' ≡ on_current acts → AreApart log others acts → IsJournal (Some log ∷ others) acts → IsLog log' acts' → ((s : Slot) → s ≡ other log.current.slot → on_disk s acts' ≡ on_disk s acts) → IsJournal (Some log' ∷ others) acts'
 step log log' others acts acts' same pointer apart j l' elsewhere = record {
   named = λ found may'.
@@ -101,7 +101,7 @@ step log log' others acts acts' same pointer apart j l' elsewhere = record {
     written_by l (inl this) = subst (λ (x : Log). IsLog x acts') (sym (some_is l log' this)) l'
     written_by l (inr of_others) = same_log l acts acts' (elsewhere l.current.slot (apart.elsewhere l of_others)) (j.written l (inr of_others))
 
--- nothing was done with the files of the logs
+-- no act was on the files of the logs
 keep : (logs : List (Option Log)) (acts acts' : List Act) → on_current acts' ≡ on_current acts → (MayRead (on_current acts) None → ⊥) → ((l : Log) → IsIn (Some l) logs → on_disk l.current.slot acts' ≡ on_disk l.current.slot acts) → IsJournal logs acts → IsJournal logs acts'
 keep logs acts acts' pointer there same j = record {
   named = λ found may'.
@@ -111,7 +111,7 @@ keep logs acts acts' pointer there same j = record {
   written = λ l is. same_log l acts acts' (same l is) (j.written l is);
 }
 
--- nothing was done with any file
+-- no act was on a file
 keep_all : (logs : List (Option Log)) (acts acts' : List Act) → on_current acts' ≡ on_current acts → ((s : Slot) → on_disk s acts' ≡ on_disk s acts) → IsJournal logs acts → IsJournal logs acts'
 keep_all logs acts acts' pointer same j = record {
   named = λ found may'.
@@ -121,7 +121,7 @@ keep_all logs acts acts' pointer same j = record {
   written = λ l is. same_log l acts acts' (same l.current.slot) (j.written l is);
 }
 
--- ---- serving
+-- ---- an open journal
 
 frame_written : (id : Identity) (generation : ℕ) (kept later : List Frame) (at : ℕ) (phase : Phase) (d : FileState) (f : Frame) → IsWritten id generation kept later at phase d → later ≡ [] → phase ≡ Settled → IsFit id (place_after id (start generation) (kept ++ later)) f
     → IsWritten id generation kept (f ∷ []) (at + length (framed id (place_after id (start generation) (kept ++ later)) f)) Going (with_write at (framed id (place_after id (start generation) (kept ++ later)) f ++ log_end) d)
@@ -235,7 +235,7 @@ admit_law logs acts log j l = record {
     written_by o (inl this) = subst (λ (x : Log). IsLog x acts) (sym (some_is o log this)) l
     written_by o (inr of_these) = j.written o of_these
 
--- ---- a checkpoint in the other file
+-- ---- a checkpoint in the inactive file
 
 on_elsewhere : (s t : Slot) (f : FileState → FileState) (d : FileState) (u : Slot) → t ≡ s → u ≡ other s → if_same u t f d ≡ d
 on_elsewhere s t f d u same is = on_another t u f d (is ∙ ap other (sym same))
@@ -289,7 +289,7 @@ to_seen log [] is = absurd is
 to_seen log (o ∷ logs) (inl this) = inl (ap seen this)
 to_seen log (o ∷ logs) (inr later) = inr (to_seen log logs later)
 
--- a log that was seen is one of those
+-- a log as reading leaves it comes from one of those
 pub record WasSeen (l : Log) (logs : List (Option Log)) : Type 0 where
   pub was : Log
   pub of_these : IsIn (Some was) logs
@@ -354,14 +354,14 @@ resume_law log others begun acts file content position last_at last j apart m ch
     let m0 : MayLeave (after_reading d) file = record { more = m.more; is = m.is; none = m.none } in
     let m1 : MayLeave d1 file = subst (λ (x : FileState). MayLeave x file) (sym read) m0 in
     elim (stays c.identity c.generation log.kept log.later log.at log.phase d1 l.written l.few file m1 ch.frames ch.rest ch.holds) [
-      | inr fluke ↦ inr fluke
+      | inr collision ↦ inr collision
       | inl s ↦
           let few : length s.tail ≤ 1 = omega (arith, l.few, ap length s.of_later.is, length-append s.tail s.of_later.more) in
           let v = rewrites c.identity c.generation log.kept log.later log.at log.phase d1 l.written l.few now_is file m1 ch.frames ch.rest ch.holds last_at last ch.last s in
           let t = rewriting_tears c.identity c.generation log.kept log.later log.at log.phase d1 l.written l.few now_is file m1 ch.frames ch.rest ch.holds last_at last ch.last s in
           let bytes : Bytes = last ++ wiped in
           inl (record {
-            front = s.tail;
+            prefix = s.tail;
             of_later = s.of_later;
             content_is = sym ch.content_is ∙ ap contents s.parts ∙ more_contents log.kept s.tail log.content l.whole;
             position_is = ap (λ (p : Place). place_with p position.at) (ch.place_is ∙ ap (place_after c.identity (start c.generation)) s.parts);

@@ -14,16 +14,16 @@ left_in_slot : (s : Slot) (acts : List Act) (a b : Bytes) → MayLeave (on_disk 
 left_in_slot A acts a b m n = m
 left_in_slot B acts a b m n = n
 
--- what stands of a log has all that is kept
+-- what is left of a log has all durable records
 pub content_stays : (log : Log) (frames : List Frame) (content : Option Content) → contents log.kept ≡ Some log.content → contents frames ≡ content → Stays log.kept log.later frames → HasAll log content
 content_stays log frames content whole is s = record {
-  front = s.tail;
+  prefix = s.tail;
   of_later = s.of_later;
   content_is = sym is ∙ ap contents s.parts ∙ more_contents log.kept s.tail log.content whole;
 }
 
-damaged : (log : Log) (frames : List Frame) → contents log.kept ≡ Some log.content → contents frames ≡ None → Stays log.kept log.later frames → ⊥
-damaged log frames whole none s = apart (sym none ∙ ap contents s.parts ∙ more_contents log.kept s.tail log.content whole)
+corrupt : (log : Log) (frames : List Frame) → contents log.kept ≡ Some log.content → contents frames ≡ None → Stays log.kept log.later frames → ⊥
+corrupt log frames whole none s = apart (sym none ∙ ap contents s.parts ∙ more_contents log.kept s.tail log.content whole)
   where
     content : Content
     content = record { parts = log.content.parts; records = log.content.records ++ records_in s.tail }
@@ -38,12 +38,12 @@ survives log acts file begun l m =
     record {
       chosen = λ content position at bytes ch. elim (stays c.identity c.generation log.kept log.later log.at log.phase d l.written l.few file m ch.frames ch.rest ch.holds) [
         | inl s ↦ inl (content_stays log ch.frames content l.whole ch.content_is s)
-        | inr fluke ↦ inr fluke
+        | inr collision ↦ inr collision
       ];
       sound = λ bad. elim bad.wrong [
         | inl none ↦ elim (stays c.identity c.generation log.kept log.later log.at log.phase d l.written l.few file m bad.frames bad.rest bad.holds) [
-          | inl s ↦ absurd (damaged log bad.frames l.whole none s)
-          | inr fluke ↦ fluke
+          | inl s ↦ absurd (corrupt log bad.frames l.whole none s)
+          | inr collision ↦ collision
         ]
         | inr rotten ↦ sound c.identity c.generation log.kept log.later log.at log.phase d l.written l.few file m bad.frames bad.rest bad.holds rotten
       ];
@@ -65,4 +65,4 @@ crash_law logs acts j found may a b m n =
     record { log = one.log; of_these = one.of_these; opens = opens logs acts j a b m n one.log found one.of_these one.names }
 
 pub settled_law : SettledLaw
-settled_law log file settled fluke = fluke.loose settled
+settled_law log file settled collision = collision.loose settled

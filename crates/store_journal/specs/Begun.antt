@@ -1,7 +1,7 @@
--- A generation is begun once: before that no frame of it was ever written.
+-- A generation is begun once. No frame of it was ever written before that.
 use Rattle.std.specs.Prelude.{◌≡◌, ◌≤◌, ◌+◌, ℕ, List, [], ◌∷◌, Some, Ok, Err}
 use Rattle.store_journal.specs.declared.current.Current.{Current}
-use Rattle.store_journal.specs.declared.digest.Identity.{Identity}
+use Rattle.store_journal.specs.declared.checksum.Identity.{Identity}
 use Rattle.store_journal.specs.declared.fault.JournalFault.TheVariants.{Failed}
 use Rattle.store_journal.specs.declared.head.Head.{Head}
 use Rattle.store_journal.specs.declared.journal.Journal.{Journal}
@@ -14,11 +14,11 @@ use Rattle.store_journal.specs.Frames.{Frame, head_at, start}
 use Rattle.store_journal.specs.Keeping.{AppendGives, BeginGives, PartGives, FinishGives, ResumeGives}
 use Rattle.store_journal.specs.Serving.{of_acts}
 
--- the head at the front of the bytes, if there is one, is of no greater generation
+-- if the bytes begin with a head, its generation is at most `most`
 abbrev pub IsUpTo : Identity → ℕ → Bytes → Type 0
 IsUpTo id most bytes = (h : Head) → head_at id bytes ≡ Some h → h.generation ≤ most
 
--- no frame of a greater generation was ever written
+-- no frame of a generation above `most` was ever written
 abbrev pub AreUpTo : Identity → ℕ → List Act → Type 0
 AreUpTo id most [] = Unit {0}
 AreUpTo id most (Read found ∷ acts) = AreUpTo id most acts
@@ -36,21 +36,21 @@ AreUpTo id most (Unturned bytes ∷ acts) = AreUpTo id most acts
 abbrev pub MayBe : List Act → Current → Type 0
 MayBe acts c = MayRead (on_current acts) (Some (current_bytes c))
 
--- **Whichever CURRENT a crash leaves, no frame of a later generation than the last that it says to be begun was ever
--- written.** Some number is no less than what each of them says to count, and no greater than what each says begun.
+-- **Whichever CURRENT a crash leaves, no frame of a generation after its `begun` was ever written.** Some number is
+-- at least each active generation among them, and at most each `begun`.
 pub record IsBegun (id : Identity) (acts : List Act) : Type 0 where
   pub each : (c : Current) → IsFitCurrent c → MayBe acts c → AreUpTo id c.begun acts
   pub low : ℕ
   pub counts : (c : Current) → IsFitCurrent c → MayBe acts c → c.generation ≤ low
   pub begun : (c : Current) → IsFitCurrent c → MayBe acts c → low ≤ c.begun
 
--- so it is of what this journal says
+-- the same holds of the CURRENT that the journal has in memory
 pub record MayBegin (j : Journal) (acts : List Act) : Type 0 where
   pub up_to : AreUpTo j.current.identity j.current.begun acts
   pub least : j.current.generation ≤ j.current.begun
   pub place_is : j.position.place.generation ≡ j.current.generation
 
--- and CURRENT says what the journal does
+-- CURRENT on the disk is the one in memory, and no replacement is in doubt
 pub record IsFresh (j : Journal) (acts : List Act) : Type 0 where
   pub may_begin : MayBegin j acts
   pub fit : IsFitCurrent j.current
@@ -58,7 +58,7 @@ pub record IsFresh (j : Journal) (acts : List Act) : Type 0 where
   pub no_doubt : (on_current acts).doubtful ≡ []
   pub next_is : (e : Position) → j.next ≡ Some e → e.place.generation ≡ j.current.begun
 
--- **The generation that is begun is a new one**: no frame of it, nor of a later one, was ever written.
+-- **The generation that is begun is new**: no frame of it, nor of a later one, was ever written.
 pub record BeginsNew (j j' : Journal) (acts acts' : List Act) : Type 0 where
   pub next : j'.current.begun ≡ j.current.begun + 1
   pub up_to : AreUpTo j.current.identity j.current.begun acts
@@ -69,7 +69,7 @@ NewGenerationLaw =
     (j j' : Journal) (acts acts' : List Act) → MayBegin j acts → BeginGives (of_acts acts acts') j (Ok tt) j'
     → BeginsNew j j' acts acts'
 
--- each call keeps that, and where it fails a start finds it so
+-- each call keeps the next generation unused, and if it fails a start finds it unused
 abbrev pub FreshLaw : Type 0
 FreshLaw =
     (j j' : Journal) (acts acts' : List Act) → IsFresh j acts
@@ -81,7 +81,7 @@ FreshLaw =
     × ((machine : ℕ) → FinishGives (of_acts acts acts') machine j (Err Failed) j' → IsBegun j.current.identity acts')
     × (BeginGives (of_acts acts acts') j (Err Failed) j' → IsBegun j.current.identity acts')
 
--- and a start goes on so, or fails and leaves it so
+-- a start that succeeds keeps the next generation unused, and so does one that fails
 abbrev pub AgainLaw : Type 0
 AgainLaw =
     (j : Journal) (c : Current) (acts acts' : List Act) (file : Bytes) (frames : List Frame) (rest : Bytes)

@@ -1,15 +1,15 @@
--- CURRENT as it stands in its file: a struct of seven numbers and their digest (RFC 4506, section 4.14).
+-- The form of CURRENT: a struct of seven numbers and their checksum (RFC 4506, section 4.14).
 use Rattle.std.specs.Prelude.{◌==◌, ◌+◌, ℕ, length, if◌then◌else◌, Result, Ok, Err}
 use Rattle.xdr_wire.specs.Xdr.{Xdr, Value, hyper, pair, HasSpelling, spelling}
 use Rattle.xdr_wire.specs.Reading.{Read, read_at}
 use Rattle.store_journal.specs.declared.current.Current.{Current}
 use Rattle.store_journal.specs.declared.current.CurrentForm.{CurrentForm}
-use Rattle.store_journal.specs.declared.digest.Identity.{Identity}
+use Rattle.store_journal.specs.declared.checksum.Identity.{Identity}
 use Rattle.store_journal.specs.declared.disk.Slot.{Slot}
 use Rattle.store_journal.specs.declared.disk.Slot.TheVariants.{A, B}
 use Rattle.store_journal.specs.declared.fault.CurrentFault.{CurrentFault}
-use Rattle.store_journal.specs.declared.fault.CurrentFault.TheVariants.{Version, Damaged}
-use Rattle.store_journal.specs.Digest.{current_digest}
+use Rattle.store_journal.specs.declared.fault.CurrentFault.TheVariants.{Version, Corrupt}
+use Rattle.store_journal.specs.Checksum.{current_checksum}
 use Rattle.store_journal.specs.Disk.{Bytes, other}
 
 -- the version of the form of CURRENT and of frames
@@ -53,12 +53,12 @@ form_of c = record {
 }
 
 abbrev pub current_value : Current → Value current_form
-current_value c = (numbers_value (form_of c), current_digest (form_of c))
+current_value c = (numbers_value (form_of c), current_checksum (form_of c))
 
 unfoldable pub current_bytes : Current → Bytes
 current_bytes c = spelling current_form (current_value c)
 
--- it can be written
+-- CURRENT can be written
 unfoldable pub IsFitCurrent : Current → Type 0
 IsFitCurrent c = HasSpelling current_form (current_value c)
 
@@ -75,32 +75,32 @@ with_slot c s = record {
 
 abbrev pub in_known_slot : CurrentForm → Result Current CurrentFault
 in_known_slot c =
-    if c.slot == 0 then Ok (with_slot c A) else if c.slot == 1 then Ok (with_slot c B) else Err Damaged
+    if c.slot == 0 then Ok (with_slot c A) else if c.slot == 1 then Ok (with_slot c B) else Err Corrupt
 
--- Its digest is looked at before its version, so that rot is never taken for another version.
+-- The checksum is checked before the version, so that corruption is never taken for another version.
 abbrev pub of_form : CurrentForm → ℕ → ℕ → Result Current CurrentFault
-of_form c digest left =
+of_form c checksum left =
     if left == 0 then
-    (if digest == current_digest c then (if c.version == VERSION then in_known_slot c else Err Version)
-    else Err Damaged)
-    else Err Damaged
+    (if checksum == current_checksum c then (if c.version == VERSION then in_known_slot c else Err Version)
+    else Err Corrupt)
+    else Err Corrupt
 
 abbrev pub of_read : Read (Value current_form) → Result Current CurrentFault
 of_read (Ok x) = of_form (numbers_of x.0.0) x.0.1 (length x.1)
-of_read (Err e) = Err Damaged
+of_read (Err e) = Err Corrupt
 
--- What CURRENT says: these bytes are all of it. `Version` where it is whole and of another version, and `Damaged`
--- where it isn't whole.
+-- The content of CURRENT, whose bytes are all of these. `Version`: it is intact, and of another version. `Corrupt`:
+-- it is corrupt.
 unfoldable pub current_in : Bytes → Result Current CurrentFault
 current_in bytes = of_read (read_at current_form bytes)
 
--- ---- the next ones
+-- ---- changes of CURRENT
 
--- no checkpoint stands yet
+-- no checkpoint was finished yet
 abbrev pub new_current : Identity → ℕ → Current
 new_current id machine = record { identity = id; generation = 0; begun = 0; slot = B; machine = machine }
 
--- one generation more is begun
+-- one more generation is begun
 abbrev pub begun_next : Current → Current
 begun_next c = record {
   identity = c.identity;
@@ -110,7 +110,7 @@ begun_next c = record {
   machine = c.machine;
 }
 
--- the generation that was begun last counts, in the other file
+-- the last begun generation is active, in the other file
 abbrev pub turned_to_begun : Current → ℕ → Current
 turned_to_begun c machine = record {
   identity = c.identity;

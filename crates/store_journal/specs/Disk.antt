@@ -1,4 +1,4 @@
--- Two files and CURRENT on a disk: what is done with them, and what a crash may leave.
+-- Two files and CURRENT on a disk: the acts on them, and what a crash may leave.
 use Rattle.std.specs.Prelude.{◌≡◌, ◌⊎◌, ◌==◌, ℕ, Bool, true, false, List, [], ◌∷◌, ◌++◌, length, take, nat_lt}
 use Rattle.std.specs.Prelude.{if◌then◌else◌, Option, Some, None}
 use Rattle.store_journal.specs.declared.disk.Slot.{Slot}
@@ -7,27 +7,27 @@ use Rattle.store_journal.specs.declared.disk.Slot.TheVariants.{A, B}
 abbrev pub Bytes : Type 0
 Bytes = List ℕ
 
--- one call of a disk, with its answer
+-- an act is one call of a disk, with its result
 pub data Act : Type 0 where
-  -- CURRENT was read: it has these bytes, or there is none
+  -- CURRENT was read: it has these bytes, or it is missing
   Read : Option Bytes → Act
-  -- reading it failed
+  -- reading CURRENT failed
   Unread : Act
   -- a file was read: it has these bytes
   Found : Slot → Bytes → Act
-  -- reading it failed
+  -- reading a file failed
   Unfound : Slot → Act
-  -- these bytes were written at this place of a file, over what stood there
+  -- these bytes were written at this offset of a file
   Wrote : Slot → ℕ → Bytes → Act
-  -- writing them failed: any part of them may stand there
+  -- writing them failed: any part of them may be there
   Tore : Slot → ℕ → Bytes → Act
-  -- what was written to the file by this program is on the disk
+  -- everything that this program wrote to the file is durable
   Synced : Slot → Act
   -- syncing failed: what was written since the last sync may be lost, or not
   Unsynced : Slot → Act
-  -- CURRENT was replaced as a whole, and its name and bytes are on the disk
+  -- CURRENT was replaced as a whole, and its name and bytes are durable
   Turned : Bytes → Act
-  -- replacing it failed: it is as it was, or the new one
+  -- replacing it failed: it has its old bytes or these
   Unturned : Bytes → Act
 
 abbrev pub other : Slot → Slot
@@ -37,29 +37,29 @@ other B = A
 -- ---- a file
 
 pub record FileState : Type 0 where
-  -- each crash leaves these bytes at the front of the file
+  -- each crash leaves these bytes at the start of the file
   pub safe : Bytes
-  -- these bytes stand at its front by what was written and read; what stands behind them isn't known
+  -- the file begins with these bytes, by what was written and read; what follows them is unknown
   pub now : Bytes
   -- it was written to
   pub touched : Bool
 
--- a file that isn't there, or is empty
+-- a file that is missing or empty
 abbrev pub untouched : FileState
 untouched = record { safe = []; now = []; touched = false }
 
--- the front that two lists of bytes share
+-- the common prefix of two lists of bytes
 abbrev pub shared : Bytes → Bytes → Bytes
 shared [] new = []
 shared (x ∷ old) [] = []
 shared (x ∷ old) (y ∷ new) = if x == y then x ∷ shared old new else []
 
--- what is known to stand at the front after a write
+-- the known prefix of a file after a write
 abbrev pub over : ℕ → Bytes → Bytes → Bytes
 over at bytes now = if nat_lt (length now) at then now else take at now ++ bytes
 
--- A disk writes a sector whole or not at all. So safe bytes stay safe up to the first that a write changes: the old
--- and the new sector agree on those before it.
+-- A disk writes a sector whole or not at all. So durable bytes stay durable up to the first that a write changes: the
+-- old and the new sector agree on the bytes before it.
 abbrev pub with_write : ℕ → Bytes → FileState → FileState
 with_write at bytes d =
     record { safe = shared d.safe (over at bytes d.now); now = over at bytes d.now; touched = true }
@@ -76,18 +76,18 @@ abbrev pub after_sync : FileState → FileState
 after_sync d = record { safe = d.now; now = d.now; touched = d.touched }
 
 -- What is read may have been written by a program that ended before its sync, or whose sync failed. No later sync
--- keeps that, nor what was written before a sync that failed. So only the safe bytes are known to last.
+-- covers those bytes, nor bytes that were written before a failed sync. So only the durable bytes are known to stay.
 abbrev pub after_reading : FileState → FileState
 after_reading d = record { safe = d.safe; now = d.safe; touched = d.touched }
 
--- an act on one file does this to a file
+-- the effect of an act on one file: no other file changes
 abbrev pub if_same : Slot → Slot → (FileState → FileState) → FileState → FileState
 if_same A A f d = f d
 if_same A B f d = d
 if_same B A f d = d
 if_same B B f d = f d
 
--- A file after these acts, the newest first. They are all that was ever done with it, over all starts.
+-- A file after these acts, the newest first. They are all acts that were ever done with it, over all starts.
 abbrev pub on_disk : Slot → List Act → FileState
 on_disk s [] = untouched
 on_disk s (Read bytes ∷ acts) = on_disk s acts
@@ -101,8 +101,8 @@ on_disk s (Unsynced t ∷ acts) = if_same s t after_reading (on_disk s acts)
 on_disk s (Turned bytes ∷ acts) = on_disk s acts
 on_disk s (Unturned bytes ∷ acts) = on_disk s acts
 
--- A crash leaves the safe bytes, and behind them any bytes, any number: writes may be lost, torn, reordered and
--- spoiled, and older bytes may stand there. A file that was never written to is empty.
+-- A crash leaves the durable bytes, and after them any bytes of any length. Writes may be lost, torn, reordered or
+-- corrupted, and old bytes may be left. A file that was never written to is empty.
 pub record MayLeave (d : FileState) (file : Bytes) : Type 0 where
   pub more : Bytes
   pub is : file ≡ d.safe ++ more
@@ -111,9 +111,9 @@ pub record MayLeave (d : FileState) (file : Bytes) : Type 0 where
 -- ---- CURRENT
 
 pub record Pointer : Type 0 where
-  -- the one that was put there last, if any was
+  -- the bytes of the last replacement that succeeded, if there was one
   pub last : Option Bytes
-  -- those that may be there in its place, since putting them there didn't return or failed
+  -- those of later replacements that didn't return or failed
   pub doubtful : List Bytes
 
 abbrev pub on_current : List Act → Pointer
@@ -139,13 +139,6 @@ abbrev pub MayRead : Pointer → Option Bytes → Type 0
 MayRead p found = (found ≡ p.last) ⊎ IsAmong p.doubtful found
 
 -- ---- how a call adds its act
-
--- the known acts so far, the newest first, have this one in front of them afterwards, if they are still known
-abbrev pub Adds : Option (List Act) → Act → Option (List Act) → Type 0
-Adds None act None = Unit {0}
-Adds None act (Some new) = ⊥
-Adds (Some old) act None = Unit {0}
-Adds (Some old) act (Some new) = new ≡ act ∷ old
 
 abbrev pub wrote : Bool → Slot → ℕ → Bytes → Act
 wrote true s at bytes = Wrote s at bytes

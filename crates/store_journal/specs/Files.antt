@@ -1,14 +1,14 @@
--- A file has frames, and in these a checkpoint and the records after it.
+-- The content of a file: its frames, and in them a checkpoint and the records after it.
 use Rattle.std.specs.Prelude.{◌≡◌, ◌==◌, ◌<◌, ◌*◌, ◌⊎◌, ℕ, Bool, true, false, List, [], ◌∷◌, ◌++◌, length, drop}
 use Rattle.std.specs.Prelude.{if◌then◌else◌, Option, Some, None, Ok, Err}
 use Rattle.xdr_wire.specs.Xdr.{hyper}
 use Rattle.xdr_wire.specs.Reading.{Read, read_at}
-use Rattle.store_journal.specs.declared.digest.Identity.{Identity}
+use Rattle.store_journal.specs.declared.checksum.Identity.{Identity}
 use Rattle.store_journal.specs.declared.frames.Place.{Place}
 use Rattle.store_journal.specs.declared.head.Head.{Head}
 use Rattle.store_journal.specs.Current.{VERSION}
 use Rattle.store_journal.specs.Disk.{Bytes}
-use Rattle.store_journal.specs.Frames.{Frame, END, MARK, start, place_after, frame_at, head_at, Stand, Holds}
+use Rattle.store_journal.specs.Frames.{Frame, END, MARK, start, place_after, frame_at, head_at, FramesAt, Holds}
 
 -- the parts of a checkpoint, and the records after it
 pub record Content : Type 0 where
@@ -24,8 +24,8 @@ abbrev pub with_part : Bytes → Option Content → Option Content
 with_part part None = None
 with_part part (Some x) = Some (record { parts = part ∷ x.parts; records = x.records })
 
--- The frames before the first end are the parts, and those after it the records. Without an end the checkpoint isn't
--- whole, and there is none.
+-- The frames before the first end frame are the parts, and those after it the records. Without an end frame the
+-- checkpoint isn't complete, and there is no content.
 abbrev pub contents : List Frame → Option Content
 contents [] = None
 contents (f ∷ frames) =
@@ -38,24 +38,12 @@ abbrev pub is_zero : Read ℕ → Bool
 is_zero (Ok x) = x.0 == 0
 is_zero (Err e) = false
 
--- the log ends in order at the front of the bytes: the version there is 0
+-- the bytes begin with the end of the log: the version there is 0
 unfoldable pub is_ended : Bytes → Bool
 is_ended rest = is_zero (read_at hyper rest)
 
--- the bytes begin with the version of the form and this generation
-abbrev pub has_generation : ℕ → Read ℕ → Bool
-has_generation generation (Ok x) = x.0 == generation
-has_generation generation (Err e) = false
-
-abbrev pub has_both : ℕ → Read ℕ → Bool
-has_both generation (Ok x) = if x.0 == VERSION then has_generation generation (read_at hyper x.1) else false
-has_both generation (Err e) = false
-
-unfoldable pub begins_so : ℕ → Bytes → Bool
-begins_so generation bytes = has_both generation (read_at hyper bytes)
-
--- A head of a later frame of the same generation stands at the front of the bytes. It was written only after all
--- frames before it were synced.
+-- The bytes begin with the head of a later frame of the same generation. It was written only after all frames before
+-- it were synced.
 pub record LaterAt (id : Identity) (p : Place) (bytes : Bytes) : Type 0 where
   pub head : Head
   pub at : head_at id bytes ≡ Some head
@@ -63,34 +51,24 @@ pub record LaterAt (id : Identity) (p : Place) (bytes : Bytes) : Type 0 where
   pub generation : head.generation ≡ p.generation
   pub number : p.number < head.number
 
--- one stands at a multiple of four bytes
+-- the head of a later frame is at a multiple of four bytes
 pub record Later (id : Identity) (p : Place) (rest : Bytes) : Type 0 where
   pub place : ℕ
   pub later : LaterAt id p (drop (4 * place) rest)
 
--- A frame that was safe doesn't stand any more. The log doesn't end in order, and a later frame's head is left.
+-- A durable frame is corrupt or missing: no end of the log is here, and the head of a later frame follows.
 pub record IsRotten (id : Identity) (p : Place) (rest : Bytes) : Type 0 where
   pub open_end : is_ended rest ≡ false
   pub later : Later id p rest
 
--- ---- what was read
+-- ---- while reading
 
--- The content of a file of which some frames are left to read. It goes by what was read so far:
--- whether the end of the checkpoint was, the parts, and the records.
-abbrev pub after_those : List Bytes → List Bytes → Option Content → Option Content
-after_those parts records None = None
-after_those parts records (Some x) = Some (record { parts = parts ++ x.parts; records = records ++ x.records })
-
-abbrev pub joined_to : Bool → List Bytes → List Bytes → List Frame → Option Content
-joined_to true parts records frames = Some (record { parts = parts; records = records ++ records_in frames })
-joined_to false parts records frames = after_those parts records (contents frames)
-
--- the content that was read of a file whose checkpoint is whole, or isn't
+-- the content that was read of a file whose checkpoint is complete, or isn't
 abbrev pub if_whole : Bool → List Bytes → List Bytes → Option Content
 if_whole true parts records = Some (record { parts = parts; records = records })
 if_whole false parts records = None
 
--- the last of these frames has these bytes, after that many others
+-- the last of these frames has these bytes, at offset `at`
 pub record LastFrame (id : Identity) (p : Place) (file : Bytes) (frames : List Frame) (rest : Bytes) (at : ℕ)
     (bytes : Bytes) : Type 0 where
   pub others : List Frame
@@ -99,11 +77,11 @@ pub record LastFrame (id : Identity) (p : Place) (file : Bytes) (frames : List F
   pub before : Bytes
   pub file_is : file ≡ before ++ (bytes ++ rest)
   pub at_is : at ≡ length before
-  pub others_stand : Stand id p others file (bytes ++ rest)
-  pub last_stands : frame_at id (place_after id p others) (bytes ++ rest) ≡ Some (last, rest)
+  pub others_are : FramesAt id p others file (bytes ++ rest)
+  pub last_is : frame_at id (place_after id p others) (bytes ++ rest) ≡ Some (last, rest)
 
--- This is what a file has: its frames, the place after them, the bytes after them, whether its checkpoint is whole, and
--- then its parts and records. Before its last frame stand that many bytes.
+-- The result of reading a file: its frames, the place after them, and the bytes after them. It also has whether the
+-- checkpoint is complete, its parts, and the records. The last frame is at offset `at`.
 pub record IsRead (id : Identity) (generation : ℕ) (file : Bytes) (place : Place) (rest : Bytes) (at : ℕ)
     (whole : Bool) (parts records : List Bytes) : Type 0 where
   pub frames : List Frame

@@ -1,23 +1,23 @@
--- The frames of a file, one after the other: each is a struct of a head, its digest and a body (RFC 4506,
--- section 4.14), and says the digest of the frame before it.
+-- The frames of a file, one after the other. Each is a struct of a head, its checksum and a body (RFC 4506, section
+-- 4.14), and has the checksum of the frame before it.
 use Rattle.std.specs.Prelude.{◌≡◌, ◌==◌, ◌+◌, ℕ, Bool, false, List, [], ◌∷◌, length, replicate}
 use Rattle.std.specs.Prelude.{if◌then◌else◌, Option, Some, None, Ok, Err}
 use Rattle.xdr_wire.specs.Xdr.{Xdr, Value, hyper, opaque, pair, HasSpelling, spelling}
 use Rattle.xdr_wire.specs.Reading.{Read, read_at}
-use Rattle.store_journal.specs.declared.digest.Identity.{Identity}
+use Rattle.store_journal.specs.declared.checksum.Identity.{Identity}
 use Rattle.store_journal.specs.declared.frames.Frame.{Frame as Lent}
 use Rattle.store_journal.specs.declared.frames.Frames.{Frames}
 use Rattle.store_journal.specs.declared.frames.Place.{Place}
 use Rattle.store_journal.specs.declared.head.Head.{Head}
 use Rattle.store_journal.specs.Current.{VERSION}
-use Rattle.store_journal.specs.Digest.{digest, head_digest}
+use Rattle.store_journal.specs.Checksum.{checksum, head_checksum}
 use Rattle.store_journal.specs.Disk.{Bytes}
 
 -- the most bytes of a body
 abbrev pub MAX_BODY : ℕ
 MAX_BODY = 67108864
 
--- the kinds of frames: a part of the checkpoint, its end, a record, and a mark that all before it is safe
+-- the kinds of frames: a part of the checkpoint, its end, a record, and a mark that everything before it is durable
 abbrev pub PART : ℕ
 PART = 0
 
@@ -30,11 +30,11 @@ RECORD = 2
 abbrev pub MARK : ℕ
 MARK = 3
 
--- Zero bytes end the log, since no frame has version 0. The next frame goes over them.
+-- Zero bytes end the log, since no frame has version 0. The next frame is written over them.
 abbrev pub log_end : Bytes
 log_end = replicate 8 0
 
--- A start wipes as many bytes as a head has. So a frame that an earlier program lost never comes together again.
+-- A start zeroes as many bytes as a head has. So a frame that an earlier program lost never becomes valid again.
 unfoldable pub wiped : Bytes
 wiped = replicate 64 0
 
@@ -55,7 +55,7 @@ head_of v = record {
   body = v.1.1.1.1.1.1;
 }
 
--- a head stands before this
+-- what follows a head in a frame
 abbrev pub tail_form : Xdr
 tail_form = pair hyper (opaque MAX_BODY)
 
@@ -69,7 +69,7 @@ pub record Frame : Type 0 where
 abbrev pub frame_with : ℕ → Bytes → Frame
 frame_with kind body = record { kind = kind; body = body }
 
--- a frame whose body is lent
+-- a frame whose body is borrowed
 abbrev pub lent : Lent → Frame
 lent f = record { kind = f.kind; body = f.body.now }
 
@@ -85,13 +85,13 @@ head_for id p f = record {
   before = p.before;
   kind = f.kind;
   length = length f.body;
-  body = digest id f.body;
+  body = checksum id f.body;
 }
 
 abbrev pub frame_value : Identity → Place → Frame → Value form
-frame_value id p f = (head_value (head_for id p f), (head_digest id (head_for id p f), f.body))
+frame_value id p f = (head_value (head_for id p f), (head_checksum id (head_for id p f), f.body))
 
--- a frame as it stands in its file
+-- the bytes of a frame in its file
 unfoldable pub framed : Identity → Place → Frame → Bytes
 framed id p f = spelling form (frame_value id p f)
 
@@ -104,7 +104,7 @@ abbrev pub next_place : Identity → Place → Frame → Place
 next_place id p f = record {
   generation = p.generation;
   number = p.number + 1;
-  before = head_digest id (head_for id p f);
+  before = head_checksum id (head_for id p f);
 }
 
 -- the place after frames
@@ -114,14 +114,14 @@ place_after id p (f ∷ frames) = place_after id (next_place id p f) frames
 
 -- ---- reading
 
--- the frame of a head and a body, if it has this place and its digests fit
+-- whether a head and a body have this place and matching checksums
 abbrev pub in_place : Identity → Place → Head → ℕ → Bytes → Bool
 in_place id p h d body =
-    if d == head_digest id h then
+    if d == head_checksum id h then
     (if h.version == VERSION then
     (if h.generation == p.generation then
     (if h.number == p.number then
-    (if h.before == p.before then (if h.length == length body then h.body == digest id body else false) else false)
+    (if h.before == p.before then (if h.length == length body then h.body == checksum id body else false) else false)
     else false)
     else false)
     else false)
@@ -135,23 +135,23 @@ fitting id p (Ok x) =
     if in_place id p (head_of x.0.0) x.0.1.0 x.0.1.1 then Some (frame_of (head_of x.0.0) x.0.1.1, x.1) else None
 fitting id p (Err e) = None
 
--- The frame of this place at the front of the bytes, and the bytes after it. There is none where no whole frame of
--- this version and place stands there whose digests fit.
+-- The frame of this place at the start of the bytes, and the bytes after it. `None`: no valid frame of this version
+-- and place is there.
 unfoldable pub frame_at : Identity → Place → Bytes → Option (Frame × Bytes)
 frame_at id p bytes = fitting id p (read_at form bytes)
 
--- These frames stand at the front of the bytes, one after the other, the first at this place, and then the rest.
-abbrev pub Stand : Identity → Place → List Frame → Bytes → Bytes → Type 0
-Stand id p [] bytes rest = rest ≡ bytes
-Stand id p (f ∷ frames) bytes rest =
-    (after : Bytes) × (frame_at id p bytes ≡ Some (f, after)) × Stand id (next_place id p f) frames after rest
+-- The bytes begin with these frames, one after the other, the first at this place. Then the rest follows.
+abbrev pub FramesAt : Identity → Place → List Frame → Bytes → Bytes → Type 0
+FramesAt id p [] bytes rest = rest ≡ bytes
+FramesAt id p (f ∷ frames) bytes rest =
+    (after : Bytes) × (frame_at id p bytes ≡ Some (f, after)) × FramesAt id (next_place id p f) frames after rest
 
--- These are all frames of the bytes: the next one doesn't stand at the front of the rest.
+-- These are all frames of the bytes: no valid next frame is at the start of the rest.
 pub record Holds (id : Identity) (p : Place) (bytes : Bytes) (frames : List Frame) (rest : Bytes) : Type 0 where
-  pub stand : Stand id p frames bytes rest
+  pub frames_at : FramesAt id p frames bytes rest
   pub no_more : frame_at id (place_after id p frames) rest ≡ None
 
--- The next frame is taken from the bytes, or there is none and they stay.
+-- The next frame is taken from the bytes. Or there is none, and the bytes stay.
 abbrev pub Takes : Frames → Option Lent → Frames → Type 0
 Takes old (Some f) new =
     (frame_at old.identity old.place old.rest.now ≡ Some (lent f, new.rest.now))
@@ -161,11 +161,11 @@ Takes old None new =
 
 -- ---- heads alone
 
--- a head that was read, if its digest fits
+-- a head that was read, if its checksum matches
 abbrev pub fitting_head : Identity → Read (Value (pair head_form hyper)) → Option Head
-fitting_head id (Ok x) = if x.0.1 == head_digest id (head_of x.0.0) then Some (head_of x.0.0) else None
+fitting_head id (Ok x) = if x.0.1 == head_checksum id (head_of x.0.0) then Some (head_of x.0.0) else None
 fitting_head id (Err e) = None
 
--- the head at the front of the bytes, if there is one whose digest fits
+-- the head at the start of the bytes, if there is one with a matching checksum
 unfoldable pub head_at : Identity → Bytes → Option Head
 head_at id bytes = fitting_head id (read_at (pair head_form hyper) bytes)

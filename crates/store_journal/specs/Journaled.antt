@@ -1,18 +1,18 @@
--- A journal after all that was ever done with its disk, and what a start finds of it after a crash.
+-- A journal after all acts that were ever done with its disk, and what a start finds of it after a crash.
 use Rattle.std.specs.Prelude.{◌≡◌, ◌≢◌, ◌⊎◌, ◌≤◌, ℕ, false, List, [], ◌∷◌, ◌++◌, length, Option, Some, None, Ok}
 use Rattle.store_journal.specs.declared.current.Current.{Current}
 use Rattle.store_journal.specs.declared.disk.Slot.{Slot}
 use Rattle.store_journal.specs.declared.disk.Slot.TheVariants.{A, B}
 use Rattle.store_journal.specs.declared.frames.Place.{Place}
 use Rattle.store_journal.specs.declared.writing.Position.{Position}
-use Rattle.store_journal.specs.Crash.{IsFront, Phase, Settled, IsWritten, Chance}
+use Rattle.store_journal.specs.Crash.{IsPrefix, Phase, Settled, IsWritten, Collision}
 use Rattle.store_journal.specs.Current.{current_in, current_bytes, IsFitCurrent}
 use Rattle.store_journal.specs.Disk.{Bytes, Act, on_disk, on_current, MayLeave, MayRead}
 use Rattle.store_journal.specs.Files.{Content, contents, records_in}
 use Rattle.store_journal.specs.Frames.{Frame, place_after, start}
-use Rattle.store_journal.specs.Opening.{Chooses, IsDamaged}
+use Rattle.store_journal.specs.Opening.{Chooses, IsCorrupt}
 
--- A generation with a whole checkpoint: what CURRENT says of it, its frames, and what the kept ones hold.
+-- A log is a generation with a complete checkpoint: its CURRENT, its frames, and the content of the durable ones.
 pub record Log : Type 0 where
   pub current : Current
   pub kept : List Frame
@@ -22,7 +22,7 @@ pub record Log : Type 0 where
   pub at : ℕ
   pub phase : Phase
 
--- after these acts its file has its frames, of which at most one may be loose
+-- after these acts the file has the log's frames, and at most one may be unsynced
 pub record IsLog (log : Log) (acts : List Act) : Type 0 where
   pub written : IsWritten log.current.identity log.current.generation log.kept log.later log.at log.phase
       (on_disk log.current.slot acts)
@@ -37,7 +37,7 @@ place_of log = place_after log.current.identity (start log.current.generation) (
 abbrev pub position_of : Log → Position
 position_of log = record { place = place_of log; at = log.at }
 
--- the same with another number of the generation that was begun last
+-- the same CURRENT with another number of the last begun generation
 abbrev pub at_begun : Current → ℕ → Current
 at_begun c begun = record {
   identity = c.identity;
@@ -47,7 +47,7 @@ at_begun c begun = record {
   machine = c.machine;
 }
 
--- where this CURRENT is found the log counts; or no checkpoint was finished yet
+-- if this CURRENT is found this log is active; or no checkpoint was finished yet
 abbrev pub Names : List Act → Option Log → Option Bytes → Type 0
 Names acts None None = ((on_disk A acts).touched ≡ false) × ((on_disk B acts).touched ≡ false)
 Names acts None (Some bytes) =
@@ -60,14 +60,14 @@ abbrev pub IsIn : {X : Type 0} → X → List X → Type 0
 IsIn x [] = ⊥
 IsIn x (y ∷ ys) = (x ≡ y) ⊎ IsIn x ys
 
--- this CURRENT names one of these
+-- this CURRENT names one of these logs
 pub record NamesOne (logs : List (Option Log)) (acts : List Act) (found : Option Bytes) : Type 0 where
   pub log : Option Log
   pub of_these : IsIn log logs
   pub names : Names acts log found
 
--- After these acts one of these logs counts, whichever CURRENT a crash leaves. They are two while CURRENT is turned
--- from the one to the other, or where turning it failed. None of them: no checkpoint was finished yet.
+-- After these acts one of these logs is active, whichever CURRENT a crash leaves. Two logs may be active while
+-- CURRENT is being replaced, or after that failed. `None`: no checkpoint was finished yet.
 pub record IsJournal (logs : List (Option Log)) (acts : List Act) : Type 0 where
   pub named : (found : Option Bytes) → MayRead (on_current acts) found → NamesOne logs acts found
   pub written : (log : Log) → IsIn (Some log) logs → IsLog log acts
@@ -78,26 +78,26 @@ abbrev pub in_slot : {X : Type 0} → Slot → X → X → X
 in_slot A x y = x
 in_slot B x y = y
 
-abbrev pub ByChance : Log → Bytes → Type 0
-ByChance log file = Chance log.current.identity log.current.generation log.kept log.later log.phase file
+abbrev pub HasCollision : Log → Bytes → Type 0
+HasCollision log file = Collision log.current.identity log.current.generation log.kept log.later log.phase file
 
--- the checkpoint, all records that are kept, and a front of the later ones
+-- the checkpoint, all durable records, and a prefix of the later ones
 pub record HasAll (log : Log) (content : Option Content) : Type 0 where
-  pub front : List Frame
-  pub of_later : IsFront front log.later
+  pub prefix : List Frame
+  pub of_later : IsPrefix prefix log.later
   pub content_is : content ≡ Some (record {
     parts = log.content.parts;
-    records = log.content.records ++ records_in front;
+    records = log.content.records ++ records_in prefix;
   })
 
--- **Unless a digest fits by chance, what is chosen of the file is the checkpoint, all records that are kept and a front
--- of the later ones, and it isn't damaged.**
+-- **Barring a checksum collision, what is chosen of the file is the checkpoint, all durable records and a prefix of
+-- the later ones. The file isn't refused as corrupt.**
 pub record Survives (log : Log) (c : Current) (file : Bytes) : Type 0 where
   pub chosen : (content : Option Content) (position : Position) (at : ℕ) (bytes : Bytes)
-      → Chooses c file content position at bytes → HasAll log content ⊎ ByChance log file
-  pub sound : IsDamaged c file → ByChance log file
+      → Chooses c file content position at bytes → HasAll log content ⊎ HasCollision log file
+  pub sound : IsCorrupt c file → HasCollision log file
 
--- CURRENT is whole, and what it names survives
+-- CURRENT is intact, and the log that it names survives
 abbrev pub Opens : Option Log → Option Bytes → Bytes → Bytes → Type 0
 Opens None None a b = (a ≡ []) × (b ≡ [])
 Opens None (Some bytes) a b = (c : Current) × (current_in bytes ≡ Ok c) × (c.generation ≡ 0)
@@ -119,6 +119,6 @@ CrashLaw =
     → (a b : Bytes) → MayLeave (on_disk A acts) a → MayLeave (on_disk B acts) b
     → OpensOne logs found a b
 
--- **Where all is synced nothing is owed to chance.**
+-- **When everything is synced, no checksum collision is possible.**
 abbrev pub SettledLaw : Type 0
-SettledLaw = (log : Log) (file : Bytes) → log.phase ≡ Settled → ByChance log file → ⊥
+SettledLaw = (log : Log) (file : Bytes) → log.phase ≡ Settled → HasCollision log file → ⊥

@@ -1,4 +1,4 @@
--- Each call of a journal is given by its result, its acts of a disk, and the journal after it.
+-- Each call of a journal is defined by its result, its acts on a disk, and the journal after it.
 use Rattle.std.specs.Prelude.{◌≡◌, ◌≢◌, ◌⊎◌, ◌<◌, ℕ, Bool, true, false, [], ◌++◌, length, Option, Some, None}
 use Rattle.std.specs.Prelude.{Result, Ok, Err}
 use Rattle.store_journal.specs.declared.current.Current.{Current}
@@ -12,25 +12,25 @@ use Rattle.store_journal.specs.Frames.{Frame, END, MAX_BODY, frame_with, IsFit, 
 use Rattle.store_journal.specs.Passage.{Passage, Unchanged, Once, Twice, Thrice}
 use Rattle.store_journal.specs.Writing.{at_start, next_position, ended, IsLast}
 
--- ---- a journal, and what becomes of it
+-- ---- a journal, and its changes
 
 abbrev pub journal_with : Current → Position → Option Position → Bool → Journal
 journal_with current position next failed =
     record { current = current; position = position; next = next; has_failed = failed }
 
--- one of which no checkpoint was finished yet
+-- the journal of a store without a finished checkpoint
 abbrev pub new_journal : Current → Journal
 new_journal c = journal_with c (at_start 0) None false
 
--- one that goes on after frames
+-- the journal after a start
 abbrev pub resumed : Current → Position → Journal
 resumed c position = journal_with c position None false
 
--- nothing more is asked of the disk
+-- the disk isn't called again
 abbrev pub failed : Journal → Journal
 failed j = journal_with j.current j.position j.next true
 
--- a frame more stands in the file that counts; a checkpoint that was begun is given up
+-- the active file has one more frame; a checkpoint in progress is abandoned
 abbrev pub with_frame : Journal → Frame → Journal
 with_frame j f = journal_with j.current (next_position j.current.identity j.position f) None j.has_failed
 
@@ -39,14 +39,14 @@ abbrev pub with_begun : Journal → Journal
 with_begun j =
     journal_with (begun_next j.current) j.position (Some (at_start (begun_next j.current).begun)) j.has_failed
 
--- a frame more stands in the checkpoint that is being written
+-- the checkpoint in progress has one more frame
 abbrev pub with_part : Journal → Position → Frame → Journal
 with_part j e f = journal_with j.current j.position (Some (next_position j.current.identity e f)) j.has_failed
 
 abbrev pub end_frame : Frame
 end_frame = frame_with END []
 
--- the checkpoint that was written counts
+-- the checkpoint in progress is active
 abbrev pub with_checkpoint : Journal → ℕ → Position → Journal
 with_checkpoint j machine e =
     journal_with (turned_to_begun j.current machine) (next_position j.current.identity e end_frame) None false
@@ -59,7 +59,7 @@ HadFailed p j j' = (j.has_failed ≡ true) × Unchanged p × (j' ≡ j)
 abbrev pub IsAsBefore : {D : Type 0} → Passage D → Journal → Journal → Type 0
 IsAsBefore p j j' = Unchanged p × (j' ≡ j)
 
--- ---- frames in the file that counts
+-- ---- frames in the active file
 
 -- The frame is written and then synced. So at most one frame is unsynced at a time.
 abbrev pub AppendGives : {D : Type 0} → Passage D → Journal → Frame → Result (Unit {0}) JournalFault → Journal → Type 0
@@ -78,9 +78,9 @@ AppendGives p j f (Err Failed) j' =
     × IsFit j.current.identity j.position.place f × (j.has_failed ≡ false) × (j.current.generation ≢ 0)
     × (j' ≡ failed j))
 
--- ---- a checkpoint in the other file
+-- ---- a checkpoint in the inactive file
 
--- CURRENT is turned to say that one generation more is begun, before anything of it is written.
+-- CURRENT is replaced to record one more begun generation, before any of its frames is written.
 abbrev pub BeginGives : {D : Type 0} → Passage D → Journal → Result (Unit {0}) JournalFault → Journal → Type 0
 BeginGives p j (Ok done) j' =
     Once p (Turned (current_bytes (begun_next j.current))) × IsFitCurrent (begun_next j.current)
@@ -111,7 +111,7 @@ pub record PartTorn {D : Type 0} (p : Passage D) (j : Journal) (f : Frame) (j' :
   pub going : j.has_failed ≡ false
   pub then_is : j' ≡ failed j
 
--- the checkpoint that is being written has no number or place left
+-- the checkpoint in progress has no number or room left
 pub record HasNoMore (j : Journal) : Type 0 where
   pub at : Position
   pub is_begun : j.next ≡ Some at
@@ -125,7 +125,7 @@ PartGives p j f (Err Full) j' = HasNoMore j × IsAsBefore p j j'
 PartGives p j f (Err NoCheckpoint) j' = (j.next ≡ None) × IsAsBefore p j j'
 PartGives p j f (Err Failed) j' = HadFailed p j j' ⊎ PartTorn p j f j'
 
--- The checkpoint's end is written, its file is synced, and only then CURRENT is turned to it.
+-- The end frame is written, its file is synced, and only then CURRENT is replaced to name it.
 pub record Finished {D : Type 0} (p : Passage D) (machine : ℕ) (j j' : Journal) : Type 0 where
   pub at : Position
   pub is_begun : j.next ≡ Some at
@@ -158,18 +158,10 @@ FinishGives p machine j (Err Full) j' = HasNoMore j × IsAsBefore p j j'
 FinishGives p machine j (Err NoCheckpoint) j' = (j.next ≡ None) × IsAsBefore p j j'
 FinishGives p machine j (Err Failed) j' = HadFailed p j j' ⊎ Unfinished p machine j j'
 
--- a fault of a frame that is written
-abbrev pub noted : JournalFault → Journal → Journal
-noted TooLong j = j
-noted Memory j = j
-noted Full j = j
-noted NoCheckpoint j = j
-noted Failed j = failed j
+-- ---- opening a journal after a start
 
--- ---- going on after a start
-
--- The last frame that was found is written again, with what stands behind it wiped. Then its file is synced, and
--- CURRENT is turned to what it says. Only then the journal goes on.
+-- The last frame is written again, with zero bytes after it. Then its file is synced, and CURRENT is replaced by the
+-- same bytes. Only then the journal is open.
 abbrev pub ResumeGives : {D : Type 0} → Passage D → Current → Position → ℕ → Bytes
     → Result Journal JournalFault → Type 0
 ResumeGives p c position last_at last (Ok j) =

@@ -1,7 +1,7 @@
 pub mod Begun
 pub mod Crash
 pub mod Current
-pub mod Digest
+pub mod Checksum
 pub mod Disk
 pub mod Files
 pub mod Frames
@@ -13,3 +13,4 @@ pub mod Serving
 pub mod Starting
 pub mod Steps
 pub mod Writing
+pub mod internal

@@ -1,12 +1,12 @@
--- Acts lead from a disk as it was to the disk as it is.
+-- Acts that change one disk into another.
 use Rattle.std.specs.Prelude.{◌≡◌}
 use Rattle.store_journal.specs.Disk.{Act}
 
--- an act makes the second disk of the first one
+-- this act makes the second disk of the first one
 abbrev pub Adding : Type 0 → Type 1
 Adding D = D → Act → D → Type 0
 
--- a disk as it was and as it is, and how an act makes one disk of another
+-- the disk before and after a call, and how an act changes one disk into another
 pub record Passage (D : Type 0) : Type 1 where
   pub adds : Adding D
   pub old : D

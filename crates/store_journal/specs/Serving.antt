@@ -1,16 +1,16 @@
--- A journal as a program has it, and its disk. Each call leads from one to the next, also where the disk fails.
+-- An open journal and its disk, and what each call changes, also if the disk fails.
 use Rattle.std.specs.Prelude.{◌≡◌, ◌≢◌, ◌⊎◌, ℕ, false, List, [], ◌∷◌, ◌++◌, Option, Some, None, Result, Ok, Err}
 use Rattle.store_journal.specs.declared.fault.JournalFault.{JournalFault}
 use Rattle.store_journal.specs.declared.fault.JournalFault.TheVariants.{TooLong, Memory, Full, NoCheckpoint, Failed}
 use Rattle.store_journal.specs.declared.journal.Journal.{Journal}
 use Rattle.store_journal.specs.declared.writing.Position.{Position}
-use Rattle.store_journal.specs.Crash.{IsFront, Settled, Going, Stuck, IsWritten}
+use Rattle.store_journal.specs.Crash.{IsPrefix, Settled, Going, Stuck, IsWritten}
 use Rattle.store_journal.specs.Current.{turned_to_begun}
 use Rattle.store_journal.specs.Disk.{Bytes, Act, Read, Found, Wrote, Synced, other, on_disk, on_current}
 use Rattle.store_journal.specs.Disk.{MayLeave, MayRead}
 use Rattle.store_journal.specs.Files.{Content, contents}
 use Rattle.store_journal.specs.Frames.{Frame, place_after, start}
-use Rattle.store_journal.specs.Journaled.{Log, IsIn, IsJournal, HasAll, at_begun, ByChance, position_of}
+use Rattle.store_journal.specs.Journaled.{Log, IsIn, IsJournal, HasAll, at_begun, HasCollision, position_of}
 use Rattle.store_journal.specs.Keeping.{AppendGives, BeginGives, PartGives, FinishGives, ResumeGives, end_frame}
 use Rattle.store_journal.specs.Opening.{Chooses}
 use Rattle.store_journal.specs.Passage.{Passage, passage}
@@ -21,7 +21,7 @@ use Rattle.store_journal.specs.Writing.{ended}
 abbrev pub of_acts : List Act → List Act → Passage (List Act)
 of_acts old new = passage (λ before act after. after ≡ act ∷ before) old new
 
--- the journal goes on where the frames of the log end, all of which are kept
+-- the journal writes after the frames of the log, all of which are durable
 pub record Follows (j : Journal) (log : Log) : Type 0 where
   pub settled : log.phase ≡ Settled
   pub position_is : j.position ≡ position_of log
@@ -44,12 +44,12 @@ Stays j j' acts acts' = (acts' ≡ acts) × (j' ≡ j)
 
 -- ---- appending
 
--- after the frame was written, and before it is synced
+-- after the frame is written, and before it is synced
 abbrev pub loose_acts : Log → Frame → List Act → List Act
 loose_acts log f acts =
     Wrote log.current.slot log.at (ended log.current.identity (position_of log) f) ∷ acts
 
--- The frame is kept. While it isn't synced it may be lost, and where the disk fails too.
+-- The frame is durable. Until it is synced it may be lost, and also if the disk fails.
 abbrev pub AfterAppend : Journal → Log → Frame → List Act → Result (Unit {0}) JournalFault → Journal → List Act → Type 0
 AfterAppend j log f acts (Ok done) j' acts' =
     IsJournal (Some (with_one log f Going) ∷ []) (loose_acts log f acts)
@@ -89,8 +89,8 @@ AfterBegin j log logs acts (Err Full) j' acts' = Stays j j' acts acts'
 AfterBegin j log logs acts (Err NoCheckpoint) j' acts' = ⊥
 AfterBegin j log logs acts (Err Failed) j' acts' = IsJournal logs acts'
 
--- A checkpoint that is begun leaves the log. It may be one of several that may count, as where a first checkpoint was
--- finished but for its turn, and a start found the CURRENT before it.
+-- Beginning a checkpoint leaves the log unchanged. Other logs may be active too. For example, a first checkpoint was
+-- finished but for replacing CURRENT, and a start found the older CURRENT.
 abbrev pub BeginLaw : Type 0
 BeginLaw =
     (j j' : Journal) (log : Option Log) (logs : List (Option Log)) (acts acts' : List Act)
@@ -119,7 +119,7 @@ FurtherLaw =
 abbrev pub made_log : Journal → ℕ → List Frame → Content → ℕ → Log
 made_log j machine frames content at = new_log (turned_to_begun j.current machine) frames content at
 
--- The new log counts, or where the disk fails the old one, or either of both.
+-- The new log is active. If the disk fails the old log is active, or either may be.
 abbrev pub AfterFinish : Journal → Option Log → ℕ → List Frame → Content → List Act → Result (Unit {0}) JournalFault
     → Journal → List Act → Type 0
 AfterFinish j log machine frames content acts (Ok done) j' acts' =
@@ -142,23 +142,23 @@ FinishLaw =
 
 -- ---- a start
 
--- **Over a start: what was chosen is kept again, and the journal goes on after it**, unless a digest fits by chance.
+-- **Over a start: what was chosen is durable, and new records go after it**, barring a checksum collision.
 pub record GoesOn (j : Journal) (log : Log) (content : Option Content) (acts : List Act) : Type 0 where
-  pub front : List Frame
+  pub prefix : List Frame
   pub at : ℕ
   pub has_all : HasAll log content
-  pub serves : Serves j (Some (all_kept (with_later log front at Going))) acts
-  pub content_is : content ≡ Some (all_kept (with_later log front at Going)).content
+  pub serves : Serves j (Some (all_kept (with_later log prefix at Going))) acts
+  pub content_is : content ≡ Some (all_kept (with_later log prefix at Going)).content
 
--- going on has failed: what was chosen may count yet, as one of those that may
+-- opening failed: what was chosen is one of the logs that may be active
 pub record StopsThere (log : Log) (others : List (Option Log)) (content : Option Content) (acts : List Act)
     : Type 0 where
-  pub front : List Frame
+  pub prefix : List Frame
   pub at : ℕ
-  pub of_later : IsFront front log.later
-  pub content_is : content ≡ Some (all_kept (with_later log front at Going)).content
-  pub journal : IsJournal (Some (with_later log front at Stuck) ∷ all_seen others) acts
-      ⊎ IsJournal (Some (all_kept (with_later log front at Going)) ∷ all_seen others) acts
+  pub of_later : IsPrefix prefix log.later
+  pub content_is : content ≡ Some (all_kept (with_later log prefix at Going)).content
+  pub journal : IsJournal (Some (with_later log prefix at Stuck) ∷ all_seen others) acts
+      ⊎ IsJournal (Some (all_kept (with_later log prefix at Going)) ∷ all_seen others) acts
 
 abbrev pub AfterResume : Log → List (Option Log) → Option Content → List Act → Result Journal JournalFault
     → List Act → Type 0
@@ -179,8 +179,8 @@ RestartLaw =
     → Chooses (at_begun log.current begun) file content position last_at last
     → ResumeGives (of_acts (Found log.current.slot file ∷ Read found ∷ acts) acts') (at_begun log.current begun)
     position last_at last result
-    → AfterResume log others content (Found log.current.slot file ∷ Read found ∷ acts) result acts' ⊎ ByChance log file
+    → AfterResume log others content (Found log.current.slot file ∷ Read found ∷ acts) result acts' ⊎ HasCollision log file
 
--- two logs of which either may count
+-- the order of two logs that may be active is irrelevant
 abbrev pub EitherLaw : Type 0
 EitherLaw = (a b : Option Log) (acts : List Act) → IsJournal (a ∷ b ∷ []) acts → IsJournal (b ∷ a ∷ []) acts

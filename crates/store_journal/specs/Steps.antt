@@ -1,19 +1,20 @@
--- The acts of each call lead from one journal to the next.
+-- What each act of a call does to a journal.
 use Rattle.std.specs.Prelude.{◌≡◌, ◌≢◌, ◌⊎◌, ◌+◌, ℕ, List, [], ◌∷◌, ◌++◌, length, Option, Some, None}
 use Rattle.store_journal.specs.declared.current.Current.{Current}
-use Rattle.store_journal.specs.declared.digest.Identity.{Identity}
+use Rattle.store_journal.specs.declared.checksum.Identity.{Identity}
 use Rattle.store_journal.specs.declared.disk.Slot.{Slot}
 use Rattle.store_journal.specs.declared.writing.Position.{Position}
-use Rattle.store_journal.specs.Crash.{IsFront, Phase, Settled, Going, Stuck, IsWritten, after_start}
+use Rattle.store_journal.specs.Crash.{IsPrefix, Phase, Settled, Going, Stuck, IsWritten, after_start}
 use Rattle.store_journal.specs.Disk.{Bytes, Act, Read, Unread, Found, Unfound, Wrote, Tore, Synced, Unsynced}
 use Rattle.store_journal.specs.Disk.{Turned, Unturned, other, on_disk, on_current, MayLeave, MayRead}
 use Rattle.store_journal.specs.Files.{Content, contents, records_in}
 use Rattle.store_journal.specs.Frames.{Frame, framed, IsFit, log_end, place_after, start, wiped}
-use Rattle.store_journal.specs.Journaled.{Log, IsLog, IsIn, IsJournal, Names, at_begun, ByChance, place_of, position_of}
+use Rattle.store_journal.specs.Journaled.{Log, IsLog, IsIn, IsJournal, Names, at_begun, HasCollision, place_of}
+use Rattle.store_journal.specs.Journaled.{position_of}
 use Rattle.store_journal.specs.Opening.{Chooses}
 use Rattle.store_journal.specs.Writing.{ended, next_position}
 
--- ---- what becomes of a log
+-- ---- changes of a log
 
 abbrev pub with_phase : Log → Phase → Log
 with_phase log phase = record {
@@ -25,7 +26,7 @@ with_phase log phase = record {
   phase = phase;
 }
 
--- these frames are loose behind the kept ones
+-- these frames may be unsynced after the durable ones
 abbrev pub with_later : Log → List Frame → ℕ → Phase → Log
 with_later log later at phase = record {
   current = log.current;
@@ -36,11 +37,11 @@ with_later log later at phase = record {
   phase = phase;
 }
 
--- one frame more is written
+-- one more frame is written
 abbrev pub with_one : Log → Frame → Phase → Log
 with_one log f phase = with_later log (f ∷ []) (log.at + length (framed log.current.identity (place_of log) f)) phase
 
--- all its frames are kept
+-- all its frames are durable
 abbrev pub all_kept : Log → Log
 all_kept log = record {
   current = log.current;
@@ -54,14 +55,14 @@ all_kept log = record {
   phase = Settled;
 }
 
--- ---- serving
+-- ---- an open journal
 
--- CURRENT is there, and the others are in the other file
+-- CURRENT is on the disk, and the other logs are in the other file
 pub record AreApart (log : Log) (others : List (Option Log)) (acts : List Act) : Type 0 where
   pub there : MayRead (on_current acts) None → ⊥
   pub elsewhere : (o : Log) → IsIn (Some o) others → o.current.slot ≡ other log.current.slot
 
--- where all is synced one frame more may be loose, also where writing it failed
+-- if everything is synced, one more frame may be unsynced after its write, also after one that failed
 abbrev pub FrameLaw : Type 0
 FrameLaw =
     (log : Log) (others : List (Option Log)) (acts : List Act) (f : Frame)
@@ -73,7 +74,7 @@ FrameLaw =
     (Tore log.current.slot log.at (ended log.current.identity (position_of log) f) ∷ acts)
     × (position_of (with_one log f Going) ≡ next_position log.current.identity (position_of log) f)
 
--- after a sync all frames are kept, and after one that failed those that were
+-- after a sync all frames are durable, and after one that failed only those that were
 abbrev pub SyncLaw : Type 0
 SyncLaw =
     (log : Log) (others : List (Option Log)) (acts : List Act)
@@ -84,20 +85,21 @@ SyncLaw =
 
 -- ---- CURRENT
 
--- CURRENT that names one of the logs leaves that one; where turning it failed each may count as before
+-- After CURRENT is replaced by one that names a log, only that log may be active. If replacing it failed, the same
+-- logs as before may be active.
 abbrev pub TurnLaw : Type 0
 TurnLaw =
     (logs : List (Option Log)) (acts : List Act) (log : Option Log) (bytes : Bytes)
     → IsJournal logs acts → IsIn log logs → Names acts log (Some bytes)
     → IsJournal (log ∷ []) (Turned bytes ∷ acts) × IsJournal logs (Unturned bytes ∷ acts)
 
--- a log that stands whole may be one of those that count
+-- a complete log may be added to those that may be active
 abbrev pub AdmitLaw : Type 0
 AdmitLaw =
     (logs : List (Option Log)) (acts : List Act) (log : Log)
     → IsJournal logs acts → IsLog log acts → IsJournal (Some log ∷ logs) acts
 
--- ---- a checkpoint in the other file
+-- ---- a checkpoint in the inactive file
 
 -- the act writes to this file, or syncs it
 abbrev pub IsOf : Slot → Act → Type 0
@@ -112,7 +114,7 @@ IsOf s (Unsynced t) = t ≡ s
 IsOf s (Turned bytes) = ⊥
 IsOf s (Unturned bytes) = ⊥
 
--- what is done with the file that doesn't count leaves the journal
+-- acts on the inactive file leave the journal unchanged
 abbrev pub OtherLaw : Type 0
 OtherLaw =
     (s : Slot) (logs : List (Option Log)) (acts : List Act) (act : Act)
@@ -120,14 +122,14 @@ OtherLaw =
     → ((log : Log) → IsIn (Some log) logs → log.current.slot ≡ other s)
     → IsOf s act → IsJournal logs (act ∷ acts)
 
--- the first part is written over whatever stands there
+-- the first part is written over any bytes
 abbrev pub FirstLaw : Type 0
 FirstLaw =
     (id : Identity) (generation : ℕ) (s : Slot) (acts : List Act) (f : Frame) → IsFit id (start generation) f
     → IsWritten id generation [] (f ∷ []) (length (framed id (start generation) f)) Going
     (on_disk s (Wrote s 0 (framed id (start generation) f ++ log_end) ∷ acts))
 
--- and each further one behind it
+-- each further part is written after the others
 abbrev pub PartLaw : Type 0
 PartLaw =
     (id : Identity) (generation : ℕ) (s : Slot) (parts : List Frame) (at : ℕ) (acts : List Act) (f : Frame)
@@ -137,7 +139,7 @@ PartLaw =
     (at + length (framed id (place_after id (start generation) parts) f)) Going
     (on_disk s (Wrote s at (framed id (place_after id (start generation) parts) f ++ log_end) ∷ acts))
 
--- the log of a generation all of whose frames are kept
+-- the log of a generation whose frames are all durable
 abbrev pub new_log : Current → List Frame → Content → ℕ → Log
 new_log c frames content at = record {
   current = c;
@@ -148,7 +150,7 @@ new_log c frames content at = record {
   phase = Settled;
 }
 
--- a whole checkpoint that is synced is a log
+-- a complete checkpoint that is synced is a log
 abbrev pub WholeLaw : Type 0
 WholeLaw =
     (c : Current) (frames : List Frame) (content : Content) (at : ℕ) (acts : List Act)
@@ -157,7 +159,7 @@ WholeLaw =
 
 -- ---- a start
 
--- a folder in which nothing was ever done is a journal of which no checkpoint was finished
+-- a folder in which nothing was ever done is a journal without a finished checkpoint
 abbrev pub NewLaw : Type 0
 NewLaw = IsJournal (None ∷ []) []
 
@@ -169,7 +171,7 @@ abbrev pub all_seen : List (Option Log) → List (Option Log)
 all_seen [] = []
 all_seen (log ∷ logs) = seen log ∷ all_seen logs
 
--- reading changes nothing, but that what is read may be lost yet
+-- reading changes nothing, except that what was read may not be durable
 abbrev pub ReadLaw : Type 0
 ReadLaw =
     (logs : List (Option Log)) (acts : List Act) → IsJournal logs acts
@@ -177,20 +179,19 @@ ReadLaw =
     × ((s : Slot) → IsJournal logs (Unfound s ∷ acts))
     × ((s : Slot) (bytes : Bytes) → IsJournal (all_seen logs) (Found s bytes ∷ acts))
 
--- The last frame that was found is written again. Then at most that one may be loose, and the journal goes on from
--- where it ends.
+-- The last frame is written again. Then at most that frame may be unsynced, and the journal writes after it.
 pub record Resumes (log : Log) (others : List (Option Log)) (acts : List Act) (content : Option Content)
     (position : Position) (last_at : ℕ) (last : Bytes) : Type 0 where
-  pub front : List Frame
-  pub of_later : IsFront front log.later
-  pub content_is : content ≡ Some (all_kept (with_later log front position.at Going)).content
-  pub position_is : position ≡ position_of (with_later log front position.at Going)
-  pub wrote : IsJournal (Some (with_later log front position.at Going) ∷ others)
+  pub prefix : List Frame
+  pub of_later : IsPrefix prefix log.later
+  pub content_is : content ≡ Some (all_kept (with_later log prefix position.at Going)).content
+  pub position_is : position ≡ position_of (with_later log prefix position.at Going)
+  pub wrote : IsJournal (Some (with_later log prefix position.at Going) ∷ others)
       (Wrote log.current.slot last_at (last ++ wiped) ∷ acts)
-  pub tore : IsJournal (Some (with_later log front position.at Stuck) ∷ others)
+  pub tore : IsJournal (Some (with_later log prefix position.at Stuck) ∷ others)
       (Tore log.current.slot last_at (last ++ wiped) ∷ acts)
 
--- **What a start goes on from is a journal again**, unless a digest fits by chance.
+-- **What a start opens is a journal again**, barring a checksum collision.
 abbrev pub ResumeLaw : Type 0
 ResumeLaw =
     (log : Log) (others : List (Option Log)) (begun : ℕ) (acts : List Act) (file : Bytes) (content : Option Content)
@@ -199,4 +200,4 @@ ResumeLaw =
     → AreApart log others (Found log.current.slot file ∷ acts)
     → MayLeave (on_disk log.current.slot acts) file
     → Chooses (at_begun log.current begun) file content position last_at last
-    → Resumes log others (Found log.current.slot file ∷ acts) content position last_at last ⊎ ByChance log file
+    → Resumes log others (Found log.current.slot file ∷ acts) content position last_at last ⊎ HasCollision log file

@@ -1,10 +1,10 @@
-//! CURRENT: which store this is, and which file and generation count.
+//! CURRENT: the identity of the store, its active file, and the generation of that file.
 ghost use Rattle.std.specs.Prelude.{◌≡◌, ◌+◌, ◌<◌, ◌^◌, IfOk};
 ghost use Rattle.store_journal.specs.Current.{new_current, begun_next, turned_to_begun, form_of, in_known_slot};
 ghost use Rattle.store_journal.specs.Current.{current_in, current_bytes, IsFitCurrent};
 ghost use Rattle.store_journal.specs.Disk.{other};
 
-use crate::digest::{Identity, current_digest_of};
+use crate::checksum::{Identity, current_checksum_of};
 use crate::disk::Slot;
 use crate::fault::CurrentFault;
 use std::alloc::{AllocError, Allocator};
@@ -13,25 +13,25 @@ use xdr_wire::{Full, Reader, Spell, Wire, Writer, XdrFault};
 /// The version of the form of CURRENT and of frames.
 pub(crate) const VERSION: u64 = 3;
 
-/// The bytes of CURRENT: seven numbers and their digest.
+/// The bytes of CURRENT: seven numbers and their checksum.
 const SIZE: usize = 8 * 8;
 
 /// The content of CURRENT.
 #[derive(Clone, Copy, Debug, PartialEq, Eq)]
 pub struct Current {
     pub identity: Identity,
-    /// The generation that counts, and 0 where no checkpoint was finished yet.
+    /// The active generation. 0: no checkpoint was finished yet.
     pub generation: u64,
-    /// The last generation that was begun. None is begun twice, so that no frame that a checkpoint
-    /// which was given up left behind is of a later one's generation.
+    /// The last generation that was begun. No generation is begun twice. So frames of an abandoned checkpoint never
+    /// have the generation of a later one.
     pub begun: u64,
-    /// The file of the generation that counts.
+    /// The active file.
     pub slot: Slot,
-    /// A number of the caller's, as the version of what the bytes of parts and records mean.
+    /// The caller's own number, as the version of what the bytes of parts and records mean.
     pub machine: u64,
 }
 
-/// The numbers of CURRENT, as they stand in its file. They keep this form in all versions.
+/// The numbers of CURRENT in the order of its file. They keep this form in all versions.
 #[derive(Clone, Copy, Debug, PartialEq, Eq)]
 pub(crate) struct CurrentForm {
     pub version: u64,
@@ -39,7 +39,7 @@ pub(crate) struct CurrentForm {
     pub low: u64,
     pub generation: u64,
     pub begun: u64,
-    /// 0 the first file, 1 the second one.
+    /// 0: the first file. 1: the second file.
     pub slot: u64,
     pub machine: u64,
 }
@@ -55,7 +55,7 @@ pub(crate) fn other_slot(slot: Slot) -> Slot
 }
 
 impl Current {
-    /// That of a new store. Its identity is drawn once, at random.
+    /// CURRENT of a new store. The caller draws the identity once, at random.
     pub fn new(identity: Identity, machine: u64) -> Self
         ensures { result ≡ new_current identity machine }
     {
@@ -68,7 +68,7 @@ impl Current {
         }
     }
 
-    /// One generation more is begun.
+    /// CURRENT with one more generation begun.
     pub(crate) fn begin_next(self) -> Self
         requires { self.begun + 1 < 2 ^ 64 }
         ensures { result ≡ begun_next self }
@@ -79,7 +79,7 @@ impl Current {
         }
     }
 
-    /// The generation that was begun last counts, in the other file.
+    /// CURRENT that makes the last begun generation active, in the other file.
     pub(crate) fn turn_to_begun(self, machine: u64) -> Self
         ensures { result ≡ turned_to_begun self machine }
     {
@@ -91,7 +91,7 @@ impl Current {
         }
     }
 
-    /// Its numbers.
+    /// The numbers of CURRENT.
     fn form(self) -> CurrentForm
         ensures { result ≡ form_of self }
     {
@@ -109,7 +109,7 @@ impl Current {
         }
     }
 
-    /// Its bytes.
+    /// The bytes of CURRENT.
     #[tactic(auto, unfolding(crate::specs::Current::current_bytes, crate::specs::Current::IsFitCurrent))]
     pub(crate) fn bytes<A: Allocator>(self, alloc: A) -> Result<Writer<A>, AllocError>
         ensures bytes { IfOk result (λ w. w.bytes ≡ current_bytes self) }
@@ -117,7 +117,7 @@ impl Current {
     {
         let mut writer = Writer::new(alloc, SIZE)?;
         let form = self.form();
-        let Ok(()) = (form, current_digest_of(form)).write(&mut writer) else {
+        let Ok(()) = (form, current_checksum_of(form)).write(&mut writer) else {
             return Err(AllocError);
         };
         Ok(writer)
@@ -125,14 +125,14 @@ impl Current {
 }
 
 impl CurrentForm {
-    /// The content of this form. `Damaged`: the slot is neither A nor B.
+    /// The content of this form. `Corrupt`: the slot is neither A nor B.
     fn in_known_slot(self) -> Result<Current, CurrentFault>
         ensures { result ≡ in_known_slot self }
     {
         let slot = match self.slot {
             0 => Slot::A,
             1 => Slot::B,
-            _ => return Err(CurrentFault::Damaged),
+            _ => return Err(CurrentFault::Corrupt),
         };
         Ok(Current {
             identity: Identity {
@@ -147,20 +147,20 @@ impl CurrentForm {
     }
 }
 
-/// Reads CURRENT. `Version`: it is whole, and of another version. `Damaged`: it isn't whole.
+/// Reads CURRENT. `Version`: it is intact, and of another version. `Corrupt`: it is corrupt.
 #[tactic(auto, unfolding(crate::specs::Current::current_in))]
 pub(crate) fn read_current(bytes: &[u8]) -> Result<Current, CurrentFault>
     ensures { result ≡ current_in bytes.now }
 {
     let mut reader = Reader::new(bytes);
-    let Ok((form, digest)) = <(CurrentForm, u64)>::read(&mut reader) else {
-        return Err(CurrentFault::Damaged);
+    let Ok((form, checksum)) = <(CurrentForm, u64)>::read(&mut reader) else {
+        return Err(CurrentFault::Corrupt);
     };
     if reader.len() != 0 {
-        return Err(CurrentFault::Damaged);
+        return Err(CurrentFault::Corrupt);
     }
-    if digest != current_digest_of(form) {
-        return Err(CurrentFault::Damaged);
+    if checksum != current_checksum_of(form) {
+        return Err(CurrentFault::Corrupt);
     }
     if form.version != VERSION {
         return Err(CurrentFault::Version);

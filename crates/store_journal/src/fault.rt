@@ -1,19 +1,19 @@
-//! Why a journal isn't opened, and why something isn't written.
+//! Why a journal isn't opened, and why a frame isn't written.
 use thiserror::Error;
 
-/// Why a journal isn't opened. Nothing of it was changed.
+/// Why a journal isn't opened. The journal is unchanged.
 #[derive(Clone, Copy, Debug, PartialEq, Eq, Error)]
 pub enum OpenFault {
     /// CURRENT or a file can't be read.
     #[error("a file can't be read")]
     Failed,
-    /// CURRENT is whole, and has another version.
+    /// CURRENT is intact, and has another version.
     #[error("another version")]
     Version,
-    /// CURRENT, the checkpoint that it names, or a record that was safe doesn't stand any more.
+    /// CURRENT, the checkpoint that it names, or a durable record is corrupt or missing.
     #[error("damaged")]
-    Damaged,
-    /// There is no memory.
+    Corrupt,
+    /// An allocation failed.
     #[error("no memory")]
     Memory,
 }
@@ -21,30 +21,30 @@ pub enum OpenFault {
 /// Why CURRENT can't be used.
 #[derive(Clone, Copy, Debug, PartialEq, Eq, Error)]
 pub enum CurrentFault {
-    /// It is whole, and has another version.
+    /// It is intact, and has another version.
     #[error("another version")]
     Version,
-    /// It isn't whole.
+    /// It is corrupt.
     #[error("damaged")]
-    Damaged,
+    Corrupt,
 }
 
-/// Why something isn't written.
+/// Why a frame or CURRENT isn't written.
 #[derive(Clone, Copy, Debug, PartialEq, Eq, Error)]
 pub enum JournalFault {
-    /// A part or a record has more bytes than 64 MiB. Nothing has changed.
+    /// A part or a record has more than 64 MiB. Nothing has changed.
     #[error("more than 64 MiB in one piece")]
     TooLong,
-    /// There is no memory for it. Nothing has changed.
+    /// An allocation failed. Nothing has changed.
     #[error("no memory")]
     Memory,
-    /// No number is left for a frame or a generation, or no place in the file. Nothing has changed.
+    /// No number is left for a frame or a generation, or no room in the file. Nothing has changed.
     #[error("no number left")]
     Full,
     /// No checkpoint is being written, or none was finished yet. Nothing has changed.
     #[error("no checkpoint")]
     NoCheckpoint,
-    /// The disk has failed, now or before. Nothing more is asked of it.
+    /// The disk has failed, now or before. The journal doesn't call it again.
     #[error("the disk has failed")]
     Failed,
 }

@@ -1,9 +1,9 @@
-//! The frames at the front of a file's bytes, and the frames that are written.
+//! Reading frames from the start of a file's bytes, and the frames that are written.
 ghost use Rattle.std.specs.Prelude.{◌≡◌, ◌<◌, ◌+◌, ◌++◌, ◌^◌, ◌↔◌, length, Err, IfOk, IfNone, OnSome};
 ghost use Rattle.store_journal.specs.Frames.{Takes, lent, framed, in_place, start, IsFit, head_at};
 
+use crate::checksum::{Identity, checksum_of, head_checksum_of};
 use crate::current::VERSION;
-use crate::digest::{Identity, digest_of, head_digest_of};
 use crate::head::Head;
 use xdr_wire::{Opaque, Reader, Wire};
 
@@ -19,16 +19,16 @@ pub(crate) const END: u64 = 1;
 /// The kind of a frame that is a record.
 pub(crate) const RECORD: u64 = 2;
 
-/// The kind of a frame that says that all before it is safe.
+/// The kind of a frame that marks everything before it as durable.
 pub(crate) const MARK: u64 = 3;
 
-/// Where a frame stands among those of its generation.
+/// The place of a frame in its generation's chain.
 #[derive(Clone, Copy, Debug, PartialEq, Eq)]
 pub struct Place {
     pub generation: u64,
     /// The number of frames before it.
     pub number: u64,
-    /// The digest of the head of the frame before it, and 0 for the first one.
+    /// The checksum of the previous frame's head. 0 for the first frame.
     pub before: u64,
 }
 
@@ -45,7 +45,7 @@ impl Place {
     }
 }
 
-/// A frame, whose body is lent.
+/// A frame whose body is borrowed.
 #[derive(Clone, Copy, Debug)]
 pub struct Frame<'a> {
     /// Its kind: 0 a part of the checkpoint, 1 the checkpoint's end, 2 a record, 3 a mark.
@@ -53,7 +53,7 @@ pub struct Frame<'a> {
     pub body: &'a [u8],
 }
 
-/// The bytes of a file that are left to read, frame by frame.
+/// The remaining bytes of a file, from which frames are read one after the other.
 #[derive(Drop)]
 pub struct Frames<'a> {
     pub identity: Identity,
@@ -62,37 +62,37 @@ pub struct Frames<'a> {
     pub rest: &'a [u8],
 }
 
-/// The head at the front of the bytes. `None`: there is no whole one whose digest fits.
+/// The head at the start of the bytes. `None`: no head with a matching checksum is there.
 #[tactic(auto, unfolding(crate::specs::Frames::head_at))]
 pub(crate) fn head_at(identity: Identity, bytes: &[u8]) -> Option<Head>
     ensures { result ≡ head_at identity bytes.now }
 {
     let mut reader = Reader::new(bytes);
-    let Ok((head, digest)) = <(Head, u64)>::read(&mut reader) else {
+    let Ok((head, checksum)) = <(Head, u64)>::read(&mut reader) else {
         return None;
     };
-    if digest != head_digest_of(identity, head) {
+    if checksum != head_checksum_of(identity, head) {
         return None;
     }
     Some(head)
 }
 
 impl<'a> Frames<'a> {
-    /// Whether a head, its digest and a body are the next frame: of this version and place, with digests that fit.
-    fn is_next(&self, head: Head, digest: u64, body: &[u8]) -> bool
-        ensures { result ≡ in_place self.now.identity self.now.place head digest body.now }
+    /// Whether a head, its checksum and a body are the next frame: of this version and place, with matching
+    /// checksums.
+    fn is_next(&self, head: Head, checksum: u64, body: &[u8]) -> bool
+        ensures { result ≡ in_place self.now.identity self.now.place head checksum body.now }
     {
-        digest == head_digest_of(self.identity, head)
+        checksum == head_checksum_of(self.identity, head)
             && (head.version == VERSION
                 && (head.generation == self.place.generation
                     && (head.number == self.place.number
                         && (head.before == self.place.before
                             && (head.length == body.len() as u64
-                                && head.body == digest_of(self.identity, body))))))
+                                && head.body == checksum_of(self.identity, body))))))
     }
 
-    /// Takes the next frame. `None`: no whole frame of this version and place whose digests fit stands at the front,
-    /// and nothing is taken.
+    /// Takes the next frame. `None`: no valid frame of this version and place is at the start, and nothing is taken.
     #[tactic(auto, unfolding(crate::specs::Frames::frame_at))]
     pub fn next(&mut self) -> Option<Frame<'a>>
         requires { self.old.place.number + length self.old.rest.now < 2 ^ 64 }
@@ -102,19 +102,19 @@ impl<'a> Frames<'a> {
         ensures identity { self.new.identity ≡ self.old.identity }
     {
         let mut reader = Reader::new(self.rest);
-        let Ok((head, (digest, Opaque { bytes }))) = <(Head, (u64, Opaque<MAX_BODY>))>::read(
+        let Ok((head, (checksum, Opaque { bytes }))) = <(Head, (u64, Opaque<MAX_BODY>))>::read(
             &mut reader,
         ) else {
             return None;
         };
-        if !self.is_next(head, digest, bytes) {
+        if !self.is_next(head, checksum, bytes) {
             return None;
         }
         self.rest = reader.rest();
         self.place = Place {
             generation: self.place.generation,
             number: self.place.number + 1,
-            before: digest,
+            before: checksum,
         };
         Some(Frame {
             kind: head.kind,

@@ -4,7 +4,7 @@ ghost use Rattle.std.specs.Prelude.{◌≡◌};
 use std::alloc::Allocator;
 use xdr_wire::{Full, Reader, Spell, Wire, Writer, XdrFault};
 
-/// A frame says this of itself and its place.
+/// What a frame records of itself and its place.
 #[derive(Clone, Copy, Debug, PartialEq, Eq)]
 pub struct Head {
     /// The version of the form. No frame has version 0.
@@ -13,13 +13,13 @@ pub struct Head {
     pub generation: u64,
     /// The number of frames before it in its file.
     pub number: u64,
-    /// The digest of the head of the frame before it, and 0 in the first one.
+    /// The checksum of the previous frame's head. 0 in the first frame.
     pub before: u64,
     /// The frame's kind: 0 a part of the checkpoint, 1 the checkpoint's end, 2 a record, 3 a mark.
     pub kind: u64,
     /// The number of bytes of its body.
     pub length: u64,
-    /// The digest of its body.
+    /// The checksum of its body.
     pub body: u64,
 }
 

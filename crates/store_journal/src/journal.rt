@@ -1,7 +1,8 @@
 //! Writing a checkpoint, and records after it.
 ghost use Rattle.std.specs.Prelude.{◌≡◌, []};
 ghost use Rattle.store_journal.specs.Frames.{MARK, PART, RECORD, frame_with, lent};
-ghost use Rattle.store_journal.specs.Keeping.{AppendGives, BeginGives, FinishGives, PartGives, new_journal, noted};
+ghost use Rattle.store_journal.specs.Keeping.{AppendGives, BeginGives, FinishGives, PartGives, new_journal};
+ghost use Rattle.store_journal.specs.internal.Keeping.{noted};
 ghost use Rattle.store_journal.specs.Passage.{passage};
 
 use crate::current::{Current, other_slot};
@@ -11,21 +12,21 @@ use crate::frames::{END, Frame, MARK, PART, RECORD};
 use crate::writing::{Position, write_frame};
 use std::alloc::Allocator;
 
-/// A journal to which records are appended, and whose next checkpoint is written.
+/// A journal that takes records and checkpoints.
 #[derive(Drop, Debug)]
 pub struct Journal {
     /// The content of CURRENT.
     pub current: Current,
-    /// Where the next record goes, in the file that counts.
+    /// Where the next record goes, in the active file.
     pub position: Position,
-    /// Where the next part goes, in the other file, while a checkpoint is being written.
+    /// Where the next part goes, in the inactive file, while a checkpoint is being written.
     pub next: Option<Position>,
-    /// The disk has failed. Nothing more is asked of it.
+    /// The disk has failed. The journal doesn't call it again.
     pub has_failed: bool,
 }
 
 impl Journal {
-    /// One of which no checkpoint was finished yet, as of a new store. Nothing is read or written.
+    /// The journal of a new store, or of one without a finished checkpoint. Nothing is read or written.
     pub fn new(current: Current) -> Self
         ensures { result ≡ new_journal current }
     {
@@ -37,7 +38,7 @@ impl Journal {
         }
     }
 
-    /// A fault of a frame that was to be written.
+    /// Notes the fault of a frame: after `Failed` the disk isn't called again.
     fn noted(&mut self, fault: JournalFault) -> JournalFault
         ensures result { result ≡ fault }
         ensures noted { self.new ≡ noted fault self.old }
@@ -48,7 +49,7 @@ impl Journal {
         fault
     }
 
-    /// Writes a frame behind those of the file that counts, and syncs it.
+    /// Writes a frame after the last one of the active file, and syncs it.
     fn add<D: Disk, A: Allocator>(
         &mut self,
         disk: &mut D,
@@ -77,7 +78,7 @@ impl Journal {
         Ok(())
     }
 
-    /// Appends a record and syncs it: each crash from now on leaves it. A checkpoint that is being written is given up.
+    /// Appends a record and syncs it. After that every crash keeps the record. A checkpoint in progress is abandoned.
     pub fn append<D: Disk, A: Allocator>(
         &mut self,
         disk: &mut D,
@@ -94,7 +95,7 @@ impl Journal {
         self.add(disk, alloc, frame)
     }
 
-    /// Appends a mark and syncs it. It says that all before it is safe: rot of that is told from now on.
+    /// Appends a mark and syncs it. From then on a start detects corruption of any frame before it.
     pub fn mark<D: Disk, A: Allocator>(
         &mut self,
         disk: &mut D,
@@ -109,8 +110,8 @@ impl Journal {
         self.add(disk, alloc, frame)
     }
 
-    /// Begins a checkpoint of the next generation in the file that doesn't count, over what stands there. One that was
-    /// begun before is given up. Until `finish` the other file counts.
+    /// Begins a checkpoint of the next generation, over the bytes of the inactive file. A checkpoint in progress is
+    /// abandoned. The other file stays active until `finish`.
     pub fn begin<D: Disk, A: Allocator>(
         &mut self,
         disk: &mut D,
@@ -137,7 +138,7 @@ impl Journal {
         Ok(())
     }
 
-    /// Writes a part of the checkpoint that was begun.
+    /// Writes a part of the checkpoint in progress.
     pub fn part<D: Disk, A: Allocator>(
         &mut self,
         disk: &mut D,
@@ -165,8 +166,8 @@ impl Journal {
         Ok(())
     }
 
-    /// Ends the checkpoint that was begun, syncs its file, and turns CURRENT to it, with this number of the caller's.
-    /// From then on it counts, and records come after it.
+    /// Ends the checkpoint in progress, syncs its file, and replaces CURRENT to name it, with the caller's number
+    /// `machine`. From then on the file is active, and records go after the checkpoint.
     pub fn finish<D: Disk, A: Allocator + Copy>(
         &mut self,
         disk: &mut D,

@@ -1,12 +1,13 @@
-//! Which file counts, and what it has.
+//! Which file is active, and its content.
 ghost use Rattle.std.specs.Prelude.{◌≡◌, ◌≤◌, ◌+◌, ◌-◌, true, take, drop, length, map, IfOk, MatchBool, MatchResult};
 ghost use Rattle.store_journal.specs.Files.{if_whole, IsRotten};
-ghost use Rattle.store_journal.specs.Opening.{LoadsSo, LoadFails, NoFiles, NoneFails, LoadsNamed, NamedFails};
-ghost use Rattle.store_journal.specs.Opening.{Chooses, RefusesSo};
+ghost use Rattle.store_journal.specs.Opening.{LoadGives, LoadFails};
+ghost use Rattle.store_journal.specs.internal.Opening.{NoFiles, NoneFails, LoadsNamed, NamedFails};
+ghost use Rattle.store_journal.specs.Opening.{Chooses, RefusedFor};
 ghost use Rattle.store_journal.specs.Passage.{passage};
 
+use crate::checksum::Identity;
 use crate::current::{Current, read_current};
-use crate::digest::Identity;
 use crate::disk::{Disk, LoadFault, Slot};
 use crate::fault::{CurrentFault, OpenFault};
 use crate::frames::Place;
@@ -18,13 +19,13 @@ use std::alloc::Allocator;
 /// CURRENT, and the bytes of the file that it names.
 #[derive(Drop)]
 pub struct Loaded<A: Allocator> {
-    /// `None`: nothing is there, and the store is new. Of generation 0: no checkpoint was finished yet.
+    /// `None`: nothing is there, and the store is new. Generation 0: no checkpoint was finished yet.
     pub current: Option<Current>,
-    /// The bytes of the file that counts, and none where no checkpoint was finished yet.
+    /// The bytes of the active file. None if no checkpoint was finished yet.
     pub bytes: Vec<u8, A>,
 }
 
-/// The content of the file that counts.
+/// The content of the active file.
 #[derive(Drop)]
 pub struct Chosen<'a, A: Allocator> {
     pub current: Current,
@@ -40,12 +41,11 @@ pub struct Chosen<'a, A: Allocator> {
     pub last: &'a [u8],
 }
 
-/// Loads CURRENT, and the file that it names. Where there is no CURRENT, both files have to be
-/// empty. `Version`: CURRENT is of another version. `Damaged`: CURRENT isn't whole, or it isn't
-/// there and a file isn't empty.
+/// Loads CURRENT, and the file that it names. If CURRENT is missing, both files have to be empty. `Version`: CURRENT
+/// is of another version. `Corrupt`: CURRENT is corrupt, or it is missing and a file isn't empty.
 pub fn load<D: Disk, A: Allocator + Copy>(disk: &mut D, alloc: A) -> Result<Loaded<A>, OpenFault>
     ensures { MatchResult result
-        (λ found. LoadsSo (passage D.adds disk.old disk.new) found.current found.bytes.items)
+        (λ found. LoadGives (passage D.adds disk.old disk.new) found.current found.bytes.items)
         (λ e. LoadFails (passage D.adds disk.old disk.new) e) }
 {
     let found = match disk.load_current(alloc) {
@@ -59,7 +59,7 @@ pub fn load<D: Disk, A: Allocator + Copy>(disk: &mut D, alloc: A) -> Result<Load
     }
 }
 
-/// Sees that both files are empty.
+/// Checks that both files are empty.
 fn load_none<D: Disk, A: Allocator + Copy>(disk: &mut D, alloc: A) -> Result<Loaded<A>, OpenFault>
     ensures { MatchResult result
         (λ found. NoFiles (passage D.adds disk.old disk.new) found.current found.bytes.items)
@@ -71,7 +71,7 @@ fn load_none<D: Disk, A: Allocator + Copy>(disk: &mut D, alloc: A) -> Result<Loa
         Err(LoadFault::Memory) => return Err(OpenFault::Memory),
     };
     if !a.is_empty() {
-        return Err(OpenFault::Damaged);
+        return Err(OpenFault::Corrupt);
     }
     let bytes = match disk.load(alloc, Slot::B) {
         Ok(bytes) => bytes,
@@ -79,7 +79,7 @@ fn load_none<D: Disk, A: Allocator + Copy>(disk: &mut D, alloc: A) -> Result<Loa
         Err(LoadFault::Memory) => return Err(OpenFault::Memory),
     };
     if !bytes.is_empty() {
-        return Err(OpenFault::Damaged);
+        return Err(OpenFault::Corrupt);
     }
     Ok(Loaded {
         current: None,
@@ -100,7 +100,7 @@ fn load_named<D: Disk, A: Allocator + Copy>(
     let current = match read_current(bytes) {
         Ok(current) => current,
         Err(CurrentFault::Version) => return Err(OpenFault::Version),
-        Err(CurrentFault::Damaged) => return Err(OpenFault::Damaged),
+        Err(CurrentFault::Corrupt) => return Err(OpenFault::Corrupt),
     };
     if current.generation == 0 {
         return Ok(Loaded {
@@ -118,7 +118,7 @@ fn load_named<D: Disk, A: Allocator + Copy>(
     }
 }
 
-/// Whether a frame that was safe is missing behind those that stand.
+/// Whether a durable frame is missing after the valid ones.
 fn is_rotten(identity: Identity, place: Place, rest: &[u8]) -> bool
     ensures { MatchBool result (IsRotten identity place rest.now) (IsRotten identity place rest.now → ⊥) }
 {
@@ -128,7 +128,7 @@ fn is_rotten(identity: Identity, place: Place, rest: &[u8]) -> bool
     is_followed(identity, place, rest)
 }
 
-/// The bytes of a file from a place on, without those that are left after its frames.
+/// The bytes of a file from an offset on, without the bytes after its frames.
 fn last_of<'a>(file: &'a [u8], at: usize, rest: &[u8]) -> &'a [u8]
     requires { at + length rest.now ≤ length file.now }
     ensures { result.now ≡ take (length file.now - length rest.now - at) (drop at file.now) }
@@ -138,8 +138,8 @@ fn last_of<'a>(file: &'a [u8], at: usize, rest: &[u8]) -> &'a [u8]
     last
 }
 
-/// Reads the file that counts, of which CURRENT says this. `Damaged`: it has no whole checkpoint of the generation, or
-/// a frame that was safe doesn't stand any more.
+/// Reads the active file, by its CURRENT. `Corrupt`: it has no complete checkpoint of the generation, or a durable
+/// frame is corrupt or missing.
 pub fn choose<'a, A: Allocator + Copy>(
     alloc: A,
     current: Current,
@@ -149,7 +149,7 @@ pub fn choose<'a, A: Allocator + Copy>(
     ensures gives { MatchResult result (λ c. Chooses current file.now
         (if_whole true (map (λ b. b.now) c.parts.items) (map (λ b. b.now) c.records.items))
         c.position c.last_at c.last.now)
-        (λ e. RefusesSo current file.now e) }
+        (λ e. RefusedFor current file.now e) }
 {
     let Ok(read) = read_file(alloc, current.identity, current.generation, file) else {
         return Err(OpenFault::Memory);
@@ -166,10 +166,10 @@ pub fn choose<'a, A: Allocator + Copy>(
         records,
     } = bodies;
     if !is_whole {
-        return Err(OpenFault::Damaged);
+        return Err(OpenFault::Corrupt);
     }
     if is_rotten(current.identity, place, rest) {
-        return Err(OpenFault::Damaged);
+        return Err(OpenFault::Corrupt);
     }
     let last = last_of(file, last_at, rest);
     Ok(Chosen {

@@ -1,13 +1,14 @@
-//! A file has a checkpoint, and the records after it.
+//! Reading a checkpoint from a file, and the records after it.
 ghost use Rattle.std.specs.Prelude.{◌≡◌, ◌∷◌, List, map, IfOk, OnOk};
-ghost use Rattle.store_journal.specs.Files.{IsRead, joined_to};
+ghost use Rattle.store_journal.specs.Files.{IsRead};
+ghost use Rattle.store_journal.specs.internal.Files.{joined_to};
 ghost use Rattle.store_journal.specs.Frames.{Frame as FrameSpec, lent};
 
-use crate::digest::Identity;
+use crate::checksum::Identity;
 use crate::frames::{END, Frame, Frames, MARK, Place};
 use std::alloc::{AllocError, Allocator};
 
-/// The bodies that were read of a file so far.
+/// The bodies read from a file by now.
 #[derive(Drop)]
 pub(crate) struct Bodies<'a, A: Allocator> {
     /// The end of the checkpoint was read.
@@ -17,7 +18,7 @@ pub(crate) struct Bodies<'a, A: Allocator> {
 }
 
 impl<'a, A: Allocator> Bodies<'a, A> {
-    /// Takes the body of the next frame.
+    /// Adds the body of the next frame.
     fn add(&mut self, frame: Frame<'a>) -> Result<(), AllocError>
         ensures { OnOk result ((frames : List FrameSpec) →
             joined_to self.new.is_whole (map (λ b. b.now) self.new.parts.items)
@@ -53,7 +54,7 @@ pub(crate) struct FileRead<'a, A: Allocator> {
     pub bodies: Bodies<'a, A>,
 }
 
-/// Reads a file of a generation. An error comes only for want of memory.
+/// Reads the frames of a generation from a file. The only error is a failed allocation.
 pub(crate) fn read_file<'a, A: Allocator + Copy>(
     alloc: A,
     identity: Identity,

@@ -1,4 +1,4 @@
-//! Going on after what a start found.
+//! Opening a journal after a start has read it.
 ghost use Rattle.std.specs.Prelude.{◌≡◌};
 ghost use Rattle.store_journal.specs.Keeping.{ResumeGives};
 ghost use Rattle.store_journal.specs.Passage.{passage};
@@ -12,10 +12,10 @@ use crate::writing::wiped;
 use std::alloc::Allocator;
 
 impl Journal {
-    /// Goes on after what a start found. What was read may never have come to the disk, where a program ended before
-    /// its sync or the sync failed. All frames but the last were safe when that one was written. So that one is
-    /// written again, and synced, and CURRENT is turned again. A head's bytes behind it are wiped, so that a frame
-    /// that an earlier program lost doesn't come together again.
+    /// Opens a journal on what a start found. What was read may be in the page cache alone, if a program ended before
+    /// its sync or the sync failed. All frames but the last were durable before the last was written. So the last
+    /// frame is written again and synced, and CURRENT is replaced by the same bytes. The bytes of a head after it are
+    /// zeroed. So a frame that an earlier program lost never becomes valid again.
     pub fn resume<D: Disk, A: Allocator>(
         disk: &mut D,
         alloc: A,

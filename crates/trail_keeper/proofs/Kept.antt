@@ -5,10 +5,10 @@ use Rattle.std.proofs.Math.Seq.{drop-append-add}
 use Rattle.circular_buffer.specs.Buffer.{keep_last}
 use Rattle.access_guard.specs.declared.line.Line.{Line}
 use Rattle.trail_keeper.specs.Appended.{lost_lines, lost_text, new_lines, text_of}
-use Rattle.trail_keeper.specs.Told.{SettlingAdds, TellsEach}
+use Rattle.trail_keeper.specs.AppendedLines.{SettlingAdds, AppendsEach}
 
-pub tells_each : TellsEach
-tells_each front earlier later log is =
+pub appends_each : AppendsEach
+appends_each prefix earlier later log is =
     let all = earlier ++ later in
     let both : length all ≡ length earlier + length later = length-append earlier later in
     let counted : log.total ≡ length all = is.counted in
@@ -21,7 +21,7 @@ tells_each front earlier later log is =
     ∙ drop-drop (length log.trail - (log.total - length earlier)) (length all - 4096) all
     ∙ ap (λ (n : ℕ). drop n all) (omega (arith, at))
     ∙ drop-append-add earlier later missing in
-    ap₂ (λ (n : ℕ) (l : List Line). lost_text front n ++ text_of front l) lost lines
+    ap₂ (λ (n : ℕ) (l : List Line). lost_text prefix n ++ text_of prefix l) lost lines
 
 -- the last of the last of some items and of others after them
 last_again : {X : Type 0} (n : ℕ) (xs ys : List X) → keep_last n (keep_last n xs ++ ys) ≡ keep_last n (xs ++ ys)

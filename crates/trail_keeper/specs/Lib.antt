@@ -1,5 +1,5 @@
 pub mod Appended
 pub mod Written
-pub mod Told
+pub mod AppendedLines
 pub mod Keeping
 pub mod Dates

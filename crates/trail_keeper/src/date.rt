@@ -16,7 +16,8 @@ pub struct Date {
 /// The first year.
 const EPOCH: u32 = 1970;
 
-/// The most days since the epoch of a date: as many as 8,030 years of 365 days have, so that each year has four digits.
+/// The largest number of days from the epoch to a date: that of 8,030 years of 365 days. Each year therefore has four
+/// digits.
 pub(crate) const MOST_DAYS: u32 = 2_930_949;
 
 fn is_leap(year: u32) -> bool
@@ -25,14 +26,14 @@ fn is_leap(year: u32) -> bool
     year % 4 == 0 && (year % 100 != 0 || year % 400 == 0)
 }
 
-/// The days of a year.
+/// The number of days of a year.
 fn year_length(leap: bool) -> u32
     ensures { result ≡ year_length leap }
 {
     if leap { 366 } else { 365 }
 }
 
-/// The days of a month from 1 to 12.
+/// The number of days of a month from 1 to 12.
 fn month_length(leap: bool, month: u32) -> u32
     ensures { result ≡ month_length leap month }
 {
@@ -44,14 +45,14 @@ fn month_length(leap: bool, month: u32) -> u32
     }
 }
 
-/// A number of years since the epoch, and the days that are left of some days.
+/// A number of years since the epoch, and the days that are left of a number of days.
 #[derive(Clone, Copy)]
 struct Years {
     years: u32,
     left: u32,
 }
 
-/// The whole years of some days since the epoch.
+/// The whole years in a number of days since the epoch.
 fn whole_years(days: u32) -> Years
     requires { days ≤ MOST_DAYS }
     ensures few { result.years < 8030 }
@@ -67,7 +68,7 @@ fn whole_years(days: u32) -> Years
     Years { years, left }
 }
 
-/// The date of a day of a year, of which the first is 0.
+/// The date of a day of a year; the first day is 0.
 fn day_of_year(year: u32, day: u32) -> Date
     requires { day < year_length (is_leap year) }
     ensures year { result.year ≡ year }
@@ -99,7 +100,7 @@ fn day_of_year(year: u32, day: u32) -> Date
     }
 }
 
-/// The date of the day before which there were this many from 1 January 1970 on.
+/// The date of the day `days` days after 1 January 1970.
 pub(crate) fn date_of(days: u32) -> Date
     requires { days ≤ MOST_DAYS }
     ensures date { IsDate days result }

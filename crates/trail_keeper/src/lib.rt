@@ -1,5 +1,5 @@
-//! The audit trail's new lines, appended to a writer: by a call that is given how many were seen,
-//! and by a keeper that counts them.
+//! Appends the audit trail's new lines to a writer. A call is given the number of lines that were seen, and a keeper
+//! counts them.
 #![tactic(auto)]
 
 mod appending;
@@ -12,6 +12,6 @@ mod piece;
 pub use appending::{append_new, append_new_after};
 pub use date::Date;
 pub use keeper::TrailKeeper;
-pub use laws::{each_line_is_kept_once, each_line_is_told, settling_adds_lines};
+pub use laws::{each_line_is_appended, each_line_is_kept_once, settling_adds_lines};
 pub use moment::moment_text;
-pub use piece::MOST_FRONT;
+pub use piece::MOST_PREFIX;

@@ -1,4 +1,4 @@
-//! The text of a moment.
+//! The text of a time.
 ghost use Rattle.std.specs.Prelude.{◌≡◌, ◌<◌, ◌+◌, ◌/◌, ◌%◌};
 ghost use Rattle.trail_keeper.specs.Dates.{IsMoment, written_second};
 
@@ -25,16 +25,17 @@ fn ones(n: u32) -> u8
     b'0' + (n % 10) as u8
 }
 
-/// The second that is written: a moment before 1970 is written as its begin, and one after the last second as that one.
+/// The second that is written. A time before 1970 is written as the start of 1970, and one after the last second as
+/// that one.
 fn written_second(seconds: i64) -> u64
     ensures { result ≡ written_second seconds }
 {
     u64::try_from(seconds).unwrap_or(0).min(LAST)
 }
 
-/// The text of a moment in UTC, with a space after it, as `2026-11-26T20:28:01Z `, from the seconds
-/// since 1970-01-01. A moment before that is written as that one, and one after the 2,930,950 days
-/// from then on, in the year 9994, as the last second of these.
+/// The text of a time in UTC, with a space after it, as `2026-11-26T20:28:01Z `, from the seconds since 1970-01-01. A
+/// time before that is written as that one. A time after the 2,930,950 days from then on, in the year 9994, is written
+/// as the last second of these.
 pub fn moment_text(seconds: i64) -> [u8; 21]
     ensures { IsMoment (written_second seconds) result }
 {

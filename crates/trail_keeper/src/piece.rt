@@ -4,13 +4,13 @@ ghost use Rattle.std.specs.Prelude.{◌≡◌, ◌+◌, ◌≤◌, [], ◌∷◌
 use access_guard::MOST_TEXT;
 use std::marker::Model;
 
-/// The most bytes in front of a line.
-pub const MOST_FRONT: usize = 32;
+/// The largest number of bytes in the prefix of a line.
+pub const MOST_PREFIX: usize = 32;
 
-/// The most bytes of one write: those in front of a line, its text, and its newline.
-const MOST_PIECE: usize = MOST_FRONT + MOST_TEXT + 1;
+/// The largest number of bytes of one write: the prefix of a line, its text, and its newline.
+const MOST_PIECE: usize = MOST_PREFIX + MOST_TEXT + 1;
 
-/// The bytes of one write, put together: at most 161.
+/// The bytes of one write, assembled: at most 161.
 #[derive(Drop)]
 pub(crate) struct Piece {
     bytes: [u8; MOST_PIECE],
@@ -51,7 +51,7 @@ impl Piece {
         self.bytes[self.len..end].copy_from_slice(bytes);
         self.len = end;
     }
-    /// Puts a newline.
+    /// Appends a newline.
     pub(crate) fn end(&mut self)
         requires { length self.old + 1 ≤ 161 }
         ensures { self.new ≡ self.old ++ 10 ∷ [] }

@@ -20,7 +20,7 @@ pub known_keys-entries : (es : List Entry) → has_known_keys (members_view es) 
 known_keys-entries [] = refl
 known_keys-entries (e ∷ es) = ap (λ b. is_known (string_bytes e.0) && b) (known_keys-entries es)
 
--- the result so far, before the result of the rest
+-- the result so far, followed by the result of the rest
 abbrev pub onto : {A : Type 0} → List A → Option (List A) → Option (List A)
 onto rows = option_map (λ rest. rows ++ rest)
 
@@ -51,7 +51,7 @@ pub names-push : (rows : List Row) (row : Row) (name : List ℕ) (rest : List (L
 names-push [] row name rest is = rw is refl
 names-push (r ∷ rows) row name rest is = ap (λ more. r.name.now ∷ more) (names-push rows row name rest is)
 
--- one turn of a walk over a table: `left` is the rest before it, `rest` the rest after it
+-- one iteration of a walk over a table: `left` is the rest before it, `rest` the rest after it
 pub integers-turn : (found : Option (List (List ℕ × ℤ))) (rows rows' : List Row) (left rest : List Entry) (name : String Global) (value : Value) (row : Row) (n : ℤ)
     → rows' ≡ rows ++ row ∷ [] → left ≡ (name, value) ∷ rest → as_integer (view value) ≡ Some n → row.number ≡ n → row.name.now ≡ string_bytes name
     → found ≡ onto (rows_of rows) (integers (members_view left)) → found ≡ onto (rows_of rows') (integers (members_view rest))

@@ -20,7 +20,7 @@ use Rattle.rpc_record.specs.Identity.{Identity, has_group, with_group, group_set
 use Rattle.rpc_record.proofs.GroupSets.{set_of, the_set, set_more, count_more}
 use Rattle.who_book.specs.Content.{Content, Memberships}
 use Rattle.who_book.specs.Indexes.{groups_with, is_listed, AreAdded, HasFull}
-use Rattle.who_book.specs.Members.{Rolls, is_among, repeats_name, is_named, are_users, is_roll, are_rolls, numbers_with, memberships, groups_at, gid_among, member}
+use Rattle.who_book.specs.Members.{Rolls, is_among, has_duplicate, is_named, are_users, is_roll, are_rolls, numbers_with, memberships, groups_at, gid_among, member}
 use Rattle.who_book.specs.Names.{Rows, name_at, number_at, IsTable}
 use Rattle.who_book.specs.Outlines.{texts_of, rolls_of, IsAscending}
 use Rattle.who_book.specs.declared.rolls.Roll.{Roll}
@@ -45,19 +45,19 @@ among_middle (n ∷ names) other name more is = or_right _ _ (among_middle names
 among_itself : (names : List (List ℕ)) (name : List ℕ) (more : List (List ℕ)) → is_among (names ++ name ∷ more) name ≡ true
 among_itself names name more = among_middle names name name more ((bytes_eq-Decides name name).1 refl)
 
-repeats_push : (names : List (List ℕ)) (name : List ℕ) → repeats_name names ≡ false → is_among names name ≡ false → repeats_name (names ++ name ∷ []) ≡ false
-repeats_push [] name once apart = refl
-repeats_push (n ∷ names) name once apart =
+duplicate_push : (names : List (List ℕ)) (name : List ℕ) → has_duplicate names ≡ false → is_among names name ≡ false → has_duplicate (names ++ name ∷ []) ≡ false
+duplicate_push [] name once apart = refl
+duplicate_push (n ∷ names) name once apart =
     let (first, rest) = or_parts (is_among names n) _ once in
     let (here, later) = or_parts (bytes_eq name n) _ apart in
-    or_from _ _ (among_push names name n ∙ or_from _ _ first (same_bytes n name ∙ here)) (repeats_push names name rest later)
+    or_from _ _ (among_push names name n ∙ or_from _ _ first (same_bytes n name ∙ here)) (duplicate_push names name rest later)
 
-repeats_found : (names : List (List ℕ)) (name : List ℕ) (more : List (List ℕ)) → is_among names name ≡ true → repeats_name (names ++ name ∷ more) ≡ true
-repeats_found [] name more found = absurd (false≢true found)
-repeats_found (n ∷ names) name more found =
+duplicate_found : (names : List (List ℕ)) (name : List ℕ) (more : List (List ℕ)) → is_among names name ≡ true → has_duplicate (names ++ name ∷ more) ≡ true
+duplicate_found [] name more found = absurd (false≢true found)
+duplicate_found (n ∷ names) name more found =
     elim (or_cases (bytes_eq name n) _ found) [
       | inl here ↦ or_left _ _ (among_middle names n name more (same_bytes n name ∙ here))
-      | inr later ↦ or_right _ _ (repeats_found names name more later)
+      | inr later ↦ or_right _ _ (duplicate_found names name more later)
     ]
 
 -- ---- the users of an array
@@ -67,7 +67,7 @@ pub users_push : (users : Rows) (names : List (List ℕ)) (name : List ℕ) (uid
 users_push users names name uid known found apart =
     let (all, once) = and_parts (list_all (is_named users) names) _ known in
     let one : is_named users name ≡ true = ap is_some found in
-    and_from _ _ (list_all-append (is_named users) names (name ∷ []) ∙ and_from _ _ all (and_from _ _ one refl)) (not_from_false _ (repeats_push names name (not-true _ once) apart))
+    and_from _ _ (list_all-append (is_named users) names (name ∷ []) ∙ and_from _ _ all (and_from _ _ one refl)) (not_from_false _ (duplicate_push names name (not-true _ once) apart))
 
 pub users_unknown : (users : Rows) (names : List (List ℕ)) (name : List ℕ) (more : List (List ℕ)) → number_at name users ≡ None → are_users users (names ++ name ∷ more) ≡ false
 users_unknown users names name more none =
@@ -75,9 +75,9 @@ users_unknown users names name more none =
     and_left _ _ (list_all-append (is_named users) names (name ∷ more) ∙ and_right (list_all (is_named users) names) _ (and_left _ _ other))
 
 users_twice : (users : Rows) (names : List (List ℕ)) (name : List ℕ) (more : List (List ℕ)) → is_among names name ≡ true → are_users users (names ++ name ∷ more) ≡ false
-users_twice users names name more found = and_right (list_all (is_named users) (names ++ name ∷ more)) _ (not_from_true _ (repeats_found names name more found))
+users_twice users names name more found = and_right (list_all (is_named users) (names ++ name ∷ more)) _ (not_from_true _ (duplicate_found names name more found))
 
--- the names up to a name, and those after it
+-- the names up to one name, and those after it
 pub texts_parts : (names : List (Bor (List ℕ))) (i : ℕ) (d : Bor (List ℕ)) → i < length names
     → texts_of names ≡ texts_of (take i names) ++ (get_or names i d).now ∷ texts_of (drop (i + 1) names)
 texts_parts names i d within =
@@ -192,7 +192,7 @@ module _ (users : Rows) (gid : ℕ) (names : List (List ℕ)) (name : List ℕ) 
               omega (arith, ap length is, few n)
         ]
 
--- ---- one more roll: `done` is the rolls before it
+-- ---- one more roll: `done` are the rolls before it
 
 module _ (groups : Rows) (done : Rolls) (group : List ℕ) (names : List (List ℕ)) (gid : ℕ) (found : number_at group groups ≡ Some gid) where
   numbers_push : (user : List ℕ) → numbers_with groups (done ++ (group, names) ∷ []) user ≡ numbers_with groups done user ++ cond (is_among names user) (gid ∷ []) []
@@ -245,7 +245,7 @@ fresh_group groups done group gid None table found below = refl
 fresh_group groups done group gid (Some user) table found below =
     (set_of (numbers_with groups done user)).members gid ∙ not_before groups done group gid user table found below
 
--- the rolls up to a roll, and those after it
+-- the rolls up to one roll, and those after it
 pub rolls_parts : (rolls : List Roll) (i : ℕ) (roll : Roll) → i < length rolls → roll ≡ get_or rolls i roll
     → rolls_of rolls ≡ rolls_of (take i rolls) ++ (roll.group.now, texts_of roll.users.items) ∷ rolls_of (drop (i + 1) rolls)
 rolls_parts rolls i roll within is =
@@ -266,7 +266,7 @@ before_roll all done group names more ascending parts =
     let P : Rolls → Type 0 = IsAscending in
     all_below_middle done (group, names) more (subst P parts ascending)
 
--- a roll that the walk takes, and a roll at which it stops
+-- a roll that the walk accepts, and a roll at which it stops
 pub roll_push : (users groups : Rows) (done : Rolls) (group : List ℕ) (names : List (List ℕ)) (gid : ℕ) → list_all (is_roll users groups) done ≡ true
     → number_at group groups ≡ Some gid → are_users users names ≡ true → list_all (is_roll users groups) (done ++ (group, names) ∷ []) ≡ true
 roll_push users groups done group names gid all found known =
@@ -332,7 +332,7 @@ user_full users groups done group names more gid index table found below each fu
     (list_all-map (λ (user : ℕ × List ℕ). nat_le (length user.1) 17) (λ (user : List ℕ × ℕ). (user.1, group_set (numbers_with groups (done ++ (group, names) ∷ more) user.0))) users
     ∙ row_fails test users full.0 name at (lt-leb _ 17 many))
 
--- one turn of the walk over the rolls
+-- one iteration of the walk over the rolls
 pub groups-turn : (users groups : Rows) (done : Rolls) (group : List ℕ) (names : List (List ℕ)) (gid : ℕ) (before after : ℕ → List ℕ) → number_at group groups ≡ Some gid
     → ((n : ℕ) → before n ≡ groups_with groups done (name_at n users)) → AreAdded users gid names before after
     → (n : ℕ) → after n ≡ groups_with groups (done ++ (group, names) ∷ []) (name_at n users)
@@ -341,19 +341,19 @@ groups-turn users groups done group names gid before after found each added n =
 
 -- ---- the users of a table by their numbers
 
--- the groups that an index has of each user
+-- the groups that an index has for each user
 abbrev pub by_index : (ℕ → List ℕ) → Rows → Memberships
 by_index index users = map (λ user. (user.1, index user.1)) users
 
-behind : (r : List ℕ × ℕ) (rows xs : Rows) → AllByRecursion (λ n. nat_eq r.1 n ≡ false) (values_of xs) → AllByRecursion (λ q. name_at q.1 rows ≡ Some q.0) xs
+absent_after : (r : List ℕ × ℕ) (rows xs : Rows) → AllByRecursion (λ n. nat_eq r.1 n ≡ false) (values_of xs) → AllByRecursion (λ q. name_at q.1 rows ≡ Some q.0) xs
     → AllByRecursion (λ q. name_at q.1 (r ∷ rows) ≡ Some q.0) xs
-behind r rows [] apart back = tt
-behind r rows (q ∷ xs) apart back = (rw apart.0 back.0, behind r rows xs apart.1 back.1)
+absent_after r rows [] apart back = tt
+absent_after r rows (q ∷ xs) apart back = (rw apart.0 back.0, absent_after r rows xs apart.1 back.1)
 
 names_back : (rows : Rows) → IsDistinct nat_eq (values_of rows) → AllByRecursion (λ q. name_at q.1 rows ≡ Some q.0) rows
 unfolding IsDistinct
 names_back [] distinct = tt
-names_back (r ∷ rows) distinct = (rw (eq-eqb r.1 r.1 refl) refl, behind r rows rows distinct.0 (names_back rows distinct.1))
+names_back (r ∷ rows) distinct = (rw (eq-eqb r.1 r.1 refl) refl, absent_after r rows rows distinct.0 (names_back rows distinct.1))
 
 module _ (users groups : Rows) (rolls : Rolls) (index : ℕ → List ℕ) (each : (n : ℕ) → index n ≡ groups_with groups rolls (name_at n users)) where
   few_each : (xs : Rows) → AllByRecursion (λ q. name_at q.1 users ≡ Some q.0) xs → ((n : ℕ) → length (index n) ≤ 17)

@@ -23,7 +23,7 @@ texts_of-push (n ∷ names) name = ap (λ rest. n.now ∷ rest) (texts_of-push n
 item_next : (items : List Value) (i : ℕ) (value : Value) → i < length items → value ≡ get_or items i value → drop i items ≡ value ∷ drop (i + 1) items
 item_next items i value within is = drop_more items i value within ∙ ap (λ (v : Value). v ∷ drop (i + 1) items) (sym is)
 
--- one turn of the walk over an array
+-- one iteration of the walk over an array
 pub texts-turn : (found : Option (List (List ℕ))) (names names' : List (Bor (List ℕ))) (items : List Value) (i : ℕ) (value : Value) (name : Bor (List ℕ))
     → i < length items → value ≡ get_or items i value → as_str (view value) ≡ Some name.now → names' ≡ names ++ name ∷ []
     → found ≡ onto (texts_of names) (texts (items_view (drop i items))) → found ≡ onto (texts_of names') (texts (items_view (drop (i + 1) items)))

@@ -1,4 +1,4 @@
--- Texts of numbers, of full names and of whos.
+-- Texts of numbers, of full names and of principals.
 use Rattle.std.proofs.Common.{◌≡◌, ℕ, zero, suc, ◌+◌, ◌-◌, ◌*◌, ◌^◌, ◌<◌, ◌≤◌, ◌==◌, nat_lt, nat_le, Bool, true, false, not, cond, ◌&&◌, List, [], ◌∷◌, ◌++◌, length, take, drop, get_or, codes, Option, Some, None, option_map, MatchOption, Decides, refl, ap, ◌∙◌, sym, subst, append_assoc, arith, rules, inl, inr, ◌⊎◌, ◌↔◌, Bor, lit<}
 use Rattle.std.specs.Bool.{nat_eq}
 use Rattle.std.specs.Option.{option_or}
@@ -22,7 +22,7 @@ use Rattle.who_book.specs.Content.{Content, IsBook, table_of}
 use Rattle.who_book.specs.Names.{Rows, name_at, number_at, is_name, has_at, is_word, IsTable}
 use Rattle.acl_list.specs.declared.entry.Who.{Who}
 use Rattle.acl_list.specs.declared.entry.Who.TheVariants.{Owner, Group, Everyone, User, GroupOf}
-use Rattle.who_book.specs.Spelling.{value_after, is_short, number_in, full_name, named_in, special_in, principal_in, principal_text, text_for, who_in, who_text, kind_of, named_who, Spells, SpellsWho, IsUnder}
+use Rattle.who_book.specs.Spelling.{value_after, is_short, number_in, full_name, named_in, special_in, principal_in, principal_text, text_for, ace_principal_in, ace_principal_text, kind_of, named_principal, Spells, SpellsPrincipal, IsUnder}
 use Rattle.who_book.specs.declared.kind.NameKind.{NameKind}
 use Rattle.who_book.specs.declared.kind.NameKind.TheVariants as kinds
 
@@ -237,21 +237,21 @@ spells kind book text n is =
 -- a text without its end
 pub strip_cases : (text end : List ℕ) (r : Option (Bor (List ℕ)))
     → MatchOption r (bytes_eq (drop (length text - length end) text) end ≡ false) (λ x. (bytes_eq (drop (length text - length end) text) end ≡ true) × (x.now ≡ take (length text - length end) text) × (length x.now + length end ≡ length text))
-    → MatchOption r ((front : List ℕ) → text ≡ front ++ end → ⊥) (λ front. text ≡ front.now ++ end)
-strip_cases text end None h = λ front is.
-    let cut : length (front ++ end) - length end ≡ length front = omega (arith, length-append front end) in
-    let rest : drop (length text - length end) text ≡ end = rw (is, cut, drop_at front end (length front) refl) refl in
+    → MatchOption r ((prefix : List ℕ) → text ≡ prefix ++ end → ⊥) (λ prefix. text ≡ prefix.now ++ end)
+strip_cases text end None h = λ prefix is.
+    let cut : length (prefix ++ end) - length end ≡ length prefix = omega (arith, length-append prefix end) in
+    let rest : drop (length text - length end) text ≡ end = rw (is, cut, drop_at prefix end (length prefix) refl) refl in
     false≢true (sym h ∙ (bytes_eq-Decides _ end).1 rest)
 strip_cases text end (Some x) h = sym (take-append-drop (length text - length end) text) ∙ rw ((bytes_eq-Decides _ end).0 h.0, h.1) refl
 
-pub domain_none : (text domain : List ℕ) → ((front : List ℕ) → text ≡ front ++ domain → ⊥) → (name : List ℕ) → text ≡ full_name name domain → ⊥
+pub domain_none : (text domain : List ℕ) → ((prefix : List ℕ) → text ≡ prefix ++ domain → ⊥) → (name : List ℕ) → text ≡ full_name name domain → ⊥
 domain_none text domain h name is = h (name ++ 64 ∷ []) (is ∙ sym (append_assoc name (64 ∷ []) domain))
 
-pub domain_other : (text front domain : List ℕ) → text ≡ front ++ domain → ((name : List ℕ) → front ≡ name ++ 64 ∷ [] → ⊥) → (name : List ℕ) → text ≡ full_name name domain → ⊥
-domain_other text front domain parts h name is = h name (append_cancel_right front (name ++ 64 ∷ []) domain (sym parts ∙ is ∙ sym (append_assoc name (64 ∷ []) domain)))
+pub domain_other : (text prefix domain : List ℕ) → text ≡ prefix ++ domain → ((name : List ℕ) → prefix ≡ name ++ 64 ∷ [] → ⊥) → (name : List ℕ) → text ≡ full_name name domain → ⊥
+domain_other text prefix domain parts h name is = h name (append_cancel_right prefix (name ++ 64 ∷ []) domain (sym parts ∙ is ∙ sym (append_assoc name (64 ∷ []) domain)))
 
-pub domain_some : (text front name domain : List ℕ) → text ≡ front ++ domain → front ≡ name ++ 64 ∷ [] → text ≡ full_name name domain
-domain_some text front name domain parts is = parts ∙ rw is (append_assoc name (64 ∷ []) domain)
+pub domain_some : (text prefix name domain : List ℕ) → text ≡ prefix ++ domain → prefix ≡ name ++ 64 ∷ [] → text ≡ full_name name domain
+domain_some text prefix name domain parts is = parts ∙ rw is (append_assoc name (64 ∷ []) domain)
 
 -- digits
 
@@ -272,17 +272,17 @@ value-end digits i value over small each so_far =
     let is : value_after 0 digits ≡ value = rw (drop_all i digits over) at so_far in
     rw (digit, is, lt-ltb value 4294967296 small) refl
 
-pub domain_cases : (text front domain : List ℕ) (r : Option (Bor (List ℕ))) → text ≡ front ++ domain
-    → MatchOption r ((name : List ℕ) → front ≡ name ++ 64 ∷ [] → ⊥) (λ name. front ≡ name.now ++ 64 ∷ [])
+pub domain_cases : (text prefix domain : List ℕ) (r : Option (Bor (List ℕ))) → text ≡ prefix ++ domain
+    → MatchOption r ((name : List ℕ) → prefix ≡ name ++ 64 ∷ [] → ⊥) (λ name. prefix ≡ name.now ++ 64 ∷ [])
     → MatchOption r ((name : List ℕ) → text ≡ full_name name domain → ⊥) (λ name. text ≡ full_name name.now domain)
-domain_cases text front domain None parts h = domain_other text front domain parts h
-domain_cases text front domain (Some name) parts h = domain_some text front name.now domain parts h
+domain_cases text prefix domain None parts h = domain_other text prefix domain parts h
+domain_cases text prefix domain (Some name) parts h = domain_some text prefix name.now domain parts h
 
 pub group_flag : (flags : ℕ) → has_bit flags 6 ≡ not (bit_and flags 64 == 0)
 unfolding has_bit
 group_flag flags = let e = and_pow flags 6 in let small : bit_at flags 6 < 2 = bit_at-lt flags 6 in grind (arith, nat_tests)
 
--- the answers of a reading
+-- the results of a reading
 
 pub principal_digits : (kind : NameKind) (book : Content) (text : List ℕ) (n : ℕ) → number_in text ≡ Some n → Some n ≡ principal_in kind book text
 unfolding principal_in
@@ -373,15 +373,15 @@ kind_fits kind book n name is found = name_fits (table_of kind book) n name (tab
 pub domain_fits : (book : Content) → IsBook book → length book.domain ≤ 128
 domain_fits book is = word_fits 128 book.domain is.domain_is_word
 
--- whos
+-- principals
 
-pub who_read_back : (flags : ℕ) (book : Content) (who : Who) → IsBook book → IsUnder flags who → who_in flags book (who_text book who) ≡ Some who
-unfolding who_in
-who_read_back flags book Owner is under = refl
-who_read_back flags book Group is under = refl
-who_read_back flags book Everyone is under = refl
-who_read_back flags book (User n) is under = rw (principal_plain kinds.User book n is under.0, under.1, read_back kinds.User book n is under.0) refl
-who_read_back flags book (GroupOf n) is under = rw (principal_plain kinds.Group book n is under.0, under.1, read_back kinds.Group book n is under.0) refl
+pub principal_read_back : (flags : ℕ) (book : Content) (who : Who) → IsBook book → IsUnder flags who → ace_principal_in flags book (ace_principal_text book who) ≡ Some who
+unfolding ace_principal_in
+principal_read_back flags book Owner is under = refl
+principal_read_back flags book Group is under = refl
+principal_read_back flags book Everyone is under = refl
+principal_read_back flags book (User n) is under = rw (principal_plain kinds.User book n is under.0, under.1, read_back kinds.User book n is under.0) refl
+principal_read_back flags book (GroupOf n) is under = rw (principal_plain kinds.Group book n is under.0, under.1, read_back kinds.Group book n is under.0) refl
 
 pub found_some : (r : Option (Bor (List ℕ))) (x : Bor (List ℕ)) (o : Option (List ℕ)) → r ≡ Some x → option_map (λ name. name.now) r ≡ o → o ≡ Some x.now
 found_some r x o is value = sym value ∙ ap (option_map (λ name. name.now)) is
@@ -395,76 +395,76 @@ text_read_back kind book n text is small same = rw same (read_back kind book n i
 pub text_plain : (kind : NameKind) (book : Content) (n : ℕ) (text : List ℕ) → IsBook book → n < 2 ^ 32 → text ≡ principal_text kind book n → special_in text ≡ None
 text_plain kind book n text is small same = rw same (principal_plain kind book n is small)
 
-pub who_of_user : (flags : ℕ) (book : Content) (n : ℕ) (text : List ℕ) → special_in text ≡ None → principal_in kinds.User book text ≡ Some n → IsUnder flags (User n) → who_in flags book text ≡ Some (User n)
-unfolding who_in
-who_of_user flags book n text plain found under = rw (plain, under.1, found) refl
+pub principal_of_user : (flags : ℕ) (book : Content) (n : ℕ) (text : List ℕ) → special_in text ≡ None → principal_in kinds.User book text ≡ Some n → IsUnder flags (User n) → ace_principal_in flags book text ≡ Some (User n)
+unfolding ace_principal_in
+principal_of_user flags book n text plain found under = rw (plain, under.1, found) refl
 
-pub who_of_group : (flags : ℕ) (book : Content) (n : ℕ) (text : List ℕ) → special_in text ≡ None → principal_in kinds.Group book text ≡ Some n → IsUnder flags (GroupOf n) → who_in flags book text ≡ Some (GroupOf n)
-unfolding who_in
-who_of_group flags book n text plain found under = rw (plain, under.1, found) refl
+pub principal_of_group : (flags : ℕ) (book : Content) (n : ℕ) (text : List ℕ) → special_in text ≡ None → principal_in kinds.Group book text ≡ Some n → IsUnder flags (GroupOf n) → ace_principal_in flags book text ≡ Some (GroupOf n)
+unfolding ace_principal_in
+principal_of_group flags book n text plain found under = rw (plain, under.1, found) refl
 
-pub who_of_special : (flags : ℕ) (book : Content) (who : Who) (text : List ℕ) → special_in text ≡ Some who → who_in flags book text ≡ Some who
-unfolding who_in
-who_of_special flags book who text is = rw is refl
+pub principal_of_special : (flags : ℕ) (book : Content) (who : Who) (text : List ℕ) → special_in text ≡ Some who → ace_principal_in flags book text ≡ Some who
+unfolding ace_principal_in
+principal_of_special flags book who text is = rw is refl
 
--- a text is read as a who exactly where it is its spelling
+-- a text is read as a principal if and only if it is its spelling
 
 spelled_plain : (kind : NameKind) (book : Content) (text : List ℕ) (n : ℕ) → IsBook book → Spells kind book text n → special_in text ≡ None
 spelled_plain kind book text n is (inl digits) = let wide : n < 2 ^ 64 = omega (arith, digits.0) in special_none text (rw digits.1 (last_at-digits (decimal n) (digits_decimal own n wide)))
 spelled_plain kind book text n is (inr named) = special_none text (rw named.2 (last_at-full named.0 book.domain is.domain_is_word))
 
-pub who_spells_to : (flags : ℕ) (book : Content) (text : List ℕ) (who : Who) → IsBook book → SpellsWho flags book text who → who_in flags book text ≡ Some who
-unfolding who_in
-who_spells_to flags book text Owner is spelled = rw spelled refl
-who_spells_to flags book text Group is spelled = rw spelled refl
-who_spells_to flags book text Everyone is spelled = rw spelled refl
-who_spells_to flags book text (User n) is spelled = rw (spelled_plain kinds.User book text n is spelled.1, spelled.0, (spells kinds.User book text n is).1 spelled.1) refl
-who_spells_to flags book text (GroupOf n) is spelled = rw (spelled_plain kinds.Group book text n is spelled.1, spelled.0, (spells kinds.Group book text n is).1 spelled.1) refl
+pub principal_spells_to : (flags : ℕ) (book : Content) (text : List ℕ) (who : Who) → IsBook book → SpellsPrincipal flags book text who → ace_principal_in flags book text ≡ Some who
+unfolding ace_principal_in
+principal_spells_to flags book text Owner is spelled = rw spelled refl
+principal_spells_to flags book text Group is spelled = rw spelled refl
+principal_spells_to flags book text Everyone is spelled = rw spelled refl
+principal_spells_to flags book text (User n) is spelled = rw (spelled_plain kinds.User book text n is spelled.1, spelled.0, (spells kinds.User book text n is).1 spelled.1) refl
+principal_spells_to flags book text (GroupOf n) is spelled = rw (spelled_plain kinds.Group book text n is spelled.1, spelled.0, (spells kinds.Group book text n is).1 spelled.1) refl
 
-same_who : {x y : Who} → Some x ≡ Some y → x ≡ y
-same_who h = cc
+same_principal : {x y : Who} → Some x ≡ Some y → x ≡ y
+same_principal h = cc
 
-or_who : (o p : Option Who) (who : Who) → option_or o p ≡ Some who → (o ≡ Some who) ⊎ (p ≡ Some who)
-or_who None p who h = inr h
-or_who (Some x) p who h = inl h
+or_principal : (o p : Option Who) (who : Who) → option_or o p ≡ Some who → (o ≡ Some who) ⊎ (p ≡ Some who)
+or_principal None p who h = inr h
+or_principal (Some x) p who h = inl h
 
 map_parts : (f : ℕ → Who) (o : Option ℕ) (who : Who) → option_map f o ≡ Some who → (n : ℕ) × (o ≡ Some n) × (f n ≡ who)
 map_parts f None who h = cc
-map_parts f (Some n) who h = (n, refl, same_who h)
+map_parts f (Some n) who h = (n, refl, same_principal h)
 
-special_parts : (flags : ℕ) (book : Content) (text : List ℕ) (who : Who) → special_in text ≡ Some who → SpellsWho flags book text who
+special_parts : (flags : ℕ) (book : Content) (text : List ℕ) (who : Who) → special_in text ≡ Some who → SpellsPrincipal flags book text who
 special_parts flags book text who found =
-    let P : Who → Type 0 = SpellsWho flags book text in
+    let P : Who → Type 0 = SpellsPrincipal flags book text in
     elim (cases_Bool (bytes_eq text (codes "OWNER@"))) [
-      | inl is ↦ subst P (same_who (rw is at found)) ((bytes_eq-Decides text (codes "OWNER@")).0 is)
+      | inl is ↦ subst P (same_principal (rw is at found)) ((bytes_eq-Decides text (codes "OWNER@")).0 is)
       | inr no_owner ↦ elim (cases_Bool (bytes_eq text (codes "GROUP@"))) [
-        | inl is ↦ subst P (same_who (rw (no_owner, is) at found)) ((bytes_eq-Decides text (codes "GROUP@")).0 is)
+        | inl is ↦ subst P (same_principal (rw (no_owner, is) at found)) ((bytes_eq-Decides text (codes "GROUP@")).0 is)
         | inr no_group ↦ elim (cases_Bool (bytes_eq text (codes "EVERYONE@"))) [
-          | inl is ↦ subst P (same_who (rw (no_owner, no_group, is) at found)) ((bytes_eq-Decides text (codes "EVERYONE@")).0 is)
+          | inl is ↦ subst P (same_principal (rw (no_owner, no_group, is) at found)) ((bytes_eq-Decides text (codes "EVERYONE@")).0 is)
           | inr no_everyone ↦ let none : None ≡ Some who = rw (no_owner, no_group, no_everyone) at found in cc
         ]
       ]
     ]
 
-named_who_parts : (flags : ℕ) (book : Content) (text : List ℕ) (who : Who) → IsBook book
-    → option_map (named_who (kind_of flags)) (principal_in (kind_of flags) book text) ≡ Some who → SpellsWho flags book text who
-named_who_parts flags book text who is found =
-    let P : Who → Type 0 = SpellsWho flags book text in
+named_principal_parts : (flags : ℕ) (book : Content) (text : List ℕ) (who : Who) → IsBook book
+    → option_map (named_principal (kind_of flags)) (principal_in (kind_of flags) book text) ≡ Some who → SpellsPrincipal flags book text who
+named_principal_parts flags book text who is found =
+    let P : Who → Type 0 = SpellsPrincipal flags book text in
     elim (cases_Bool (has_bit flags 6)) [
       | inl group ↦
-          let (n, read, same) = map_parts (named_who kinds.Group) (principal_in kinds.Group book text) who (rw group at found) in
+          let (n, read, same) = map_parts (named_principal kinds.Group) (principal_in kinds.Group book text) who (rw group at found) in
           subst P same (group, (spells kinds.Group book text n is).0 read)
       | inr user ↦
-          let (n, read, same) = map_parts (named_who kinds.User) (principal_in kinds.User book text) who (rw user at found) in
+          let (n, read, same) = map_parts (named_principal kinds.User) (principal_in kinds.User book text) who (rw user at found) in
           subst P same (user, (spells kinds.User book text n is).0 read)
     ]
 
-pub who_spells : (flags : ℕ) (book : Content) (text : List ℕ) (who : Who) → IsBook book → (who_in flags book text ≡ Some who) ↔ SpellsWho flags book text who
-unfolding who_in
-who_spells flags book text who is = (
-  λ found. elim (or_who (special_in text) _ who found) [
+pub principal_spells : (flags : ℕ) (book : Content) (text : List ℕ) (who : Who) → IsBook book → (ace_principal_in flags book text ≡ Some who) ↔ SpellsPrincipal flags book text who
+unfolding ace_principal_in
+principal_spells flags book text who is = (
+  λ found. elim (or_principal (special_in text) _ who found) [
     | inl special ↦ special_parts flags book text who special
-    | inr named ↦ named_who_parts flags book text who is named
+    | inr named ↦ named_principal_parts flags book text who is named
   ],
-  who_spells_to flags book text who is,
+  principal_spells_to flags book text who is,
 )

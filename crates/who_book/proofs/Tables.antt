@@ -15,7 +15,7 @@ use Rattle.std.proofs.lemmas.Cmp.{nat_list_cmp_total}
 use Rattle.std.proofs.lemmas.List.{drop_more, drop_all, length-map, append-nil}
 use Rattle.std.proofs.lemmas.List.Folds.{find-append}
 use Rattle.std.proofs.lemmas.Map.Text.{is_eq-slice_cmp}
-use Rattle.who_book.specs.Document.{is_row, is_table, is_up_to, natural, naturals, repeats}
+use Rattle.who_book.specs.Document.{is_row, is_table, is_up_to, natural, naturals, has_duplicates}
 use Rattle.who_book.specs.Indexes.{rows_in, name_in, AreIndexes}
 use Rattle.who_book.specs.Names.{Rows, name_at, number_at, is_name, IsTable}
 use Rattle.who_book.specs.Outlines.{rows_of, IsAscending}
@@ -37,7 +37,7 @@ insert-last (e ∷ es) key number below =
     let above : slice_cmp nat_cmp key.items e.0.items ≡ Greater = nat_list_cmp_total.antisymm key.items e.0.items ∙ ap ordering_reverse below.0 in
     rw above (ap (λ rest. (e.0.items, e.1) ∷ rest) (insert-last es key number below.1))
 
--- one turn over the rows
+-- one iteration over the rows
 pub naturals-turn : (all done : Rows) (rows : List Row) (i : ℕ) (d : Row) → i < length rows
     → all ≡ done ++ naturals (rows_of (drop i rows))
     → all ≡ done ++ ((get_or rows i d).name.now, natural (get_or rows i d).number) ∷ naturals (rows_of (drop (i + 1) rows))
@@ -102,22 +102,22 @@ found_cases : (b : Bool) (r : List ℕ × ℕ) (o : Option (List ℕ × ℕ)) �
 found_cases true r o some = inl refl
 found_cases false r o some = inr some
 
-pub repeats-found : (rows : Rows) (name : List ℕ) (number : ℕ) (more : Rows) → IsSome (name_at number rows) → repeats (values_of (rows ++ (name, number) ∷ more)) ≡ true
-repeats-found [] name number more some = absurd (false≢true some)
-repeats-found (r ∷ rows) name number more some =
+pub has_duplicates-found : (rows : Rows) (name : List ℕ) (number : ℕ) (more : Rows) → IsSome (name_at number rows) → has_duplicates (values_of (rows ++ (name, number) ∷ more)) ≡ true
+has_duplicates-found [] name number more some = absurd (false≢true some)
+has_duplicates-found (r ∷ rows) name number more some =
     elim (found_cases (r.1 == number) r _ some) [
       | inl same ↦ or_left _ _ (any_middle (nat_eq r.1) rows (name, number) more same)
-      | inr later ↦ or_right _ _ (repeats-found rows name number more later)
+      | inr later ↦ or_right _ _ (has_duplicates-found rows name number more later)
     ]
 
-pub repeats-push : (rows : Rows) (name : List ℕ) (number : ℕ) → name_at number rows ≡ None → repeats (values_of rows) ≡ false → repeats (values_of (rows ++ (name, number) ∷ [])) ≡ false
-repeats-push [] name number absent apart = refl
-repeats-push (r ∷ rows) name number absent apart =
+pub has_duplicates-push : (rows : Rows) (name : List ℕ) (number : ℕ) → name_at number rows ≡ None → has_duplicates (values_of rows) ≡ false → has_duplicates (values_of (rows ++ (name, number) ∷ [])) ≡ false
+has_duplicates-push [] name number absent apart = refl
+has_duplicates-push (r ∷ rows) name number absent apart =
     let (here, later) = absent_parts (r.1 == number) r _ absent in
     let (first, rest) = or_parts (list_any (nat_eq r.1) (values_of rows)) _ apart in
-    or_from _ _ (any_push (nat_eq r.1) rows (name, number) first here) (repeats-push rows name number later rest)
+    or_from _ _ (any_push (nat_eq r.1) rows (name, number) first here) (has_duplicates-push rows name number later rest)
 
--- the rows of a table in range, which ascend and repeat no number, are a table
+-- the rows of a table in range are a table, if they ascend and no number occurs twice
 apart_from_less : (k : List ℕ) (ks : List (List ℕ)) → AllByRecursion (λ y. slice_cmp nat_cmp k y ≡ Less) ks → AllByRecursion (λ y. bytes_eq k y ≡ false) ks
 apart_from_less k [] h = tt
 apart_from_less k (y ∷ ks) h = (sym (is_eq-slice_cmp k y) ∙ ap is_eq h.0, apart_from_less k ks h.1)
@@ -132,7 +132,7 @@ none_from_any test [] h = tt
 none_from_any test (n ∷ ns) h =
     let (first, rest) = or_parts (test n) _ h in (first, none_from_any test ns rest)
 
-distinct_numbers : (ns : List ℕ) → repeats ns ≡ false → IsDistinct nat_eq ns
+distinct_numbers : (ns : List ℕ) → has_duplicates ns ≡ false → IsDistinct nat_eq ns
 unfolding IsDistinct
 distinct_numbers [] h = tt
 distinct_numbers (n ∷ ns) h =
@@ -154,7 +154,7 @@ all_numbered (row ∷ rows) h =
     let (first, rest) = and_parts (is_row row) _ h in
     rw (natural_fits row.1 (and_parts (is_name row.0) _ first).1) (all_numbered rows rest)
 
-pub table_from : (rows : List (List ℕ × ℤ)) → is_table rows ≡ true → IsAscending rows → repeats (values_of (naturals rows)) ≡ false → IsTable (naturals rows)
+pub table_from : (rows : List (List ℕ × ℤ)) → is_table rows ≡ true → IsAscending rows → has_duplicates (values_of (naturals rows)) ≡ false → IsTable (naturals rows)
 table_from rows fit ascending apart =
     let (few, each) = and_parts (nat_le (length rows) 1024) _ fit in
     let P : List (List ℕ) → Type 0 = IsDistinct bytes_eq in
@@ -184,7 +184,7 @@ empty_indexes numbers names no_numbers no_names = record {
 -- the indexes after a walk over all rows
 pub full_indexes : (numbers : BTreeMap (Vec ℕ Global) ℕ) (names : BTreeMap ℕ (String Global)) (rows : List (List ℕ × ℤ))
     → is_table rows ≡ true → IsAscending rows → naturals rows ≡ rows_in numbers.entries
-    → ((n : ℕ) → name_in names n ≡ name_at n (rows_in numbers.entries)) → repeats (values_of (rows_in numbers.entries)) ≡ false → AreIndexes numbers names
+    → ((n : ℕ) → name_in names n ≡ name_at n (rows_in numbers.entries)) → has_duplicates (values_of (rows_in numbers.entries)) ≡ false → AreIndexes numbers names
 full_indexes numbers names rows fit ascending all both apart =
     let P : Rows → Type 0 = IsTable in
     record {
@@ -192,7 +192,7 @@ full_indexes numbers names rows fit ascending all both apart =
       both_ways = both;
     }
 
--- one turn of the walk that fills both indexes
+-- one iteration of the walk that fills both indexes
 pub rest-turn : (all old new : Rows) (rows : List Row) (i : ℕ) (d : Row) (number : ℕ) → i < length rows → number ≡ natural (get_or rows i d).number
     → new ≡ old ++ ((get_or rows i d).name.now, number) ∷ [] → all ≡ old ++ naturals (rows_of (drop i rows)) → all ≡ new ++ naturals (rows_of (drop (i + 1) rows))
 rest-turn all old new rows i d number within is added so_far =
@@ -204,13 +204,13 @@ both-turn old new before after name number added absent changed both n =
     changed n ∙ ap (cond (number == n) (Some name)) (both n) ∙ sym (rw added (name_at-push name number old (sym (both number) ∙ absent) n))
 
 pub apart-turn : (old new : Rows) (name : List ℕ) (number : ℕ) → new ≡ old ++ (name, number) ∷ [] → name_at number old ≡ None
-    → repeats (values_of old) ≡ false → repeats (values_of new) ≡ false
-apart-turn old new name number added absent apart = rw added (repeats-push old name number absent apart)
+    → has_duplicates (values_of old) ≡ false → has_duplicates (values_of new) ≡ false
+apart-turn old new name number added absent apart = rw added (has_duplicates-push old name number absent apart)
 
 pub rest-end : (all done : Rows) (rows : List Row) (i : ℕ) → length rows ≤ i → all ≡ done ++ naturals (rows_of (drop i rows)) → all ≡ done
 rest-end all done rows i over so_far = (rw (drop_all i rows over) at so_far) ∙ append-nil done
 
 pub twice-turn : (all old : Rows) (rows : List Row) (i : ℕ) (d : Row) (number : ℕ) (before : Option (List ℕ)) → i < length rows → number ≡ natural (get_or rows i d).number
-    → all ≡ old ++ naturals (rows_of (drop i rows)) → before ≡ name_at number old → IsSome before → repeats (values_of all) ≡ true
+    → all ≡ old ++ naturals (rows_of (drop i rows)) → before ≡ name_at number old → IsSome before → has_duplicates (values_of all) ≡ true
 twice-turn all old rows i d number before within is so_far both some =
-    rw (naturals-turn all old rows i d within so_far, ← is) (repeats-found old _ number _ (rw both at some))
+    rw (naturals-turn all old rows i d within so_far, ← is) (has_duplicates-found old _ number _ (rw both at some))

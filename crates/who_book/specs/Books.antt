@@ -5,7 +5,7 @@ use Rattle.who_book.specs.Content.{Content}
 use Rattle.who_book.specs.Indexes.{memberships_in}
 use Rattle.who_book.specs.declared.book.Book.TheInside.{Inside}
 
--- the domain that is kept; `None` stands for that without a book
+-- the domain that is kept; `None` represents the domain of a server without a book
 abbrev pub domain_of : Option (String Global) → List ℕ
 domain_of None = codes "localdomain"
 domain_of (Some domain) = string_bytes domain

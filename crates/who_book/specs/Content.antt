@@ -1,5 +1,4 @@
--- The content of a book: a domain, the root's owner, group and mode, two tables of names, and the
--- users that are in each group.
+-- The content of a book: a domain, the root's owner, group and mode, two tables of names, and the users of each group.
 use Rattle.std.specs.Prelude.{◌≡◌, ℕ, ◌≤◌, Bool, true, List, [], Option, None, codes}
 use Rattle.who_book.specs.Names.{Rows, IsTable, is_word}
 use Rattle.who_book.specs.declared.kind.NameKind.{NameKind}
@@ -9,7 +8,7 @@ use Rattle.who_book.specs.declared.kind.NameKind.TheVariants.{User, Group}
 abbrev pub Memberships : Type 0
 Memberships = List (ℕ × List ℕ)
 
--- `members` is None where callers keep the groups that they send
+-- `members` is None if callers keep the groups that they send
 pub record Content : Type 0 where
   pub domain : List ℕ
   pub root_owner : ℕ
@@ -41,7 +40,7 @@ nameless = record {
   members = None;
 }
 
--- the table of a kind
+-- the table of names of this kind
 abbrev pub table_of : NameKind → Content → Rows
 table_of User book = book.users
 table_of Group book = book.groups

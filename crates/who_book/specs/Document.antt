@@ -39,7 +39,7 @@ known_keys =
 abbrev pub is_known : List ℕ → Bool
 is_known key = list_any (bytes_eq key) known_keys
 
--- each key is one of these
+-- each key is a known one
 abbrev pub has_known_keys : Members → Bool
 has_known_keys no_members = true
 has_known_keys (member key value more) = is_known key && has_known_keys more
@@ -94,7 +94,7 @@ rolls_in value = as_table value >>= rolls
 abbrev pub rolls_at : List ℕ → Members → Option (Option Rolls)
 rolls_at key document = if_there rolls_in (get_member key document)
 
--- the keys of a document, if each has its type, none but `members` is missing, and no other key is there
+-- the keys of a document, if each has its type, none but `members` is missing, and there is no other key
 unfoldable pub outline : Members → Option Outline
 outline document = if not (has_known_keys document) then None else do
   domain ← text_at (codes "domain") document
@@ -129,17 +129,17 @@ is_table rows = nat_le (length rows) 1024 && list_all is_row rows
 
 -- 4095 is 07777 in octal
 unfoldable pub is_in_range : Outline → Bool
-is_in_range said =
-    (is_domain said.domain
-    && (is_up_to 4294967295 said.root_owner && (is_up_to 4294967295 said.root_group && is_up_to 4095 said.root_mode)))
-    && (is_table said.users && is_table said.groups)
+is_in_range stated =
+    (is_domain stated.domain
+    && (is_up_to 4294967295 stated.root_owner && (is_up_to 4294967295 stated.root_group && is_up_to 4095 stated.root_mode)))
+    && (is_table stated.users && is_table stated.groups)
 
 -- Twice
 
--- some number is there twice
-abbrev pub repeats : List ℕ → Bool
-repeats [] = false
-repeats (n ∷ ns) = list_any (nat_eq n) ns || repeats ns
+-- some number occurs twice
+abbrev pub has_duplicates : List ℕ → Bool
+has_duplicates [] = false
+has_duplicates (n ∷ ns) = list_any (nat_eq n) ns || has_duplicates ns
 
 -- The book
 
@@ -151,66 +151,66 @@ abbrev pub naturals : List (List ℕ × ℤ) → Rows
 naturals rows = map (λ row. (row.0, natural row.1)) rows
 
 abbrev pub content : Outline → Content
-content said = record {
-  domain = said.domain;
-  root_owner = natural said.root_owner;
-  root_group = natural said.root_group;
-  root_mode = natural said.root_mode;
-  users = naturals said.users;
-  groups = naturals said.groups;
-  members = option_map (memberships (naturals said.users) (naturals said.groups)) said.members;
+content stated = record {
+  domain = stated.domain;
+  root_owner = natural stated.root_owner;
+  root_group = natural stated.root_group;
+  root_mode = natural stated.root_mode;
+  users = naturals stated.users;
+  groups = naturals stated.groups;
+  members = option_map (memberships (naturals stated.users) (naturals stated.groups)) stated.members;
 }
 
--- some table has two names for one number
+-- some table has two names with the same number
 abbrev pub has_twins : Content → Bool
-has_twins said = repeats (values_of said.users) || repeats (values_of said.groups)
+has_twins stated = has_duplicates (values_of stated.users) || has_duplicates (values_of stated.groups)
 
--- the value of `members`, if the key is there, agrees with the two tables
+-- the value of `members`, if the document has the key, agrees with the two tables
 abbrev pub agrees : Rows → Rows → Option Rolls → Bool
 agrees users groups None = true
 agrees users groups (Some rolls) = are_rolls users groups rolls
 
 -- the book of values in range
 abbrev pub filled : Outline → Result Content BookFault
-filled said =
-    if has_twins (content said) then Err Twice
-    else if not (agrees (naturals said.users) (naturals said.groups) said.members) then Err Member
-    else Ok (content said)
+filled stated =
+    if has_twins (content stated) then Err Twice
+    else if not (agrees (naturals stated.users) (naturals stated.groups) stated.members) then Err Member
+    else Ok (content stated)
 
-abbrev pub said_by : Option Outline → Result Content BookFault
-said_by None = Err Shape
-said_by (Some said) =
-    if not (is_in_range said) then Err Range else filled said
+abbrev pub outline_by : Option Outline → Result Content BookFault
+outline_by None = Err Shape
+outline_by (Some stated) =
+    if not (is_in_range stated) then Err Range else filled stated
 
 -- the book of a document, or its first fault
 abbrev pub book_in : Option Members → Result Content BookFault
 book_in None = Err Text
-book_in (Some document) = said_by (outline document)
+book_in (Some document) = outline_by (outline document)
 
 -- the book of a text, or its first fault
 abbrev pub book_of : List ℕ → Result Content BookFault
 book_of text = book_in (parse_document text)
 
--- the book of a server with this text, or its first fault; where there is no text, that of a server without a book
+-- the book of a server with this text, or its first fault; without a text, the book of a server without one
 abbrev pub book_from : Option (List ℕ) → Result Content BookFault
 book_from None = Ok nameless
 book_from (Some text) = book_of text
 
--- a reader's answer to a text: its book or fault, or that memory ran out
+-- a reader's result for a text: its book or fault, or out of memory
 abbrev pub Answers : List ℕ → Result Content BookFault → Type 0
 Answers text (Ok book) = book_of text ≡ Ok book
 Answers text (Err fault) = (fault ≡ Memory) ⊎ (book_of text ≡ Err fault)
 
--- so of a text that may be missing
+-- the same for a text that may be missing
 abbrev pub AnswersFrom : Option (List ℕ) → Result Content BookFault → Type 0
 AnswersFrom text (Ok book) = book_from text ≡ Ok book
 AnswersFrom text (Err fault) = (fault ≡ Memory) ⊎ (book_from text ≡ Err fault)
 
--- the answer by the reader's steps: that the text is TOML, and the book of values in range
+-- the results of the reader's steps: parsing the text as TOML, and making the book of values in range
 abbrev pub Parses : {T : Type 0} → (T → Members) → List ℕ → Result T BookFault → Type 0
-Parses shows text (Ok table) = parse_document text ≡ Some (shows table)
-Parses shows text (Err fault) = (fault ≡ Memory) ⊎ ((fault ≡ Text) × (parse_document text ≡ None))
+Parses states text (Ok table) = parse_document text ≡ Some (states table)
+Parses states text (Err fault) = (fault ≡ Memory) ⊎ ((fault ≡ Text) × (parse_document text ≡ None))
 
 abbrev pub Fills : Outline → Result Content BookFault → Type 0
-Fills said (Ok book) = filled said ≡ Ok book
-Fills said (Err fault) = (fault ≡ Memory) ⊎ (filled said ≡ Err fault)
+Fills stated (Ok book) = filled stated ≡ Ok book
+Fills stated (Err fault) = (fault ≡ Memory) ⊎ (filled stated ≡ Err fault)

@@ -1,4 +1,4 @@
--- The groups that a book gives its users in place of those that they send.
+-- The groups that a book gives its users, in place of those that they send.
 use Rattle.std.specs.Prelude.{ℕ, nat_le, Bool, false, not, ◌&&◌, ◌||◌, if◌then◌else◌, List, [], ◌∷◌, map, length}
 use Rattle.std.specs.Prelude.{Option, Some, None, unwrap_or}
 use Rattle.std.specs.List.{list_any, list_all, filter_map}
@@ -17,7 +17,7 @@ abbrev pub gid_among : List ℕ → ℕ → ℕ
 gid_among [] gid = 65534
 gid_among (least ∷ groups) gid = if has_group (least ∷ groups) gid then gid else least
 
--- the groups of a user by its number, and none where it has no name
+-- the groups of a user by its number; none if the number has no name
 abbrev pub groups_at : ℕ → Memberships → List ℕ
 groups_at uid members = unwrap_or (lookup (nat_eq uid) members) []
 
@@ -29,7 +29,7 @@ abbrev pub groups_by : Option Memberships → Identity → List ℕ
 groups_by None caller = caller.groups
 groups_by (Some members) caller = groups_at caller.uid members
 
--- the caller as sent where the book has no memberships, else its user with the groups that these give it
+-- the caller as sent if the book has no memberships, else its user with the groups that these give it
 unfoldable pub member : Content → Identity → Identity
 member book caller = record {
   uid = caller.uid;
@@ -57,17 +57,17 @@ memberships users groups rolls = map (λ user. (user.1, group_set (numbers_with 
 
 -- The rolls that are refused
 
--- some name is there twice
-abbrev pub repeats_name : List (List ℕ) → Bool
-repeats_name [] = false
-repeats_name (name ∷ names) = is_among names name || repeats_name names
+-- some name occurs twice
+abbrev pub has_duplicate : List (List ℕ) → Bool
+has_duplicate [] = false
+has_duplicate (name ∷ names) = is_among names name || has_duplicate names
 
 abbrev pub is_named : Rows → List ℕ → Bool
 is_named rows name = is_some (number_at name rows)
 
--- each name is a user's, and none is there twice
+-- each name is a user's, and none occurs twice
 abbrev pub are_users : Rows → List (List ℕ) → Bool
-are_users users names = list_all (is_named users) names && not (repeats_name names)
+are_users users names = list_all (is_named users) names && not (has_duplicate names)
 
 -- the book has the group and the users of its array
 abbrev pub is_roll : Rows → Rows → List ℕ × List (List ℕ) → Bool

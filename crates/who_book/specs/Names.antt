@@ -1,4 +1,4 @@
--- A table of names: a list of rows, each a name and its number.
+-- A table of names: rows, each of which has a name and its number.
 use Rattle.std.specs.Prelude.{◌≡◌, ℕ, ◌==◌, ◌≤◌, nat_lt, nat_le, Bool, true, not, ◌&&◌, List, length, Option}
 use Rattle.std.specs.Prelude.{option_map}
 use Rattle.std.specs.List.{find, list_any, list_all, IsDistinct}
@@ -23,14 +23,14 @@ name_at number rows = option_map (λ row. row.0) (find (λ row. row.1 == number)
 abbrev pub has_at : List ℕ → Bool
 has_at bytes = list_any (λ byte. byte == 64) bytes
 
--- the bytes are some, at most this many, and none is an @
+-- the number of bytes is from 1 to the limit, and none is an @
 abbrev pub is_word : ℕ → List ℕ → Bool
 is_word most bytes = (nat_lt 0 (length bytes) && nat_le (length bytes) most) && not (has_at bytes)
 
 abbrev pub is_name : List ℕ → Bool
 is_name bytes = is_word 64 bytes && not (list_all is_ascii_digit bytes)
 
--- no two rows have one name, and no two have one number
+-- no two rows have the same name, and no two have the same number
 abbrev pub IsOneToOne : Rows → Type 0
 IsOneToOne rows = IsDistinct bytes_eq (keys_of rows) × IsDistinct nat_eq (values_of rows)
 

@@ -24,21 +24,21 @@ abbrev pub rolls_of : List Roll → Rolls
 rolls_of rolls = map (λ roll. (roll.group.now, texts_of roll.users.items)) rolls
 
 abbrev pub outline_of : Outline → document.Outline
-outline_of said = record {
-  domain = said.domain.now;
-  root_owner = said.root_owner;
-  root_group = said.root_group;
-  root_mode = said.root_mode;
-  users = rows_of said.users.items;
-  groups = rows_of said.groups.items;
-  members = option_map (λ rolls. rolls_of rolls.items) said.members;
+outline_of outline = record {
+  domain = outline.domain.now;
+  root_owner = outline.root_owner;
+  root_group = outline.root_group;
+  root_mode = outline.root_mode;
+  users = rows_of outline.users.items;
+  groups = rows_of outline.groups.items;
+  members = option_map (λ rolls. rolls_of rolls.items) outline.members;
 }
 
 -- the names ascend
 abbrev pub IsAscending : {A : Type 0} → List (List ℕ × A) → Type 0
 IsAscending rows = IsStrictlySortedBy (slice_cmp nat_cmp) (keys_of rows)
 
--- the answer of a step before the ranges: the document, else Shape, unless memory runs out
+-- the result of a step before the ranges are checked: the document, else Shape, unless an allocation fails
 abbrev pub Finds : {T A : Type 0} → (T → A) → Result T BookFault → Option A → Type 0
-Finds shows (Ok x) found = found ≡ Some (shows x)
-Finds shows (Err fault) found = (fault ≡ Memory) ⊎ ((fault ≡ Shape) × (found ≡ None))
+Finds states (Ok x) found = found ≡ Some (states x)
+Finds states (Err fault) found = (fault ≡ Memory) ⊎ ((fault ≡ Shape) × (found ≡ None))

@@ -1,4 +1,4 @@
-//! The book: how it is read, and its content.
+//! The book of names: its content, and how it is read.
 ghost use Rattle.std.specs.Prelude.{◌≡◌, Ok, IfOk, IfSome, true, option_map, codes};
 ghost use Rattle.toml.specs.Parse.{parse_document};
 ghost use Rattle.toml.specs.View.{table_view};
@@ -20,14 +20,14 @@ use std::alloc::Global;
 use std::marker::Model;
 use toml::Table;
 
-/// The domain without a book.
+/// The domain of a server without a book.
 const LOCAL: &str = "localdomain";
 
-/// A book of names: users and groups by name and by number, the domain of the names, and the root's
-/// owner, group and mode. If it has `members`, it holds the users of each group too.
+/// A book of names: users and groups by name and by number, the domain of the names, and the root's owner, group and
+/// mode. If the text has the key `members`, the book has the users of each group too.
 #[derive(Drop)]
 pub struct Book {
-    /// None is `localdomain`, so that a server without a book needs no memory for it.
+    /// `None` is `localdomain`, which spares a server without a book the allocation.
     domain: Option<String>,
     root_owner: u32,
     root_group: u32,
@@ -35,7 +35,7 @@ pub struct Book {
     users: Names,
     groups: Names,
     members: Option<Members>,
-    /// The text that it was read from; None is the book without a file.
+    /// The text that the book was read from. `None`: the book without a file.
     text: Option<String>,
 }
 
@@ -60,9 +60,8 @@ impl Model for Book {
 }
 
 impl Book {
-    /// The book without a file. The domain is `localdomain`, no number has a name, and the root's
-    /// owner is 0, its group 0 and its mode 0o755. It takes no memory; the allocator is that of the
-    /// empty tables.
+    /// The book without a file. The domain is `localdomain`, no number has a name, and the root's owner is 0, its group
+    /// 0 and its mode 0o755. The function allocates nothing; the allocator is that of the empty tables.
     pub fn default(alloc: Global) -> Self
         ensures content { result ≡ nameless }
         ensures book { IsBook result }
@@ -79,7 +78,7 @@ impl Book {
         }
     }
 
-    /// The book of a text, as [`Book::read`] reads it; without a text the default one.
+    /// The book of a text, as [`Book::read`] reads it; without a text, the default book.
     pub fn from_text(alloc: Global, text: Option<&str>) -> Result<Book, BookFault>
         ensures answer { AnswersFrom (option_map (λ t. t.now) text.entry) result }
         ensures book { IfOk result IsBook }
@@ -97,50 +96,48 @@ impl Book {
         self.text.as_deref()
     }
 
-    /// Reads a book from TOML. It has all six of the keys `domain` (a text), `root_owner`,
-    /// `root_group` and `root_mode` (integers), `users` and `groups` (tables of names to integers).
-    /// It may have `members` (a table of names of groups to arrays of names of users), and no
-    /// others.
+    /// Reads a book from TOML. The text must have all of the keys `domain` (a text), `root_owner`, `root_group` and
+    /// `root_mode` (integers), `users` and `groups` (tables of names to integers). It may have `members` (a table of
+    /// names of groups to arrays of names of users). It has no other key.
     ///
-    /// Numbers go from 0 to 4294967295 and modes to 0o7777. The domain has 1 to 128 bytes of UTF-8,
-    /// a name 1 to 64, neither with an `@`. A name isn't of ASCII digits alone. A table has at most
-    /// 1,024 names, and no two of one number. `members` names only groups and users of the two
-    /// tables, no user twice in one array, and none in more than 17 groups. The fault is the first
-    /// in the order of `BookFault`, over the whole text.
+    /// Numbers are from 0 to 4294967295, and modes from 0 to 0o7777. The domain has 1 to 128 bytes of UTF-8 and a name
+    /// 1 to 64, both without `@`. A name isn't ASCII digits alone. A table has at most 1,024 names, with a different
+    /// number each. `members` names only groups and users of the two tables, no user twice in one array, and no user in
+    /// more than 17 groups. The fault is the first in the order of `BookFault`, over the whole text.
     pub fn read(alloc: Global, text: &str) -> Result<Book, BookFault>
         ensures answer { Answers text.now result }
         ensures book { IfOk result IsBook }
         ensures text { result ≡ Err Text → parse_document text.now ≡ None }
     {
         let table = parse(alloc, text)?;
-        let said = Outline::of(alloc, &table)?;
-        if !said.is_in_range() {
+        let outline = Outline::of(alloc, &table)?;
+        if !outline.is_in_range() {
             return Err(BookFault::Range);
         }
-        Book::fill(alloc, &said, text)
+        Book::fill(alloc, &outline, text)
     }
 
-    /// The book of a text whose values are in range. `Twice` where two names of a table have one number,
-    /// else `Member` where `members` doesn't agree with the tables.
-    fn fill(alloc: Global, said: &Outline<'_>, text: &str) -> Result<Book, BookFault>
-        requires text { book_of text.now ≡ filled (outline_of said.now) }
-        requires in_range { is_in_range (outline_of said.now) ≡ true }
-        requires users_ascend { IsAscending (rows_of said.now.users.items) }
-        requires groups_ascend { IsAscending (rows_of said.now.groups.items) }
-        requires members_ascend { IfSome said.now.members (λ rolls. IsAscending (rolls_of rolls.items)) }
-        ensures answer { Fills (outline_of said.now) result }
+    /// The book of a text whose values are in range. `Twice`: two names of a table have the same number. Else `Member`:
+    /// `members` doesn't agree with the tables.
+    fn fill(alloc: Global, outline: &Outline<'_>, text: &str) -> Result<Book, BookFault>
+        requires text { book_of text.now ≡ filled (outline_of outline.now) }
+        requires in_range { is_in_range (outline_of outline.now) ≡ true }
+        requires users_ascend { IsAscending (rows_of outline.now.users.items) }
+        requires groups_ascend { IsAscending (rows_of outline.now.groups.items) }
+        requires members_ascend { IfSome outline.now.members (λ rolls. IsAscending (rolls_of rolls.items)) }
+        ensures answer { Fills (outline_of outline.now) result }
         ensures book { IfOk result IsBook }
     {
-        let domain = String::from_str(alloc, said.domain)?;
-        let users = Names::build(alloc, said.users.as_slice())?;
-        let groups = Names::build(alloc, said.groups.as_slice())?;
-        let members = Members::of(alloc, &users, &groups, &said.members)?;
+        let domain = String::from_str(alloc, outline.domain)?;
+        let users = Names::build(alloc, outline.users.as_slice())?;
+        let groups = Names::build(alloc, outline.groups.as_slice())?;
+        let members = Members::of(alloc, &users, &groups, &outline.members)?;
         let text = String::from_str(alloc, text)?;
         Ok(Book {
             domain: Some(domain),
-            root_owner: to_number(said.root_owner),
-            root_group: to_number(said.root_group),
-            root_mode: to_number(said.root_mode),
+            root_owner: to_number(outline.root_owner),
+            root_group: to_number(outline.root_group),
+            root_mode: to_number(outline.root_mode),
             users,
             groups,
             members,
@@ -181,7 +178,7 @@ impl Book {
         self.root_mode
     }
 
-    /// The name of a number, none where the table of the kind has no name for it.
+    /// The name with this number. `None`: the table of this kind has no name for it.
     pub fn name_of(&self, kind: NameKind, number: u32) -> Option<&str>
         ensures name { option_map (λ name. name.now) result ≡ name_at number (table_of kind self.now) }
         ensures book { IsBook self.now }
@@ -192,7 +189,7 @@ impl Book {
         }
     }
 
-    /// The number of a name, by its exact bytes, none where the table of the kind has no such name.
+    /// The number of a name, by its exact bytes. `None`: the table of this kind doesn't have the name.
     pub fn number_of(&self, kind: NameKind, name: &[u8]) -> Option<u32>
         ensures number { result ≡ number_at name.now (table_of kind self.now) }
         ensures book { IsBook self.now }
@@ -203,11 +200,10 @@ impl Book {
         }
     }
 
-    /// The caller by the book. Where the book has `members`, the caller's groups are those whose
-    /// array has the name of its user, in place of the groups that it sent. They are none where the
-    /// user has no name. Its gid is the gid that it sent if that is among them, else the least of
-    /// them, else 65534, which then gives no membership. Without `members` it is the caller as
-    /// sent. It takes no memory.
+    /// The caller with its groups by the book. If the book has `members`, the caller's groups are those whose array has
+    /// the name of its user. They replace the groups that it sent; a user without a name is in none. Its gid is the gid
+    /// that it sent if that is among these groups, else the least of them, else 65534. The gid 65534 then makes it a
+    /// member of no group. Without `members` the result is the caller as sent. The function allocates nothing.
     pub fn member(&self, caller: &Caller) -> Caller
         ensures { result ≡ member self.now caller.now }
     {
@@ -220,7 +216,7 @@ impl Book {
     }
 }
 
-/// The TOML document of a text: the only call of the parser.
+/// Parses a text as a TOML document. No other function calls the parser.
 fn parse(alloc: Global, text: &str) -> Result<Table, BookFault>
     ensures { Parses table_view text.now result }
 {

@@ -1,5 +1,5 @@
-//! The book of names: users and groups by name and by number, the domain, the root's owner and group, and the users
-//! of each group.
+//! The book of names: users and groups by name and by number, and the users of each group. It has the domain and the
+//! root's owner, group and mode too.
 #![tactic(auto)]
 
 mod book;
@@ -17,7 +17,7 @@ pub use book::Book;
 pub use fault::BookFault;
 pub use kind::NameKind;
 pub use laws::{
-    names_and_numbers_agree, texts_are_spellings, who_texts_are_spellings, written_is_read,
+    names_and_numbers_agree, principal_texts_are_spellings, texts_are_spellings, written_is_read,
 };
 pub use principals::IDENTIFIER_GROUP;
 pub use spelling::Spelling;

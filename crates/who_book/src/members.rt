@@ -1,4 +1,4 @@
-//! The groups of a book's users.
+//! The groups of the users of a book.
 ghost use Rattle.std.specs.Prelude.{◌≡◌, ◌⊎◌, ◌<◌, ◌≤◌, ◌==◌, if◌then◌else◌, ℕ, [], length, false, true, OnOk, IfErr};
 ghost use Rattle.std.specs.Prelude.{IfOk, IfSome, option_map};
 ghost use Rattle.rpc_record.specs.Identity.{has_group, with_group};
@@ -16,13 +16,13 @@ use std::alloc::Global;
 use std::collections::BTreeMap;
 use std::marker::Model;
 
-/// The group of a user that is in none.
+/// The gid of a user that is in no group.
 const NO_GROUP: u32 = 65534;
 
-/// The groups of a book's users: of each uid a set of at most 17.
+/// The groups of the users of a book: a set of at most 17 for each uid.
 #[derive(Drop)]
 pub struct Members {
-    /// The groups of each uid that is in one.
+    /// The groups of each uid that is in at least one.
     groups: BTreeMap<u32, GroupSet>,
 }
 
@@ -34,7 +34,7 @@ impl Model for Members {
     ghost view = { λ m. m.groups.entries };
 }
 
-/// The gid of a user of these groups: the gid that was sent if it is among them, else the least of them, else 65534.
+/// The gid of a user in these groups: the gid that was sent if it is among them, else the least of them, else 65534.
 pub fn gid_among(groups: &GroupSet, gid: u32) -> u32
     ensures { result ≡ gid_among groups.now gid }
 {
@@ -46,7 +46,7 @@ pub fn gid_among(groups: &GroupSet, gid: u32) -> u32
 }
 
 impl Members {
-    /// The members by a book's `members`, if it has the key. `Member` where these don't agree with its tables.
+    /// The members by a book's `members`, if it has the key. `Member`: they don't agree with its tables.
     pub fn of(
         alloc: Global,
         users: &Names,
@@ -63,7 +63,7 @@ impl Members {
         }
     }
 
-    /// The members by some rolls. `Member` where these don't agree with the tables.
+    /// The members by these rolls. `Member`: the rolls don't agree with the tables.
     fn build(
         alloc: Global,
         users: &Names,
@@ -86,8 +86,8 @@ impl Members {
         Ok(members)
     }
 
-    /// Puts users into a group that none is in. `Member` where a name has no number, is there
-    /// twice, or is in 17 groups.
+    /// Puts users into a group that has no members yet. `Member`: a name has no number, occurs twice, or is already in
+    /// 17 groups.
     fn enroll(&mut self, users: &Names, gid: u32, names: &[&str]) -> Result<(), BookFault>
         requires fresh { (n : ℕ) → has_group (groups_in self.old n) gid ≡ false }
         requires few { (n : ℕ) → length (groups_in self.old n) ≤ MOST_GROUPS }
@@ -108,7 +108,7 @@ impl Members {
         Ok(())
     }
 
-    /// Puts a user into a group. `Member` where it is in the group already, or in 17 groups.
+    /// Puts a user into a group. `Member`: it is in the group already, or in 17 groups.
     fn add(&mut self, uid: u32, gid: u32) -> Result<(), BookFault>
         ensures absent { OnOk result (has_group (groups_in self.old uid) gid ≡ false) }
         ensures room { OnOk result (length (groups_in self.old uid) < MOST_GROUPS) }

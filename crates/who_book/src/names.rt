@@ -19,7 +19,7 @@ use std::alloc::Global;
 use std::collections::BTreeMap;
 use std::marker::Model;
 
-/// A table of names: no two rows have one name, and no two have one number.
+/// A table of names: no two rows have the same name, and no two have the same number.
 #[derive(Drop)]
 pub struct Names {
     /// The number of each name, by the bytes of the name.
@@ -40,7 +40,7 @@ impl Model for Names {
 }
 
 impl Names {
-    /// A table with no names, which takes no memory.
+    /// A table without names. The function allocates nothing.
     pub fn new(alloc: Global) -> Self
         ensures { result ≡ [] }
     {
@@ -50,7 +50,7 @@ impl Names {
         }
     }
 
-    /// The table of these rows. `Twice` where two of them have one number.
+    /// The table of these rows. `Twice`: two of them have the same number.
     pub fn build(alloc: Global, rows: &[Row<'_>]) -> Result<Self, BookFault>
         requires in_range { is_table (rows_of rows.now) ≡ true }
         requires ascending { IsAscending (rows_of rows.now) }
@@ -87,7 +87,7 @@ impl Names {
     }
 }
 
-/// Puts in the name of a number. `Twice` where the number has a name.
+/// Adds the name of a number. `Twice`: the number has a name already.
 fn add_name(
     alloc: Global,
     names: &mut BTreeMap<u32, String>,
@@ -107,7 +107,7 @@ fn add_name(
     }
 }
 
-/// Puts in the number of a name, which comes after each name that is there.
+/// Adds the number of a name, which sorts after all names in the index.
 fn add_number(
     alloc: Global,
     numbers: &mut BTreeMap<Vec<u8>, u32>,

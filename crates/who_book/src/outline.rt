@@ -1,4 +1,4 @@
-//! The values of a document's keys, once their types are right and before any range is checked.
+//! The values of a document's keys: their types are checked, and their ranges aren't yet.
 ghost use Rattle.std.specs.Prelude.{◌≡◌, true, IfOk, IfSome, option_map};
 ghost use Rattle.std.specs.List.{list_all};
 ghost use Rattle.std.specs.Char.{is_ascii_digit};
@@ -14,16 +14,16 @@ use crate::rolls::{Roll, rolls_at};
 use std::alloc::Global;
 use toml::Table;
 
-/// Bytes of the longest name.
+/// The largest number of bytes of a name.
 pub const LONGEST_NAME: usize = 64;
 
-/// Bytes of the longest domain.
+/// The largest number of bytes of a domain.
 pub const LONGEST_DOMAIN: usize = 128;
 
-/// The most names of a table.
+/// The largest number of names in a table.
 const MOST_NAMES: usize = 1024;
 
-/// The bits of a mode.
+/// All bits of a mode, the largest one.
 const GREATEST_MODE: u32 = 0o7777;
 
 /// A name and its integer, as the document has them.
@@ -57,14 +57,14 @@ pub struct Outline<'a> {
 
 impl<'a> Outline<'a> {
     #[tactic(auto, unfolding(crate::specs::Document::outline))]
-    /// The values of the keys. `Shape` where a key but `members` is missing, a key is unknown, or a
-    /// value has another type.
+    /// The values of the keys. `Shape`: a key other than `members` is missing, a key is unknown, or a value has another
+    /// type.
     pub fn of(alloc: Global, table: &'a Table) -> Result<Self, BookFault>
         ensures found { Finds outline_of result (outline (table_view table.now)) }
-        ensures users_ascend { IfOk result (λ said. IsAscending (rows_of said.users.items)) }
-        ensures groups_ascend { IfOk result (λ said. IsAscending (rows_of said.groups.items)) }
+        ensures users_ascend { IfOk result (λ stated. IsAscending (rows_of stated.users.items)) }
+        ensures groups_ascend { IfOk result (λ stated. IsAscending (rows_of stated.groups.items)) }
         ensures members_ascend { IfOk result
-            (λ said. IfSome said.members (λ rolls. IsAscending (rolls_of rolls.items))) }
+            (λ stated. IfSome stated.members (λ rolls. IsAscending (rolls_of rolls.items))) }
     {
         if !has_only_known(table) {
             return Err(BookFault::Shape);
@@ -81,7 +81,7 @@ impl<'a> Outline<'a> {
     }
 
     #[tactic(auto, unfolding(crate::specs::Document::is_in_range))]
-    /// Whether each number, the mode, the domain and both tables are in range.
+    /// Whether all numbers, the mode, the domain and both tables are in range.
     pub fn is_in_range(&self) -> bool
         ensures { result ≡ is_in_range (outline_of self.now) }
     {
@@ -190,7 +190,7 @@ fn is_digits(text: &[u8]) -> bool
     text.iter().all(|byte| byte.is_ascii_digit())
 }
 
-/// Whether a text can be a name: digits alone are a number.
+/// Whether a text can be a name: digits alone would be a number.
 fn is_name(text: &str) -> bool
     ensures { result ≡ is_name text.now }
 {
@@ -215,7 +215,7 @@ fn is_table(rows: &[Row<'_>]) -> bool
     rows.len() <= MOST_NAMES && are_rows(rows)
 }
 
-/// The number of an integer from 0 to 4294967295.
+/// The number that an integer from 0 to 4294967295 is.
 pub fn to_number(integer: i64) -> u32
     requires { is_up_to 4294967295 integer ≡ true }
     ensures { result ≡ natural integer }

@@ -1,10 +1,11 @@
-//! The texts of users, groups and whos, and how they are read (RFC 8881, sections 5.9 and 6.2.1.5).
+//! The texts of users, groups and principals, and how they are read (RFC 8881, sections 5.9 and 6.2.1.5).
 ghost use Rattle.std.specs.Prelude.{◌≡◌, ◌<◌, ◌≤◌, ◌^◌, ◌↔◌, ◌++◌, List, ℕ, decimal, Some, None, MatchOption, length};
 ghost use Rattle.std.specs.Prelude.{true, false, if◌then◌else◌, nat_lt, ◌&&◌};
 ghost use Rattle.std.specs.Str.{all_ascii_digits};
 ghost use Rattle.acl_list.specs.Mask.{has_bit};
 ghost use Rattle.who_book.specs.Spelling.{full_name, is_short, kind_of, number_in, special_in, principal_in};
-ghost use Rattle.who_book.specs.Spelling.{principal_text, value_after, who_in, who_text, Spells, IsUnder};
+ghost use Rattle.who_book.specs.Spelling.{principal_text, value_after, ace_principal_in, ace_principal_text, Spells};
+ghost use Rattle.who_book.specs.Spelling.{IsUnder};
 
 use crate::book::Book;
 use crate::kind::NameKind;
@@ -12,7 +13,8 @@ use crate::spelling::Spelling;
 use acl_list::Who;
 use itoa::Buffer;
 
-/// The flag of an entry whose who is a group: `ACE4_IDENTIFIER_GROUP` of RFC 8881, section 6.2.1.4.
+/// The flag of an access control entry (ACE) whose principal is a group: `ACE4_IDENTIFIER_GROUP` of RFC 8881, section
+/// 6.2.1.4.
 pub const IDENTIFIER_GROUP: u32 = 0x40;
 
 const OWNER: &[u8] = b"OWNER@";
@@ -22,7 +24,7 @@ const GROUP: &[u8] = b"GROUP@";
 const EVERYONE: &[u8] = b"EVERYONE@";
 
 impl NameKind {
-    /// The table that an entry's who is looked up in: the groups under IDENTIFIER_GROUP, else the users.
+    /// The table that has the name of an ACE's principal: the groups under IDENTIFIER_GROUP, else the users.
     pub fn of_flags(flags: u32) -> Self
         ensures { result ≡ kind_of flags }
     {
@@ -35,10 +37,9 @@ impl NameKind {
 }
 
 impl Book {
-    /// The user or the group of a text: `name@domain` with a name of the kind's table and the
-    /// book's domain, by their exact bytes. It may also be the number in decimal digits without
-    /// leading zeros, whether it has a name or not. None where the text is neither, which an NFS
-    /// server answers with NFS4ERR_BADOWNER.
+    /// The user or the group of a text. The text is `name@domain` with a name of the kind's table and the book's
+    /// domain, by their exact bytes. Or it is the number in decimal digits without leading zeros, whether the number
+    /// has a name or not. `None`: the text is neither, for which an NFS server replies NFS4ERR_BADOWNER.
     #[tactic(auto, unfolding(crate::specs::Spelling::principal_in))]
     pub fn principal(&self, kind: NameKind, text: &[u8]) -> Option<u32>
         ensures value { result ≡ principal_in kind self.now text.now }
@@ -54,8 +55,8 @@ impl Book {
         }
     }
 
-    /// The text of a user or a group: `name@domain` where the book has a name for the number, else
-    /// decimal digits. It is read back as the same number.
+    /// The text of a user or a group: `name@domain` if the book has a name for the number, else decimal digits. It is
+    /// read back as the same number.
     pub fn spell_principal(&self, kind: NameKind, number: u32) -> Spelling
         ensures text { result ≡ principal_text kind self.now number }
         ensures read_back { principal_in kind self.now result ≡ Some number }
@@ -68,12 +69,11 @@ impl Book {
         }
     }
 
-    /// The who of a text in an entry with these flags. It is `OWNER@`, `GROUP@` and `EVERYONE@`
-    /// whatever the flags, else a group under IDENTIFIER_GROUP and a user without it, as
-    /// `principal` reads them.
-    #[tactic(auto, unfolding(crate::specs::Spelling::who_in))]
+    /// The principal of a text in an ACE with these flags. `OWNER@`, `GROUP@` and `EVERYONE@` are recognized under any
+    /// flags. Any other text is a group under IDENTIFIER_GROUP and a user without it, as `principal` reads it.
+    #[tactic(auto, unfolding(crate::specs::Spelling::ace_principal_in))]
     pub fn who(&self, flags: u32, text: &[u8]) -> Option<Who>
-        ensures { result ≡ who_in flags self.now text.now }
+        ensures { result ≡ ace_principal_in flags self.now text.now }
     {
         if let Some(who) = special_in(text) {
             return Some(who);
@@ -86,11 +86,11 @@ impl Book {
         })
     }
 
-    /// The text of a who. It is read back as the same who, under flags that have IDENTIFIER_GROUP for a
-    /// group and don't for a user.
-    pub fn spell_who(&self, who: Who) -> Spelling
-        ensures text { result ≡ who_text self.now who }
-        ensures read_back { (flags : ℕ) → flags < 2 ^ 32 → IsUnder flags who → who_in flags self.now result ≡ Some who }
+    /// The text of a principal. It is read back as the same principal, under flags that have IDENTIFIER_GROUP for a
+    /// group and don't have it for a user.
+    pub fn spell_ace_principal(&self, who: Who) -> Spelling
+        ensures text { result ≡ ace_principal_text self.now who }
+        ensures read_back { (flags : ℕ) → flags < 2 ^ 32 → IsUnder flags who → ace_principal_in flags self.now result ≡ Some who }
         ensures short { length result ≤ 193 }
     {
         match who {
@@ -151,7 +151,7 @@ fn special(identifier: &[u8]) -> Spelling
     spelling
 }
 
-/// Whether there are digits, without a leading zero.
+/// Whether there are digits, without a leading zero unless it is the only digit.
 fn is_short(digits: &[u8]) -> bool
     ensures { result ≡ is_short digits.now }
 {
@@ -162,7 +162,7 @@ fn is_short(digits: &[u8]) -> bool
     }
 }
 
-/// The value of digits, none where a byte is no digit or the value has more than 32 bits.
+/// The value of digits. `None`: a byte isn't a digit, or the value exceeds 32 bits.
 fn value_of(digits: &[u8]) -> Option<u32>
     ensures { result ≡ (if all_ascii_digits digits.now && nat_lt (value_after 0 digits.now) 4294967296
         then Some (value_after 0 digits.now) else None) }
@@ -186,23 +186,23 @@ fn number_in(text: &[u8]) -> Option<u32>
     if is_short(text) { value_of(text) } else { None }
 }
 
-/// The bytes before the end of a text.
+/// The bytes before the end of a text. `None`: the text doesn't end in `end`.
 fn strip_end<'a>(text: &'a [u8], end: &[u8]) -> Option<&'a [u8]>
     ensures { MatchOption result
-        ((front : List ℕ) → text.now ≡ front ++ end.now → ⊥)
-        (λ front. text.now ≡ front.now ++ end.now) }
+        ((prefix : List ℕ) → text.now ≡ prefix ++ end.now → ⊥)
+        (λ prefix. text.now ≡ prefix.now ++ end.now) }
 {
     text.strip_suffix(end)
 }
 
-/// The name before `@` and the domain.
+/// The name before `@` and the domain. `None`: the text doesn't end in them.
 fn without_domain<'a>(text: &'a [u8], domain: &[u8]) -> Option<&'a [u8]>
     ensures { MatchOption result
         ((name : List ℕ) → text.now ≡ full_name name domain.now → ⊥)
         (λ name. text.now ≡ full_name name.now domain.now) }
 {
     match strip_end(text, domain) {
-        Some(front) => strip_end(front, b"@"),
+        Some(prefix) => strip_end(prefix, b"@"),
         None => None,
     }
 }

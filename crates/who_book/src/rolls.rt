@@ -1,4 +1,4 @@
-//! The value of a document's key `members`, before any name is looked up.
+//! The value of the document's key `members`, before names are looked up.
 ghost use Rattle.std.specs.Prelude.{◌≡◌, IfOk, IfSome, option_map};
 ghost use Rattle.toml.specs.View.{array_view, table_view, view};
 ghost use Rattle.who_book.specs.Document.{texts, texts_in, rolls, rolls_in, rolls_at};
@@ -16,7 +16,7 @@ pub struct Roll<'a> {
     pub users: Vec<&'a str>,
 }
 
-/// The texts of an array. `Shape` where an item is no text.
+/// The texts of an array. `Shape`: an item isn't a text.
 fn texts<'a>(alloc: Global, array: &'a Array) -> Result<Vec<&'a str>, BookFault>
     ensures { Finds (λ names. texts_of names.items) result (texts (array_view array.now)) }
 {
@@ -30,7 +30,7 @@ fn texts<'a>(alloc: Global, array: &'a Array) -> Result<Vec<&'a str>, BookFault>
     Ok(names)
 }
 
-/// The texts of a value. `Shape` where it is no array, or an item of it no text.
+/// The texts of a value. `Shape`: the value isn't an array, or an item isn't a text.
 fn texts_in<'a>(alloc: Global, value: &'a Value) -> Result<Vec<&'a str>, BookFault>
     ensures { Finds (λ names. texts_of names.items) result (texts_in (view value.now)) }
 {
@@ -40,7 +40,7 @@ fn texts_in<'a>(alloc: Global, value: &'a Value) -> Result<Vec<&'a str>, BookFau
     }
 }
 
-/// The rolls of a table, in the order of the groups' names. `Shape` where a member is no array of texts.
+/// The rolls of a table, in the order of the groups' names. `Shape`: a value isn't an array of texts.
 fn rolls<'a>(alloc: Global, table: &'a Table) -> Result<Vec<Roll<'a>>, BookFault>
     ensures found { Finds (λ rolls. rolls_of rolls.items) result (rolls (table_view table.now)) }
     ensures ascending { IfOk result (λ rolls. IsAscending (rolls_of rolls.items)) }
@@ -56,7 +56,7 @@ fn rolls<'a>(alloc: Global, table: &'a Table) -> Result<Vec<Roll<'a>>, BookFault
     Ok(rolls)
 }
 
-/// The rolls of a value. `Shape` where it is no table, or a member of it no array of texts.
+/// The rolls of a value. `Shape`: it isn't a table, or one of its values isn't an array of texts.
 fn rolls_in<'a>(alloc: Global, value: &'a Value) -> Result<Vec<Roll<'a>>, BookFault>
     ensures found { Finds (λ rolls. rolls_of rolls.items) result (rolls_in (view value.now)) }
     ensures ascending { IfOk result (λ rolls. IsAscending (rolls_of rolls.items)) }

@@ -1,9 +1,9 @@
-//! The text of a user, a group or a who.
+//! The text of a user, a group or a principal.
 ghost use Rattle.std.specs.Prelude.{◌≡◌, ◌+◌, ◌≤◌, ◌==◌, [], ◌∷◌, ◌++◌, length};
 
 use std::marker::Model;
 
-/// The text of a user, a group or a who: at most 193 bytes, which are a name of 64, an `@` and a domain of 128.
+/// The text of a user, a group or a principal: at most 193 bytes, for a name of 64, an `@` and a domain of 128.
 #[derive(Drop)]
 pub struct Spelling {
     bytes: [u8; 193],
@@ -30,7 +30,7 @@ impl Spelling {
         }
     }
 
-    /// Puts bytes at the end.
+    /// Appends bytes.
     pub(crate) fn push(&mut self, piece: &[u8])
         requires { length self.old + length piece.now ≤ 193 }
         ensures { self.new ≡ self.old ++ piece.now }
@@ -48,7 +48,7 @@ impl Spelling {
         &self.bytes[..self.len]
     }
 
-    /// How many bytes the text has.
+    /// The number of bytes of the text.
     pub fn len(&self) -> usize
         ensures len { result ≡ length self.now }
         ensures short { result ≤ 193 }
@@ -56,7 +56,7 @@ impl Spelling {
         self.as_bytes().len()
     }
 
-    /// Whether the text has no bytes; a book gives no such text.
+    /// Whether the text has no bytes. A book never returns an empty text.
     pub fn is_empty(&self) -> bool
         ensures { result ≡ (length self.now == 0) }
     {

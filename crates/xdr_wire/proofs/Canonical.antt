@@ -1,4 +1,4 @@
--- A value has one spelling, among lists of bytes.
+-- A value has one encoding, among lists of bytes.
 use Rattle.std.proofs.Common.{◌≡◌, ℕ, ℤ, ◌+◌, ◌<◌, ◌^◌, append_assoc, List, [], ◌∷◌, ◌++◌, length, Some, None, sym, ap, subst, ◌∙◌, arith, inl, inr}
 use Rattle.std.specs.Int.{w32, w64, to_be_bytes, from_be_bytes, cast_unsigned}
 use Rattle.std.proofs.lemmas.Int.{of_z-to_z}
@@ -8,8 +8,8 @@ use Rattle.std.proofs.lemmas.Nat.{be_bytes_4, be_bytes_8}
 use Rattle.std.proofs.lemmas.List.{get_or_append_left, get_or-append-add, get_or_past}
 use Rattle.xdr_wire.specs.Xdr.{Xdr, void, uint, hyper, signed_hyper, boolean, fixed, opaque, pair, fixed_array, array, optional, chain, union, Arms, no_more, arm, otherwise, ArmValue, Value, Spells, SpellsArm, AreItems, AreLinks, link, Follows, IsNumber, IsInteger, spelling, arm_spelling, discriminant, padded, number_of_bool, AreBytes}
 
-bytes_front : (a b : List ℕ) → AreBytes (a ++ b) → AreBytes a
-bytes_front a b h i =
+bytes_prefix : (a b : List ℕ) → AreBytes (a ++ b) → AreBytes a
+bytes_prefix a b h i =
     elim (cases_lt i (length a)) [
       | inl lt ↦ rw (← get_or_append_left a b 0 i lt) (h i)
       | inr le ↦ rw (get_or_past a i 0 le) (omega arith)
@@ -35,8 +35,8 @@ integer64_is z b h s =
 -- two parts, each of which is one list
 both_are : (P Q : List ℕ → Type 0) (x y b : List ℕ) → AreBytes b → Follows P Q b → ((a : List ℕ) → AreBytes a → P a → a ≡ x) → ((a : List ℕ) → AreBytes a → Q a → a ≡ y) → b ≡ x ++ y
 both_are P Q x y b h f p q =
-    let whole : AreBytes (f.front ++ f.back) = subst AreBytes f.joined h in
-    f.joined ∙ ap (λ (t : List ℕ). t ++ f.back) (p f.front (bytes_front f.front f.back whole) f.first) ∙ ap (λ (t : List ℕ). x ++ t) (q f.back (bytes_back f.front f.back whole) f.second)
+    let whole : AreBytes (f.prefix ++ f.back) = subst AreBytes f.joined h in
+    f.joined ∙ ap (λ (t : List ℕ). t ++ f.back) (p f.prefix (bytes_prefix f.prefix f.back whole) f.first) ∙ ap (λ (t : List ℕ). x ++ t) (q f.back (bytes_back f.prefix f.back whole) f.second)
 
 items_are : {V : Type 0} (spells : V → List ℕ → Type 0) (spelling_of : V → List ℕ) → ((v : V) (a : List ℕ) → AreBytes a → spells v a → a ≡ spelling_of v) → (vs : List V) (b : List ℕ) → AreBytes b → AreItems spells vs b → b ≡ flat_map spelling_of vs
 items_are spells spelling_of one [] b h s = s
@@ -46,8 +46,8 @@ links_are : {V : Type 0} (spells : V → List ℕ → Type 0) (spelling_of : V �
 links_are spells spelling_of one [] b h s = number32_is 0 b h s
 links_are {V} spells spelling_of one (v ∷ vs) b h s =
     let rest = flat_map (link spelling_of) vs ++ to_be_bytes w32 0 in
-    let behind : (a : List ℕ) → AreBytes a → Follows (spells v) (AreLinks spells vs) a → a ≡ spelling_of v ++ rest = λ a k f. both_are (spells v) (AreLinks spells vs) (spelling_of v) rest a k f (one v) (links_are spells spelling_of one vs) in
-    both_are (IsNumber w32 1) (Follows (spells v) (AreLinks spells vs)) (to_be_bytes w32 1) (spelling_of v ++ rest) b h s (number32_is 1) behind
+    let appended : (a : List ℕ) → AreBytes a → Follows (spells v) (AreLinks spells vs) a → a ≡ spelling_of v ++ rest = λ a k f. both_are (spells v) (AreLinks spells vs) (spelling_of v) rest a k f (one v) (links_are spells spelling_of one vs) in
+    both_are (IsNumber w32 1) (Follows (spells v) (AreLinks spells vs)) (to_be_bytes w32 1) (spelling_of v ++ rest) b h s (number32_is 1) appended
     ∙ sym (append_assoc (link spelling_of v) (flat_map (link spelling_of) vs) (to_be_bytes w32 0) ∙ append_assoc (to_be_bytes w32 1) (spelling_of v) rest)
 
 arm_is_first : (a : Arms) (v : ArmValue a) (d : ℕ) (b : List ℕ) → SpellsArm a v d b → d ≡ discriminant a v

@@ -1,4 +1,4 @@
--- A chain is read link by link: how many steps there are beyond its bytes doesn't matter.
+-- A chain is read link by link: a number of steps beyond its bytes doesn't matter.
 use Rattle.std.proofs.Common.{◌≡◌, ℕ, zero, suc, ◌+◌, ◌≤◌, ◌<◌, Bool, true, false, List, [], ◌∷◌, length, Option, Some, None, Ok, Err, refl, ap, ◌∙◌, arith}
 use Rattle.std.proofs.lemmas.List.{length-append}
 use Rattle.xdr_wire.specs.Xdr.{Xdr, Value, Spells, chain, optional}
@@ -6,24 +6,24 @@ use Rattle.xdr_wire.specs.Reading.{◌>>=◌, Read, read_at, boolean_at, linked,
 use Rattle.xdr_wire.proofs.Steps.{Takes, bind_ok, ok_is}
 use Rattle.xdr_wire.proofs.Spelling.{takes, boolean_takes}
 
--- a reader that takes its bytes from the front
+-- a reader that consumes its bytes from the left
 abbrev pub Shortens : {V : Type 0} → (List ℕ → Read V) → Type 0
 Shortens {V} read = (bytes : List ℕ) (x : V × List ℕ) → read bytes ≡ Ok x → length x.1 ≤ length bytes
 
 pub takes_shortens : (P : List ℕ → Type 0) (bytes rest : List ℕ) → Takes P bytes rest → length rest ≤ length bytes
-takes_shortens P bytes rest t = omega (arith, ap length t.parts, length-append t.front rest)
+takes_shortens P bytes rest t = omega (arith, ap length t.parts, length-append t.prefix rest)
 
 pub read_shortens : (t : Xdr) → Shortens (read_at t)
 read_shortens t bytes x e = takes_shortens (Spells t x.0) bytes x.1 (takes t bytes x e)
 
 pub boolean_shortens : (bytes : List ℕ) (x : Bool × List ℕ) → boolean_at bytes ≡ Ok x → length x.1 + 4 ≤ length bytes
-boolean_shortens bytes x e = let t = boolean_takes bytes x e in omega (arith, ap length t.parts, length-append t.front x.1, t.taken.len)
+boolean_shortens bytes x e = let t = boolean_takes bytes x e in omega (arith, ap length t.parts, length-append t.prefix x.1, t.taken.len)
 
--- an item in front of the others
+-- an item before the others
 abbrev pub onto : {V : Type 0} → V → List V × List ℕ → Read (List V)
 onto v xs = Ok (v ∷ xs.0, xs.1)
 
--- one link, and what comes after it by f
+-- one link, and f for what follows it
 abbrev pub links_by : {V : Type 0} → (List ℕ → Read V) → (List ℕ → Read (List V)) → List ℕ → Read (List V)
 links_by read f bytes = boolean_at bytes >>= linked (λ rest. read rest >>= λ x. f x.1 >>= onto x.0)
 
@@ -49,12 +49,12 @@ more_steps read short (suc n) zero [] p q = refl
 more_steps read short (suc n) zero (b ∷ bytes) p q = absurd (omega (arith, q))
 more_steps read short (suc n) (suc m) bytes p q = agree read short (links_at read n) (links_at read m) bytes (λ b lt. more_steps read short n m b (omega (arith, p, lt)) (omega (arith, q, lt)))
 
--- a chain is a false, or a true and an item and a chain
+-- a chain is FALSE, or TRUE and an item and a chain
 pub chain_step : (t : Xdr) (bytes : List ℕ) → read_at (chain t) bytes ≡ links_by (read_at t) (read_at (chain t)) bytes
 chain_step t [] = refl
 chain_step t (b ∷ bytes) = agree (read_at t) (read_shortens t) (links_at (read_at t) (length bytes)) (read_at (chain t)) (b ∷ bytes) (λ c lt. more_steps (read_at t) (read_shortens t) (length bytes) (length c) c (omega (arith, lt)) (omega arith))
 
--- an option that was read, and what comes after it by f
+-- an option that was read, and f for what follows it
 abbrev pub chained : {V : Type 0} → (List ℕ → Read (List V)) → Option V × List ℕ → Read (List V)
 chained f (None, rest) = Ok ([], rest)
 chained f (Some v, rest) = f rest >>= onto v
@@ -68,7 +68,7 @@ option_link read f (Ok (false, rest)) = refl
 option_link read f (Ok (true, rest)) = option_item f (read rest)
 option_link read f (Err e) = refl
 
--- a chain is optional data, and a chain after it where there is some
+-- a chain is optional data, followed by a chain if the data is there
 pub chain_by_options : (t : Xdr) (bytes : List ℕ) → read_at (chain t) bytes ≡ (read_at (optional t) bytes >>= chained (read_at (chain t)))
 chain_by_options t bytes = chain_step t bytes ∙ option_link (read_at t) (read_at (chain t)) (boolean_at bytes)
 

@@ -1,5 +1,5 @@
--- A value that is read is spelled by the bytes it was read from. A spelling is read as its value.
--- Both hold for every type at once.
+-- A value that is read is encoded by the bytes that it was read from. An encoding is read as its value. Both hold for
+-- every type at once.
 use Rattle.std.proofs.Common.{◌≡◌, ◌≢◌, ◌≤◌, ℕ, ℤ, zero, suc, Bool, true, false, cond, eqb, List, [], ◌∷◌, ◌++◌, length, Option, Some, None, Ok, refl, sym, ap, subst, ◌∙◌, append_assoc, arith, ◌<◌, ◌^◌, lit<, ◌⊎◌, inl, inr}
 use Rattle.std.proofs.lemmas.Bool.{eqb-true, eqb-false, eq-eqb, ne_eqb}
 use Rattle.std.specs.Int.{Width, w32, w64, byte_len, from_be_bytes, to_be_bytes, cast_unsigned}
@@ -14,16 +14,16 @@ use Rattle.xdr_wire.specs.Xdr.{Xdr, void, uint, hyper, signed_hyper, boolean, fi
 use Rattle.xdr_wire.specs.Reading.{◌>>=◌, Read, read_at, number_at, padded_at, boolean_from, boolean_at, items_at, optional_from, linked, links_at, read_arm}
 use Rattle.xdr_wire.proofs.Steps.{Takes, Takes-then, bind_ok, ok_is, number_takes, number_again, integer_takes, integer_again, padded_takes, padded_again, counted_takes, counted_again}
 
--- ---- what is read is spelled so
+-- ---- the bytes encode the value that is read
 
--- a reader takes what the relation spells
+-- a reader accepts only bytes that the relation holds for
 abbrev pub TakesAll : {V : Type 0} → (List ℕ → Read V) → (V → List ℕ → Type 0) → Type 0
 TakesAll {V} read spells = (bytes : List ℕ) (x : V × List ℕ) → read bytes ≡ Ok x → Takes (spells x.0) bytes x.1
 
 pub items_take : {V : Type 0} (read : List ℕ → Read V) (spells : V → List ℕ → Type 0) → TakesAll read spells → (n : ℕ) (bytes : List ℕ) (x : List V × List ℕ) → items_at read n bytes ≡ Ok x → (length x.0 ≡ n) × Takes (AreItems spells x.0) bytes x.1
 items_take {V} read spells one zero bytes x e =
     let nothing : List V × List ℕ = ([], bytes) in
-    subst (λ (y : List V × List ℕ). (length y.0 ≡ 0) × Takes (AreItems spells y.0) bytes y.1) (ok_is nothing x e) (refl, record { front = []; taken = refl; parts = refl })
+    subst (λ (y : List V × List ℕ). (length y.0 ≡ 0) × Takes (AreItems spells y.0) bytes y.1) (ok_is nothing x e) (refl, record { prefix = []; taken = refl; parts = refl })
 items_take {V} read spells one (suc n) bytes x e =
     let a = bind_ok (read bytes) (λ y. items_at read n y.1 >>= λ ys. Ok (y.0 ∷ ys.0, ys.1)) x e in
     let b = bind_ok (items_at read n a.0.1) (λ ys. Ok (a.0.0 ∷ ys.0, ys.1)) x a.2 in
@@ -34,7 +34,7 @@ items_take {V} read spells one (suc n) bytes x e =
     (ap suc others.0, Takes-then (spells a.0.0) (AreItems spells b.0.0) bytes a.0.1 b.0.1 first others.1)
 
 weaker : (P Q : List ℕ → Type 0) (bytes rest : List ℕ) → ((b : List ℕ) → P b → Q b) → Takes P bytes rest → Takes Q bytes rest
-weaker P Q bytes rest f t = record { front = t.front; taken = f t.front t.taken; parts = t.parts }
+weaker P Q bytes rest f t = record { prefix = t.prefix; taken = f t.prefix t.taken; parts = t.parts }
 
 boolean_is : (x : ℕ × List ℕ) (y : Bool × List ℕ) → boolean_from x ≡ Ok y → (x.0 ≡ number_of_bool y.0) × (x.1 ≡ y.1)
 boolean_is (zero, rest) y e = let same = ok_is (false, rest) y e in (ap (λ (p : Bool × List ℕ). number_of_bool p.0) same, ap (λ (p : Bool × List ℕ). p.1) same)
@@ -69,9 +69,9 @@ linked_takes {V} read spells n one more true bytes middle x first e =
     let a = bind_ok (read middle) (λ y. links_at read n y.1 >>= λ ys. Ok (y.0 ∷ ys.0, ys.1)) x e in
     let b = bind_ok (links_at read n a.0.1) (λ ys. Ok (a.0.0 ∷ ys.0, ys.1)) x a.2 in
     let made : List V × List ℕ = (a.0.0 ∷ b.0.0, b.0.1) in
-    let behind = Takes-then (spells a.0.0) (AreLinks spells b.0.0) middle a.0.1 b.0.1 (one middle a.0 a.1) (more a.0.1 b.0 b.1) in
+    let appended = Takes-then (spells a.0.0) (AreLinks spells b.0.0) middle a.0.1 b.0.1 (one middle a.0 a.1) (more a.0.1 b.0 b.1) in
     subst (λ (y : List V × List ℕ). Takes (AreLinks spells y.0) bytes y.1) (ok_is made x b.2)
-    (Takes-then (IsNumber w32 1) (Follows (spells a.0.0) (AreLinks spells b.0.0)) bytes middle b.0.1 first behind)
+    (Takes-then (IsNumber w32 1) (Follows (spells a.0.0) (AreLinks spells b.0.0)) bytes middle b.0.1 first appended)
 
 number_of_read : (bytes : List ℕ) (x : Bool × List ℕ) → (number_at w32 bytes >>= boolean_from) ≡ Ok x → Takes (IsNumber w32 (number_of_bool x.0)) bytes x.1
 number_of_read bytes x e = boolean_takes bytes x e
@@ -102,7 +102,7 @@ arm_takes_by n t others false d bytes x one more here there e =
 
 mutual
   pub takes : (t : Xdr) → TakesAll (read_at t) (Spells t)
-  takes void bytes x e = subst (λ (y : Unit {0} × List ℕ). Takes (λ b. b ≡ []) bytes y.1) (ok_is (tt, bytes) x e) (record { front = []; taken = refl; parts = refl })
+  takes void bytes x e = subst (λ (y : Unit {0} × List ℕ). Takes (λ b. b ≡ []) bytes y.1) (ok_is (tt, bytes) x e) (record { prefix = []; taken = refl; parts = refl })
   takes uint bytes x e = number_takes w32 bytes x.0 x.1 e
   takes hyper bytes x e = number_takes w64 bytes x.0 x.1 e
   takes signed_hyper bytes x e = integer_takes w64 bytes x.0 x.1 e
@@ -113,7 +113,7 @@ mutual
       let t = padded_takes a.0 a.1 x.0 x.1 a.4 in
       let len : length x.0 ≡ a.0 = t.taken.0 in
       let both = Takes-then (IsNumber w32 a.0) (λ b. (length x.0 ≡ a.0) × IsPadded x.0 b) bytes a.1 x.1 a.3 t in
-      weaker _ (Spells (opaque max) x.0) bytes x.1 (λ b h. (omega (arith, len, a.2), record { front = h.front; back = h.back; joined = h.joined; first = subst (λ (k : ℕ). IsNumber w32 k h.front) (sym len) h.first; second = h.second.1 })) both
+      weaker _ (Spells (opaque max) x.0) bytes x.1 (λ b h. (omega (arith, len, a.2), record { prefix = h.prefix; back = h.back; joined = h.joined; first = subst (λ (k : ℕ). IsNumber w32 k h.prefix) (sym len) h.first; second = h.second.1 })) both
   takes (pair s t) bytes x e =
       let a = bind_ok (read_at s bytes) (λ y. read_at t y.1 >>= λ z. Ok ((y.0, z.0), z.1)) x e in
       let b = bind_ok (read_at t a.0.1) (λ z. Ok ((a.0.0, z.0), z.1)) x a.2 in
@@ -125,7 +125,7 @@ mutual
       let a = counted_takes max (items_at (read_at t)) bytes x e in
       let i = items_take (read_at t) (Spells t) (takes t) a.0 a.1 x a.4 in
       let both = Takes-then (IsNumber w32 a.0) (AreItems (Spells t) x.0) bytes a.1 x.1 a.3 i.1 in
-      weaker _ (Spells (array max t) x.0) bytes x.1 (λ b h. (omega (arith, i.0, a.2), record { front = h.front; back = h.back; joined = h.joined; first = subst (λ (k : ℕ). IsNumber w32 k h.front) (sym i.0) h.first; second = h.second })) both
+      weaker _ (Spells (array max t) x.0) bytes x.1 (λ b h. (omega (arith, i.0, a.2), record { prefix = h.prefix; back = h.back; joined = h.joined; first = subst (λ (k : ℕ). IsNumber w32 k h.prefix) (sym i.0) h.first; second = h.second })) both
   takes (optional t) bytes x e =
       let a = bind_ok (number_at w32 bytes >>= boolean_from) (optional_from (read_at t)) x e in
       optional_takes t (takes t) a.0.0 bytes a.0.1 x (number_of_read bytes a.0 a.1) a.2
@@ -144,85 +144,85 @@ mutual
       subst (λ (y : (ℕ × Value t) × List ℕ). Takes (SpellsArm (otherwise t) y.0 d) bytes y.1) (ok_is made x a.2)
       (weaker (Spells t a.0.0) _ bytes a.0.1 (λ u h. (refl, h)) (takes t bytes a.0 a.1))
 
--- ---- what is spelled so is read
+-- ---- an encoding is read as its value
 
--- a reader reads what the relation spells, whatever follows
+-- a reader reads every encoding of the relation, whatever follows
 abbrev pub ReadsAll : {V : Type 0} → (List ℕ → Read V) → (V → List ℕ → Type 0) → Type 0
-ReadsAll {V} read spells = (v : V) (front rest : List ℕ) → spells v front → read (front ++ rest) ≡ Ok (v, rest)
+ReadsAll {V} read spells = (v : V) (prefix rest : List ℕ) → spells v prefix → read (prefix ++ rest) ≡ Ok (v, rest)
 
--- the parts of a spelling, regrouped with what follows
-regroup : (P Q : List ℕ → Type 0) (front rest : List ℕ) (f : Follows P Q front) → front ++ rest ≡ f.front ++ (f.back ++ rest)
-regroup P Q front rest f = ap (λ (t : List ℕ). t ++ rest) f.joined ∙ append_assoc f.front f.back rest
+-- the parts of an encoding, regrouped with what follows
+regroup : (P Q : List ℕ → Type 0) (prefix rest : List ℕ) (f : Follows P Q prefix) → prefix ++ rest ≡ f.prefix ++ (f.back ++ rest)
+regroup P Q prefix rest f = ap (λ (t : List ℕ). t ++ rest) f.joined ∙ append_assoc f.prefix f.back rest
 
-items_again : {V : Type 0} (read : List ℕ → Read V) (spells : V → List ℕ → Type 0) → ReadsAll read spells → (vs : List V) (front rest : List ℕ) → AreItems spells vs front → items_at read (length vs) (front ++ rest) ≡ Ok (vs, rest)
-items_again {V} read spells one [] front rest h = rw h refl
-items_again {V} read spells one (v ∷ vs) front rest h =
-    ap (items_at read (suc (length vs))) (regroup (spells v) (AreItems spells vs) front rest h)
-    ∙ rw (one v h.front (h.back ++ rest) h.first, items_again read spells one vs h.back rest h.second) refl
+items_again : {V : Type 0} (read : List ℕ → Read V) (spells : V → List ℕ → Type 0) → ReadsAll read spells → (vs : List V) (prefix rest : List ℕ) → AreItems spells vs prefix → items_at read (length vs) (prefix ++ rest) ≡ Ok (vs, rest)
+items_again {V} read spells one [] prefix rest h = rw h refl
+items_again {V} read spells one (v ∷ vs) prefix rest h =
+    ap (items_at read (suc (length vs))) (regroup (spells v) (AreItems spells vs) prefix rest h)
+    ∙ rw (one v h.prefix (h.back ++ rest) h.first, items_again read spells one vs h.back rest h.second) refl
 
--- where there are at least as many steps as bytes
-links_again : {V : Type 0} (read : List ℕ → Read V) (spells : V → List ℕ → Type 0) → ReadsAll read spells → (vs : List V) (n : ℕ) (front rest : List ℕ) → length (front ++ rest) ≤ n → AreLinks spells vs front → links_at read n (front ++ rest) ≡ Ok (vs, rest)
-links_again {V} read spells one [] zero front rest le h = absurd (omega (arith, le, length-append front rest, h.len))
-links_again {V} read spells one [] (suc n) front rest le h = rw (number_again w32 0 front rest h) refl
-links_again {V} read spells one (v ∷ vs) zero front rest le h = absurd (omega (arith, le, length-append front rest, ap length h.joined, length-append h.front h.back, h.first.len))
-links_again {V} read spells one (v ∷ vs) (suc n) front rest le h =
+-- if there are at least as many steps as bytes
+links_again : {V : Type 0} (read : List ℕ → Read V) (spells : V → List ℕ → Type 0) → ReadsAll read spells → (vs : List V) (n : ℕ) (prefix rest : List ℕ) → length (prefix ++ rest) ≤ n → AreLinks spells vs prefix → links_at read n (prefix ++ rest) ≡ Ok (vs, rest)
+links_again {V} read spells one [] zero prefix rest le h = absurd (omega (arith, le, length-append prefix rest, h.len))
+links_again {V} read spells one [] (suc n) prefix rest le h = rw (number_again w32 0 prefix rest h) refl
+links_again {V} read spells one (v ∷ vs) zero prefix rest le h = absurd (omega (arith, le, length-append prefix rest, ap length h.joined, length-append h.prefix h.back, h.first.len))
+links_again {V} read spells one (v ∷ vs) (suc n) prefix rest le h =
     let k = h.second in
-    let outer = regroup (IsNumber w32 1) (Follows (spells v) (AreLinks spells vs)) front rest h in
+    let outer = regroup (IsNumber w32 1) (Follows (spells v) (AreLinks spells vs)) prefix rest h in
     let inner = regroup (spells v) (AreLinks spells vs) h.back rest k in
-    let fewer : length (k.back ++ rest) ≤ n = omega (arith, le, ap length outer, length-append h.front (h.back ++ rest), h.first.len, ap length inner, length-append k.front (k.back ++ rest)) in
-    ap (links_at read (suc n)) (outer ∙ ap (λ (b : List ℕ). h.front ++ b) inner)
-    ∙ rw (number_again w32 1 h.front (k.front ++ (k.back ++ rest)) h.first, one v k.front (k.back ++ rest) k.first, links_again read spells one vs n k.back rest fewer k.second) refl
+    let fewer : length (k.back ++ rest) ≤ n = omega (arith, le, ap length outer, length-append h.prefix (h.back ++ rest), h.first.len, ap length inner, length-append k.prefix (k.back ++ rest)) in
+    ap (links_at read (suc n)) (outer ∙ ap (λ (b : List ℕ). h.prefix ++ b) inner)
+    ∙ rw (number_again w32 1 h.prefix (k.prefix ++ (k.back ++ rest)) h.first, one v k.prefix (k.back ++ rest) k.first, links_again read spells one vs n k.back rest fewer k.second) refl
 
 boolean_again : (b : Bool) (rest : List ℕ) → boolean_from (number_of_bool b, rest) ≡ Ok (b, rest)
 boolean_again true rest = refl
 boolean_again false rest = refl
 
 optional_again : (t : Xdr) → ReadsAll (read_at t) (Spells t) → ReadsAll (read_at (optional t)) (Spells (optional t))
-optional_again t one None front rest h = rw (number_again w32 0 front rest h) refl
-optional_again t one (Some v) front rest h =
-    ap (read_at (optional t)) (regroup (IsNumber w32 1) (Spells t v) front rest h)
-    ∙ rw (number_again w32 1 h.front (h.back ++ rest) h.first, one v h.back rest h.second) refl
+optional_again t one None prefix rest h = rw (number_again w32 0 prefix rest h) refl
+optional_again t one (Some v) prefix rest h =
+    ap (read_at (optional t)) (regroup (IsNumber w32 1) (Spells t v) prefix rest h)
+    ∙ rw (number_again w32 1 h.prefix (h.back ++ rest) h.first, one v h.back rest h.second) refl
 
 mutual
   pub again : (t : Xdr) → ReadsAll (read_at t) (Spells t)
-  again void v front rest h = rw h refl
-  again uint v front rest h = number_again w32 v front rest h
-  again hyper v front rest h = number_again w64 v front rest h
-  again signed_hyper v front rest h = integer_again w64 v front rest h
-  again boolean v front rest h = rw (number_again w32 (number_of_bool v) front rest h) (boolean_again v rest)
-  again (fixed n) v front rest h = padded_again n v front rest h.0 h.1
-  again (opaque max) v front rest h =
-      ap (read_at (opaque max)) (regroup (IsNumber w32 (length v)) (IsPadded v) front rest h.1)
-      ∙ counted_again max padded_at (length v) h.1.front (h.1.back ++ rest) h.0 h.1.first ∙ padded_again (length v) v h.1.back rest refl h.1.second
-  again (pair s t) v front rest h =
-      ap (read_at (pair s t)) (regroup (Spells s v.0) (Spells t v.1) front rest h)
-      ∙ rw (again s v.0 h.front (h.back ++ rest) h.first, again t v.1 h.back rest h.second) refl
-  again (fixed_array n t) v front rest h = ap (λ (k : ℕ). items_at (read_at t) k (front ++ rest)) (sym h.0) ∙ items_again (read_at t) (Spells t) (again t) v front rest h.1
-  again (array max t) v front rest h =
-      ap (read_at (array max t)) (regroup (IsNumber w32 (length v)) (AreItems (Spells t) v) front rest h.1)
-      ∙ counted_again max (items_at (read_at t)) (length v) h.1.front (h.1.back ++ rest) h.0 h.1.first ∙ items_again (read_at t) (Spells t) (again t) v h.1.back rest h.1.second
-  again (optional t) v front rest h = optional_again t (again t) v front rest h
-  again (chain t) v front rest h = links_again (read_at t) (Spells t) (again t) v (length (front ++ rest)) front rest (omega arith) h
-  again (union a) v front rest h =
-      ap (read_at (union a)) (regroup (IsNumber w32 h.0) (SpellsArm a v h.0) front rest h.1)
-      ∙ rw (number_again w32 h.0 h.1.front (h.1.back ++ rest) h.1.first) (arm_again a v h.0 h.1.back rest h.1.second)
+  again void v prefix rest h = rw h refl
+  again uint v prefix rest h = number_again w32 v prefix rest h
+  again hyper v prefix rest h = number_again w64 v prefix rest h
+  again signed_hyper v prefix rest h = integer_again w64 v prefix rest h
+  again boolean v prefix rest h = rw (number_again w32 (number_of_bool v) prefix rest h) (boolean_again v rest)
+  again (fixed n) v prefix rest h = padded_again n v prefix rest h.0 h.1
+  again (opaque max) v prefix rest h =
+      ap (read_at (opaque max)) (regroup (IsNumber w32 (length v)) (IsPadded v) prefix rest h.1)
+      ∙ counted_again max padded_at (length v) h.1.prefix (h.1.back ++ rest) h.0 h.1.first ∙ padded_again (length v) v h.1.back rest refl h.1.second
+  again (pair s t) v prefix rest h =
+      ap (read_at (pair s t)) (regroup (Spells s v.0) (Spells t v.1) prefix rest h)
+      ∙ rw (again s v.0 h.prefix (h.back ++ rest) h.first, again t v.1 h.back rest h.second) refl
+  again (fixed_array n t) v prefix rest h = ap (λ (k : ℕ). items_at (read_at t) k (prefix ++ rest)) (sym h.0) ∙ items_again (read_at t) (Spells t) (again t) v prefix rest h.1
+  again (array max t) v prefix rest h =
+      ap (read_at (array max t)) (regroup (IsNumber w32 (length v)) (AreItems (Spells t) v) prefix rest h.1)
+      ∙ counted_again max (items_at (read_at t)) (length v) h.1.prefix (h.1.back ++ rest) h.0 h.1.first ∙ items_again (read_at t) (Spells t) (again t) v h.1.back rest h.1.second
+  again (optional t) v prefix rest h = optional_again t (again t) v prefix rest h
+  again (chain t) v prefix rest h = links_again (read_at t) (Spells t) (again t) v (length (prefix ++ rest)) prefix rest (omega arith) h
+  again (union a) v prefix rest h =
+      ap (read_at (union a)) (regroup (IsNumber w32 h.0) (SpellsArm a v h.0) prefix rest h.1)
+      ∙ rw (number_again w32 h.0 h.1.prefix (h.1.back ++ rest) h.1.first) (arm_again a v h.0 h.1.back rest h.1.second)
 
-  pub arm_again : (a : Arms) (v : ArmValue a) (d : ℕ) (front rest : List ℕ) → SpellsArm a v d front → read_arm a d (front ++ rest) ≡ Ok (v, rest)
-  arm_again no_more v d front rest h = absurd h
-  arm_again (arm n t others) (inl v) d front rest h = rw (eq-eqb d n h.0, again t v front rest h.1) refl
-  arm_again (arm n t others) (inr v) d front rest h = rw (ne_eqb d n h.0, arm_again others v d front rest h.1) refl
-  arm_again (otherwise t) v d front rest h = rw (again t v.1 front rest h.1, h.0) refl
+  pub arm_again : (a : Arms) (v : ArmValue a) (d : ℕ) (prefix rest : List ℕ) → SpellsArm a v d prefix → read_arm a d (prefix ++ rest) ≡ Ok (v, rest)
+  arm_again no_more v d prefix rest h = absurd h
+  arm_again (arm n t others) (inl v) d prefix rest h = rw (eq-eqb d n h.0, again t v prefix rest h.1) refl
+  arm_again (arm n t others) (inr v) d prefix rest h = rw (ne_eqb d n h.0, arm_again others v d prefix rest h.1) refl
+  arm_again (otherwise t) v d prefix rest h = rw (again t v.1 prefix rest h.1, h.0) refl
 
 -- ---- both together
 
 pub begins_from_read : (t : Xdr) (v : Value t) (bytes rest : List ℕ) → read_at t bytes ≡ Ok (v, rest) → Begins t v bytes rest
-begins_from_read t v bytes rest e = let h = takes t bytes (v, rest) e in record { front = h.front; spelled = h.taken; parts = h.parts }
+begins_from_read t v bytes rest e = let h = takes t bytes (v, rest) e in record { prefix = h.prefix; spelled = h.taken; parts = h.parts }
 
 pub read_from_begins : (t : Xdr) (v : Value t) (bytes rest : List ℕ) → Begins t v bytes rest → read_at t bytes ≡ Ok (v, rest)
-read_from_begins t v bytes rest h = ap (read_at t) h.parts ∙ again t v h.front rest h.spelled
+read_from_begins t v bytes rest h = ap (read_at t) h.parts ∙ again t v h.prefix rest h.spelled
 
-pub one_at_a_front : (t : Xdr) (v w : Value t) (a b x y : List ℕ) → Spells t v a → Spells t w b → a ++ x ≡ b ++ y → (v ≡ w) × (a ≡ b)
-one_at_a_front t v w a b x y p q e =
+pub one_at_a_prefix : (t : Xdr) (v w : Value t) (a b x y : List ℕ) → Spells t v a → Spells t w b → a ++ x ≡ b ++ y → (v ≡ w) × (a ≡ b)
+one_at_a_prefix t v w a b x y p q e =
     let first : Value t × List ℕ = (v, x) in
     let second : Value t × List ℕ = (w, y) in
     let same : first ≡ second = ok_is first second (sym (again t v a x p) ∙ ap (read_at t) e ∙ again t w b y q) in
@@ -261,17 +261,17 @@ number_of_bool_is false = lit< tt
 
 items_spelled : {V : Type 0} (spells : V → List ℕ → Type 0) (spelling_of : V → List ℕ) (fits : V → Type 0) → ((v : V) → fits v → spells v (spelling_of v)) → (vs : List V) → AllByRecursion fits vs → AreItems spells vs (flat_map spelling_of vs)
 items_spelled spells spelling_of fits one [] h = refl
-items_spelled spells spelling_of fits one (v ∷ vs) h = record { front = spelling_of v; back = flat_map spelling_of vs; joined = refl; first = one v h.0; second = items_spelled spells spelling_of fits one vs h.1 }
+items_spelled spells spelling_of fits one (v ∷ vs) h = record { prefix = spelling_of v; back = flat_map spelling_of vs; joined = refl; first = one v h.0; second = items_spelled spells spelling_of fits one vs h.1 }
 
 links_spelled : {V : Type 0} (spells : V → List ℕ → Type 0) (spelling_of : V → List ℕ) (fits : V → Type 0) → ((v : V) → fits v → spells v (spelling_of v)) → (vs : List V) → AllByRecursion fits vs → AreLinks spells vs (flat_map (link spelling_of) vs ++ to_be_bytes w32 0)
 links_spelled spells spelling_of fits one [] h = number32 0 (lit< tt)
 links_spelled spells spelling_of fits one (v ∷ vs) h =
     let rest = flat_map (link spelling_of) vs ++ to_be_bytes w32 0 in record {
-      front = to_be_bytes w32 1;
+      prefix = to_be_bytes w32 1;
       back = spelling_of v ++ rest;
       joined = append_assoc (link spelling_of v) (flat_map (link spelling_of) vs) (to_be_bytes w32 0) ∙ append_assoc (to_be_bytes w32 1) (spelling_of v) rest;
       first = number32 1 (lit< tt);
-      second = record { front = spelling_of v; back = rest; joined = refl; first = one v h.0; second = links_spelled spells spelling_of fits one vs h.1 };
+      second = record { prefix = spelling_of v; back = rest; joined = refl; first = one v h.0; second = links_spelled spells spelling_of fits one vs h.1 };
     }
 
 mutual
@@ -282,14 +282,14 @@ mutual
   spelled signed_hyper v h = integer64 v h
   spelled boolean v h = number32 (number_of_bool v) (number_of_bool_is v)
   spelled (fixed n) v h = (h, refl)
-  spelled (opaque max) v h = (h.0, record { front = to_be_bytes w32 (length v); back = padded v; joined = refl; first = number32 (length v) h.1; second = refl })
-  spelled (pair s t) v h = record { front = spelling s v.0; back = spelling t v.1; joined = refl; first = spelled s v.0 h.0; second = spelled t v.1 h.1 }
+  spelled (opaque max) v h = (h.0, record { prefix = to_be_bytes w32 (length v); back = padded v; joined = refl; first = number32 (length v) h.1; second = refl })
+  spelled (pair s t) v h = record { prefix = spelling s v.0; back = spelling t v.1; joined = refl; first = spelled s v.0 h.0; second = spelled t v.1 h.1 }
   spelled (fixed_array n t) v h = (h.0, items_spelled (Spells t) (spelling t) (HasSpelling t) (spelled t) v h.1)
-  spelled (array max t) v h = (h.0, record { front = to_be_bytes w32 (length v); back = flat_map (spelling t) v; joined = refl; first = number32 (length v) h.1; second = items_spelled (Spells t) (spelling t) (HasSpelling t) (spelled t) v h.2 })
+  spelled (array max t) v h = (h.0, record { prefix = to_be_bytes w32 (length v); back = flat_map (spelling t) v; joined = refl; first = number32 (length v) h.1; second = items_spelled (Spells t) (spelling t) (HasSpelling t) (spelled t) v h.2 })
   spelled (optional t) None h = number32 0 (lit< tt)
-  spelled (optional t) (Some v) h = record { front = to_be_bytes w32 1; back = spelling t v; joined = refl; first = number32 1 (lit< tt); second = spelled t v h }
+  spelled (optional t) (Some v) h = record { prefix = to_be_bytes w32 1; back = spelling t v; joined = refl; first = number32 1 (lit< tt); second = spelled t v h }
   spelled (chain t) v h = links_spelled (Spells t) (spelling t) (HasSpelling t) (spelled t) v h
-  spelled (union a) v h = (discriminant a v, record { front = to_be_bytes w32 (discriminant a v); back = arm_spelling a v; joined = refl; first = number32 (discriminant a v) h.0; second = arm_spelled a v (discriminant a v) h.1 })
+  spelled (union a) v h = (discriminant a v, record { prefix = to_be_bytes w32 (discriminant a v); back = arm_spelling a v; joined = refl; first = number32 (discriminant a v) h.0; second = arm_spelled a v (discriminant a v) h.1 })
 
   pub arm_spelled : (a : Arms) (v : ArmValue a) (d : ℕ) → ArmHasSpelling a v d → SpellsArm a v d (arm_spelling a v)
   arm_spelled no_more v d h = absurd v

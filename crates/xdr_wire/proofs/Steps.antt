@@ -28,17 +28,17 @@ done x = Ok x
 pub ok_is : {A : Type 0} (x y : A) → done x ≡ done y → x ≡ y
 ok_is x y e = cc
 
--- a reader took this from the front, where the parts that it may take meet P
+-- a reader consumed a prefix, if the parts that it may consume satisfy P
 pub record Takes (P : List ℕ → Type 0) (bytes rest : List ℕ) : Type 0 where
-  pub front : List ℕ
-  pub taken : P front
-  pub parts : bytes ≡ front ++ rest
+  pub prefix : List ℕ
+  pub taken : P prefix
+  pub parts : bytes ≡ prefix ++ rest
 
 pub Takes-then : (P Q : List ℕ → Type 0) (a b c : List ℕ) → Takes P a b → Takes Q b c → Takes (Follows P Q) a c
 Takes-then P Q a b c p q = record {
-  front = p.front ++ q.front;
-  taken = record { front = p.front; back = q.front; joined = refl; first = p.taken; second = q.taken };
-  parts = p.parts ∙ ap (λ (t : List ℕ). p.front ++ t) q.parts ∙ sym (append_assoc p.front q.front c);
+  prefix = p.prefix ++ q.prefix;
+  taken = record { prefix = p.prefix; back = q.prefix; joined = refl; first = p.taken; second = q.taken };
+  parts = p.parts ∙ ap (λ (t : List ℕ). p.prefix ++ t) q.parts ∙ sym (append_assoc p.prefix q.prefix c);
 }
 
 -- ---- numbers
@@ -51,15 +51,15 @@ number_takes w bytes n rest e =
     let n-is : from_be_bytes w (take (byte_len w) bytes) ≡ n = ap (λ (p : ℕ × List ℕ). p.0) same in
     let rest-is : drop (byte_len w) bytes ≡ rest = ap (λ (p : ℕ × List ℕ). p.1) same in
     record {
-      front = take (byte_len w) bytes;
+      prefix = take (byte_len w) bytes;
       taken = record { len = omega (arith, length-take (byte_len w) bytes); value = n-is };
       parts = rw (← rest-is) (sym (take-append-drop (byte_len w) bytes));
     }
 
-pub number_again : (w : Width) (n : ℕ) (front rest : List ℕ) → IsNumber w n front → number_at w (front ++ rest) ≡ Ok (n, rest)
-number_again w n front rest h =
-    let long : ltb (length (front ++ rest)) (byte_len w) ≡ false = le-ltb _ _ (omega (arith, length-append front rest, h.len)) in
-    rw (long, take_at front rest (byte_len w) h.len, drop_at front rest (byte_len w) h.len, h.value) refl
+pub number_again : (w : Width) (n : ℕ) (prefix rest : List ℕ) → IsNumber w n prefix → number_at w (prefix ++ rest) ≡ Ok (n, rest)
+number_again w n prefix rest h =
+    let long : ltb (length (prefix ++ rest)) (byte_len w) ≡ false = le-ltb _ _ (omega (arith, length-append prefix rest, h.len)) in
+    rw (long, take_at prefix rest (byte_len w) h.len, drop_at prefix rest (byte_len w) h.len, h.value) refl
 
 pub integer_takes : (w : Width) (bytes : List ℕ) (z : ℤ) (rest : List ℕ) → integer_at w bytes ≡ Ok (z, rest) → Takes (IsInteger w z) bytes rest
 integer_takes w bytes z rest e =
@@ -68,13 +68,13 @@ integer_takes w bytes z rest e =
     let same : made ≡ (z, rest) = ok_is made (z, rest) a.2 in
     let t = number_takes w bytes a.0.0 a.0.1 a.1 in
     record {
-      front = t.front;
+      prefix = t.prefix;
       taken = record { len = t.taken.len; value = ap (cast_signed w) t.taken.value ∙ ap (λ (p : ℤ × List ℕ). p.0) same };
-      parts = t.parts ∙ ap (λ (p : ℤ × List ℕ). t.front ++ p.1) same;
+      parts = t.parts ∙ ap (λ (p : ℤ × List ℕ). t.prefix ++ p.1) same;
     }
 
-pub integer_again : (w : Width) (z : ℤ) (front rest : List ℕ) → IsInteger w z front → integer_at w (front ++ rest) ≡ Ok (z, rest)
-integer_again w z front rest h = rw (number_again w (from_be_bytes w front) front rest (record { len = h.len; value = refl }), h.value) refl
+pub integer_again : (w : Width) (z : ℤ) (prefix rest : List ℕ) → IsInteger w z prefix → integer_at w (prefix ++ rest) ≡ Ok (z, rest)
+integer_again w z prefix rest h = rw (number_again w (from_be_bytes w prefix) prefix rest (record { len = h.len; value = refl }), h.value) refl
 
 -- ---- padded bytes
 
@@ -102,26 +102,26 @@ padded_takes n bytes v rest e =
     let zeros_len : length zeros ≡ padding n = omega (arith, length-take (padding n) (drop n bytes), length-drop n bytes) in
     let zeros_are : zeros ≡ replicate (padding n) 0 = all_zero zeros h.0 ∙ ap (λ (k : ℕ). replicate k 0) zeros_len in
     let padded : IsPadded (take n bytes) (take n bytes ++ zeros) = ap (λ (t : List ℕ). take n bytes ++ t) (zeros_are ∙ ap (λ (k : ℕ). replicate (padding k) 0) (sym len)) in
-    let behind : drop n bytes ≡ zeros ++ drop (n + padding n) bytes = sym (take-append-drop (padding n) (drop n bytes)) ∙ ap (λ (t : List ℕ). zeros ++ t) (drop-drop (padding n) n bytes) in
-    let whole : bytes ≡ (take n bytes ++ zeros) ++ drop (n + padding n) bytes = sym (take-append-drop n bytes) ∙ ap (λ (t : List ℕ). take n bytes ++ t) behind ∙ sym (append_assoc (take n bytes) zeros (drop (n + padding n) bytes)) in
+    let appended : drop n bytes ≡ zeros ++ drop (n + padding n) bytes = sym (take-append-drop (padding n) (drop n bytes)) ∙ ap (λ (t : List ℕ). zeros ++ t) (drop-drop (padding n) n bytes) in
+    let whole : bytes ≡ (take n bytes ++ zeros) ++ drop (n + padding n) bytes = sym (take-append-drop n bytes) ∙ ap (λ (t : List ℕ). take n bytes ++ t) appended ∙ sym (append_assoc (take n bytes) zeros (drop (n + padding n) bytes)) in
     record {
-      front = take n bytes ++ zeros;
+      prefix = take n bytes ++ zeros;
       taken = subst (λ (w : List ℕ). (length w ≡ n) × IsPadded w (take n bytes ++ zeros)) v-is (len, padded);
       parts = subst (λ (w : List ℕ). bytes ≡ (take n bytes ++ zeros) ++ w) rest-is whole;
     }
 
-pub padded_again : (n : ℕ) (v front rest : List ℕ) → length v ≡ n → IsPadded v front → padded_at n (front ++ rest) ≡ Ok (v, rest)
+pub padded_again : (n : ℕ) (v prefix rest : List ℕ) → length v ≡ n → IsPadded v prefix → padded_at n (prefix ++ rest) ≡ Ok (v, rest)
 unfolding padded_at
-padded_again n v front rest len h =
+padded_again n v prefix rest len h =
     let zeros = replicate (padding n) 0 in
-    let whole : front ++ rest ≡ v ++ (zeros ++ rest) = ap (λ (t : List ℕ). t ++ rest) (h ∙ ap (λ (k : ℕ). v ++ replicate (padding k) 0) len) ∙ append_assoc v zeros rest in
+    let whole : prefix ++ rest ≡ v ++ (zeros ++ rest) = ap (λ (t : List ℕ). t ++ rest) (h ∙ ap (λ (k : ℕ). v ++ replicate (padding k) 0) len) ∙ append_assoc v zeros rest in
     let zeros_len : length zeros ≡ padding n = length-replicate (padding n) 0 in
     let long : ltb (length (v ++ (zeros ++ rest))) (n + padding n) ≡ false = le-ltb _ _ (omega (arith, length-append v (zeros ++ rest), length-append zeros rest, zeros_len, len)) in
     let item : take n (v ++ (zeros ++ rest)) ≡ v = take_at v (zeros ++ rest) n len in
-    let behind : drop n (v ++ (zeros ++ rest)) ≡ zeros ++ rest = drop_at v (zeros ++ rest) n len in
+    let appended : drop n (v ++ (zeros ++ rest)) ≡ zeros ++ rest = drop_at v (zeros ++ rest) n len in
     let pads : take (padding n) (zeros ++ rest) ≡ zeros = take_at zeros rest (padding n) zeros_len in
-    let left : drop (n + padding n) (v ++ (zeros ++ rest)) ≡ rest = sym (drop-drop (padding n) n (v ++ (zeros ++ rest))) ∙ ap (drop (padding n)) behind ∙ drop_at zeros rest (padding n) zeros_len in
-    ap (padded_at n) whole ∙ rw (long, behind, pads, zeros_all (padding n), item, left) refl
+    let left : drop (n + padding n) (v ++ (zeros ++ rest)) ≡ rest = sym (drop-drop (padding n) n (v ++ (zeros ++ rest))) ∙ ap (drop (padding n)) appended ∙ drop_at zeros rest (padding n) zeros_len in
+    ap (padded_at n) whole ∙ rw (long, appended, pads, zeros_all (padding n), item, left) refl
 
 -- ---- a count or a length, at most max, and what it counts
 
@@ -139,5 +139,5 @@ counted_takes max body bytes x e =
     let c = count_takes max bytes a.0 a.1 in
     (a.0.0, a.0.1, c.0, c.1, a.2)
 
-pub counted_again : {V : Type 0} (max : ℕ) (body : ℕ → List ℕ → Read V) (n : ℕ) (front rest : List ℕ) → n ≤ max → IsNumber w32 n front → counted max body (front ++ rest) ≡ body n rest
-counted_again max body n front rest le h = rw (number_again w32 n front rest h, le-ltb max n le) refl
+pub counted_again : {V : Type 0} (max : ℕ) (body : ℕ → List ℕ → Read V) (n : ℕ) (prefix rest : List ℕ) → n ≤ max → IsNumber w32 n prefix → counted max body (prefix ++ rest) ≡ body n rest
+counted_again max body n prefix rest le h = rw (number_again w32 n prefix rest h, le-ltb max n le) refl

@@ -1,4 +1,4 @@
--- Reading a value from left to right, with the first fault that is met.
+-- Reading a value from left to right, up to the first fault.
 use Rattle.std.specs.Prelude.{◌≡◌, ◌+◌, ℕ, ℤ, zero, suc, Bool, true, false, List, [], ◌∷◌, length, take, drop, Option}
 use Rattle.std.specs.Prelude.{Some, None, Result, Ok, Err, nat_lt, ◌==◌, if◌then◌else◌}
 use Rattle.std.proofs.Common.{inl, inr}
@@ -47,7 +47,7 @@ boolean_at bytes = number_at w32 bytes >>= boolean_from
 abbrev pub count_at : ℕ → List ℕ → Read ℕ
 count_at max bytes = number_at w32 bytes >>= λ n. if nat_lt max n.0 then Err TooLong else Ok n
 
--- a value that stands after a count or a length, read by it
+-- a value after its count or its length, which bounds its reading
 abbrev pub counted : {V : Type 0} → ℕ → (ℕ → List ℕ → Read V) → List ℕ → Read V
 counted max body bytes = count_at max bytes >>= λ n. body n.0 n.1
 
@@ -59,13 +59,12 @@ abbrev pub optional_from : {V : Type 0} → (List ℕ → Read V) → Bool × Li
 optional_from item (false, rest) = Ok (None, rest)
 optional_from item (true, rest) = item rest >>= λ x. Ok (Some x.0, x.1)
 
--- after a true the list goes on, and a false ends it
+-- after TRUE the list continues, and FALSE ends it
 abbrev pub linked : {V : Type 0} → (List ℕ → Read (List V)) → Bool × List ℕ → Read (List V)
 linked onward (false, rest) = Ok ([], rest)
 linked onward (true, rest) = onward rest
 
--- Items after one another's links. Each link is four bytes, so that there are fewer links than
--- bytes.
+-- Items, each after its link. A link takes four bytes, and there are therefore fewer links than bytes.
 abbrev pub links_at : {V : Type 0} → (List ℕ → Read V) → ℕ → List ℕ → Read (List V)
 links_at item zero bytes = Err Short
 links_at item (suc n) bytes =
@@ -95,7 +94,7 @@ abbrev mutual
       else (read_arm others d bytes >>= λ x. Ok (inr x.0, x.1))
   read_arm (otherwise t) d bytes = read_at t bytes >>= λ x. Ok ((d, x.0), x.1)
 
--- A call gives the value that reading gives, or its fault; then the bytes are left as they were.
+-- A call returns the value that reading gives, or its fault; after a fault the bytes are unchanged.
 abbrev pub Gives : {X V : Type 0} → (X → V) → List ℕ → List ℕ → Result X XdrFault → Read V → Type 0
 Gives view old new (Ok x) read = read ≡ Ok (view x, new)
 Gives view old new (Err e) read = (read ≡ Err e) × (new ≡ old)

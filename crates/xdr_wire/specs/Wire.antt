@@ -1,10 +1,10 @@
--- The value that a Rust value spells.
+-- The XDR value that a Rust value is encoded as.
 use Rattle.std.specs.Prelude.{◌≡◌, ◌∷◌, [], List, ℕ, Ok, Err, Option, Some, None, option_map, map}
 use Rattle.xdr_wire.specs.Xdr.{Xdr, Value, chain}
 use Rattle.xdr_wire.specs.Reading.{◌>>=◌, Read, read_at, items_at}
 
--- Values that mean one thing have one normal form, as where a field is ignored. Mostly each value
--- is its own: then there is none to take.
+-- Values that mean the same have one normal form, as when a field is ignored. For most types each value is its own
+-- normal form, and this is None.
 abbrev pub Normal : Type 0 → Type 0
 Normal V = Option (V → V)
 
@@ -12,7 +12,7 @@ abbrev pub normalized : {V : Type 0} → Normal V → V → V
 normalized None v = v
 normalized (Some f) v = f v
 
--- the result of reading, with each value in its normal form
+-- the result of reading, with the value in its normal form
 abbrev pub in_normal_form : {V : Type 0} → Normal V → Read V → Read V
 in_normal_form None read = read
 in_normal_form (Some f) read = read >>= λ x. Ok (f x.0, x.1)
@@ -37,20 +37,20 @@ abbrev pub at_most_one : {X V : Type 0} → (X → V) → Option X → List V
 at_most_one view None = []
 at_most_one view (Some x) = view x ∷ []
 
--- the values that reading gives, where it gives some
+-- the values that reading gives, if it succeeds
 abbrev pub values_of : {V : Type 0} → Read (List V) → List V
 values_of (Ok x) = x.0
 values_of (Err e) = []
 
--- the values of the first n items that stand in the bytes, in normal form
+-- the values of the first n items in the bytes, in normal form
 abbrev pub array_values : (t : Xdr) → Normal (Value t) → ℕ → List ℕ → List (Value t)
 array_values t normal n bytes = normalized (each normal) (values_of (items_at (read_at t) n bytes))
 
--- the values of the chain that stands at the front of the bytes, in normal form
+-- the values of the chain that the bytes begin with, in normal form
 abbrev pub chain_values : (t : Xdr) → Normal (Value t) → List ℕ → List (Value t)
 chain_values t normal bytes = normalized (each normal) (values_of (read_at (chain t) bytes))
 
--- The value taken from the front of a list, and the values that are left. There is none only where the list was empty.
+-- The first value of a list is taken, and the rest is left. If no value is taken, the list was empty.
 abbrev pub TakesFirst : {X V : Type 0} → (X → V) → Option X → List V → List V → Type 0
 TakesFirst view (Some x) old new = old ≡ view x ∷ new
 TakesFirst view None old new = (old ≡ []) × (new ≡ [])

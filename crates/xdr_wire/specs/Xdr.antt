@@ -1,4 +1,4 @@
--- The types of XDR (RFC 4506, section 4), the values of each, and the bytes that spell a value.
+-- The types of XDR (RFC 4506, section 4), the values of each, and the bytes that encode (spell) a value.
 use Rattle.std.specs.Prelude.{◌≡◌, ◌≢◌, ◌⊎◌, ◌≤◌, ◌<◌, ◌^◌, ◌-◌, ◌%◌, ℕ, ℤ, Bool, if◌then◌else◌, List, [], ◌∷◌, ◌++◌}
 use Rattle.std.specs.Prelude.{length, slice_index, replicate, Option, Some, None, FitsSigned}
 use Rattle.std.proofs.Common.{inl, inr}
@@ -26,12 +26,12 @@ mutual
     array : ℕ → Xdr → Xdr
     -- *t (4.19)
     optional : Xdr → Xdr
-    -- a list by optional data that links on (4.19): each item after a true, a false at the end
+    -- a list by optional data (4.19): each item after TRUE, and FALSE at the end
     chain : Xdr → Xdr
     -- union switch (unsigned int) (4.15)
     union : Arms → Xdr
 
-  -- the fields that stand after each discriminant of a union
+  -- the fields after each discriminant of a union
   pub data Arms : Type 0 where
     no_more : Arms
     -- case n: t
@@ -45,7 +45,7 @@ fields [] = void
 fields (t ∷ []) = t
 fields (t ∷ s ∷ ts) = pair t (fields (s ∷ ts))
 
--- The value of a union is that of its arm; a default arm's has the discriminant with it.
+-- The value of a union is that of its arm; the value of a default arm includes the discriminant.
 abbrev mutual
   pub Value : Xdr → Type 0
   Value void = Unit {0}
@@ -69,10 +69,10 @@ abbrev mutual
 
 -- the bytes of a first part, and then those of a second
 pub record Follows (First Second : List ℕ → Type 0) (bytes : List ℕ) : Type 0 where
-  pub front : List ℕ
+  pub prefix : List ℕ
   pub back : List ℕ
-  pub joined : bytes ≡ front ++ back
-  pub first : First front
+  pub joined : bytes ≡ prefix ++ back
+  pub first : First prefix
   pub second : Second back
 
 -- a number of w's width, its high byte first
@@ -85,7 +85,7 @@ pub record IsInteger (w : Width) (z : ℤ) (bytes : List ℕ) : Type 0 where
   pub len : length bytes ≡ byte_len w
   pub value : cast_signed w (from_be_bytes w bytes) ≡ z
 
--- how many zero bytes stand after n bytes (section 3)
+-- the number of zero bytes after n bytes (section 3)
 abbrev pub padding : ℕ → ℕ
 padding n = (4 - n % 4) % 4
 
@@ -101,7 +101,7 @@ abbrev pub AreItems : {V : Type 0} → (V → List ℕ → Type 0) → List V �
 AreItems spells [] bytes = bytes ≡ []
 AreItems spells (v ∷ vs) bytes = Follows (spells v) (AreItems spells vs) bytes
 
--- items, each after a true, and a false after the last
+-- items, each after TRUE, and FALSE after the last
 abbrev pub AreLinks : {V : Type 0} → (V → List ℕ → Type 0) → List V → List ℕ → Type 0
 AreLinks spells [] bytes = IsNumber w32 0 bytes
 AreLinks spells (v ∷ vs) bytes = Follows (IsNumber w32 1) (Follows (spells v) (AreLinks spells vs)) bytes
@@ -109,14 +109,14 @@ AreLinks spells (v ∷ vs) bytes = Follows (IsNumber w32 1) (Follows (spells v) 
 abbrev pub number_of_bool : Bool → ℕ
 number_of_bool b = if b then 1 else 0
 
--- the discriminant of the arm that a value is of
+-- the discriminant of the arm of a value
 abbrev pub discriminant : (a : Arms) → ArmValue a → ℕ
 discriminant no_more v = 0
 discriminant (arm n t others) (inl v) = n
 discriminant (arm n t others) (inr v) = discriminant others v
 discriminant (otherwise t) v = v.0
 
--- the bytes spell the value, all of the bytes
+-- the bytes, all of them, encode the value
 abbrev mutual
   pub Spells : (t : Xdr) → Value t → List ℕ → Type 0
   Spells void v bytes = bytes ≡ []
@@ -134,20 +134,20 @@ abbrev mutual
   Spells (chain t) vs bytes = AreLinks (Spells t) vs bytes
   Spells (union a) v bytes = (d : ℕ) × Follows (IsNumber w32 d) (SpellsArm a v d) bytes
 
-  -- after the discriminant d the bytes spell the value, in the first arm of d
+  -- after the discriminant d the bytes encode the value, in the first arm of d
   pub SpellsArm : (a : Arms) → ArmValue a → ℕ → List ℕ → Type 0
   SpellsArm no_more v d bytes = ⊥
   SpellsArm (arm n t others) (inl v) d bytes = (d ≡ n) × Spells t v bytes
   SpellsArm (arm n t others) (inr v) d bytes = (d ≢ n) × SpellsArm others v d bytes
   SpellsArm (otherwise t) v d bytes = (d ≡ v.0) × Spells t v.1 bytes
 
--- a spelling of the value stands at the front of the bytes, and the rest is after it
+-- the bytes begin with an encoding of the value, and the rest follows it
 pub record Begins (t : Xdr) (v : Value t) (bytes rest : List ℕ) : Type 0 where
-  pub front : List ℕ
-  pub spelled : Spells t v front
-  pub parts : bytes ≡ front ++ rest
+  pub prefix : List ℕ
+  pub spelled : Spells t v prefix
+  pub parts : bytes ≡ prefix ++ rest
 
--- the values that have a spelling
+-- the values that have an encoding
 abbrev mutual
   pub HasSpelling : (t : Xdr) → Value t → Type 0
   HasSpelling void v = Unit {0}
@@ -176,7 +176,7 @@ abbrev mutual
 abbrev pub link : {V : Type 0} → (V → List ℕ) → V → List ℕ
 link spelling_of v = to_be_bytes w32 1 ++ spelling_of v
 
--- the spelling of a value that has one
+-- the encoding of a value that has one
 abbrev mutual
   pub spelling : (t : Xdr) → Value t → List ℕ
   spelling void v = []

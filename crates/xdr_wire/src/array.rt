@@ -45,12 +45,12 @@ impl<'a, T: Wire<'a>> Wire<'a> for AtMostOne<T> {
     }
 }
 
-/// An array of at most `MAX` items (section 4.13) where it stands in the bytes: each item is read as it is taken.
+/// An array of at most `MAX` items (section 4.13), kept as its bytes: each item is decoded when it is taken.
 #[derive(Drop)]
 pub struct Array<'a, T: Wire<'a>, const MAX: u32> {
     /// The number of items that are left.
     pub count: u32,
-    /// Their spellings, one after the other, and maybe more bytes.
+    /// The encodings of these items, one after the other, and possibly more bytes.
     pub bytes: &'a [u8],
     of: PhantomData<T>,
     ghost within: { count ≤ MAX },
@@ -84,7 +84,7 @@ impl<'a, T: Wire<'a>, const MAX: u32> Array<'a, T, MAX> {
     }
 }
 
-/// Reads over items, one after the other.
+/// Decodes items, one after the other, and discards them.
 fn pass_items<'a, T: Wire<'a>>(reader: &mut Reader<'a>, count: u32) -> Result<(), XdrFault>
     ensures { Gives (λ _. values_of (items_at (read_at T.form) count reader.old)) reader.old reader.new result
         (items_at (read_at T.form) count reader.old) }

@@ -11,11 +11,11 @@ use crate::writer::{Full, Writer};
 use std::alloc::Allocator;
 use std::marker::PhantomData;
 
-/// A list of optional data that links on (RFC 4506, section 4.19) where it stands in the bytes, as
-/// the entries of a directory. Each item is read as it is taken.
+/// A list of optional data (RFC 4506, section 4.19), as the entries of a directory, kept as its bytes. Each item is
+/// decoded when it is taken.
 #[derive(Drop)]
 pub struct Chain<'a, T: Wire<'a>> {
-    /// The links that are left and the end, and maybe more bytes.
+    /// The items that are left, each after its TRUE, the FALSE at the end, and possibly more bytes.
     pub bytes: &'a [u8],
     of: PhantomData<T>,
     ghost spelled: { IsTrue (is_ok (read_at (chain T.form) bytes.now)) },
@@ -39,7 +39,7 @@ impl<'a, T: Wire<'a>> Chain<'a, T> {
     }
 }
 
-/// Reads over links and the end after them.
+/// Decodes links and the end after them, and discards them.
 fn pass_links<'a, T: Wire<'a>>(reader: &mut Reader<'a>) -> Result<(), XdrFault>
     ensures { Gives (λ _. values_of (read_at (chain T.form) reader.old)) reader.old reader.new result
         (read_at (chain T.form) reader.old) }

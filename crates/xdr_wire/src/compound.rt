@@ -39,7 +39,7 @@ impl<'a, S: Wire<'a>, T: Wire<'a>> Wire<'a> for (S, T) {
     }
 }
 
-/// Optional data (section 4.19): a true and the item, or a false.
+/// Optional data (section 4.19): TRUE and the item, or FALSE.
 impl<T: Spell> Spell for Option<T> {
     ghost use Rattle.std.specs.Prelude.{option_map};
     ghost use Rattle.xdr_wire.specs.Xdr.{optional};

@@ -1,7 +1,7 @@
-//! Why bytes are no spelling of a value.
+//! Why bytes don't encode a value.
 use thiserror::Error;
 
-/// The fault of bytes that spell no value of a type: the first from the left (RFC 4506).
+/// The fault of bytes that don't encode a value of a type: the first one from the left (RFC 4506).
 #[derive(Clone, Copy, Debug, PartialEq, Eq, Error)]
 pub enum XdrFault {
     /// The bytes end inside an item, or inside the padding after it.

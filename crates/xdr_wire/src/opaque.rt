@@ -7,8 +7,8 @@ use crate::wire::{Spell, Wire};
 use crate::writer::{Full, Writer};
 use std::alloc::Allocator;
 
-/// Opaque data or a string of at most `MAX` bytes (RFC 4506, sections 4.10 and 4.11), lent. The bound is the type's, so
-/// that each value can be written.
+/// Opaque data or a string of at most `MAX` bytes (RFC 4506, sections 4.10 and 4.11), borrowed. The type carries the
+/// bound, which makes each value writable.
 #[derive(Clone, Copy, Debug)]
 pub struct Opaque<'a, const MAX: u32> {
     pub bytes: &'a [u8],
@@ -16,7 +16,7 @@ pub struct Opaque<'a, const MAX: u32> {
 }
 
 impl<'a, const MAX: u32> Opaque<'a, MAX> {
-    /// The bytes as an item, or none where there are more than `MAX`.
+    /// The bytes as an item. `None`: there are more than `MAX` bytes.
     pub fn new(bytes: &'a [u8]) -> Option<Self>
         ensures same { IfSome result (λ item. item.bytes.now ≡ bytes.now) }
         ensures none { IsNone result ↔ (MAX < length bytes.now) }

@@ -1,4 +1,4 @@
-//! Reading from the front of bytes.
+//! Decoding bytes from left to right.
 ghost use Rattle.std.specs.Prelude.{◌≡◌, ◌<◌, ◌≤◌, ◌+◌, ◌↔◌, List, [], length, MatchResult, IfOk, IsTrue};
 ghost use Rattle.std.specs.Int.{w32, w64};
 ghost use Rattle.xdr_wire.specs.Xdr.{uint, hyper, signed_hyper, boolean, fixed, opaque, padding};
@@ -7,8 +7,8 @@ ghost use Rattle.xdr_wire.specs.Reading.{Gives, read_at, padded_at, count_at, ar
 use crate::fault::XdrFault;
 use std::marker::Model;
 
-/// The bytes that are left to read, seen by contracts as a list. What is read is lent and never copied. A call that
-/// answers a fault leaves the reader where the item begins.
+/// The bytes that are left to read; contracts see a list. Results borrow from these bytes and are never copied. A call
+/// that returns a fault leaves the reader at the beginning of the item.
 #[derive(Drop)]
 pub struct Reader<'a> {
     rest: &'a [u8],
@@ -45,12 +45,12 @@ fn split_padded(bytes: &[u8], len: usize) -> Result<(&[u8], &[u8]), XdrFault>
     if bytes.len() < len {
         return Err(XdrFault::Short);
     }
-    let (item, behind) = bytes.split_at(len);
+    let (item, appended) = bytes.split_at(len);
     let padding = padding_of(len);
-    if behind.len() < padding {
+    if appended.len() < padding {
         return Err(XdrFault::Short);
     }
-    let (zeros, rest) = behind.split_at(padding);
+    let (zeros, rest) = appended.split_at(padding);
     if are_zero(zeros) {
         Ok((item, rest))
     } else {
@@ -66,14 +66,14 @@ impl<'a> Reader<'a> {
         Reader { rest: bytes }
     }
 
-    /// Another reader of the same bytes, to read ahead by.
+    /// Another reader of the same bytes, for reading ahead.
     pub fn fork(&self) -> Reader<'a>
         ensures { result ≡ self.now }
     {
         Reader { rest: self.rest }
     }
 
-    /// All that is left.
+    /// All bytes that are left.
     pub fn rest(&self) -> &'a [u8]
         ensures { result.now ≡ self.now }
     {
@@ -94,7 +94,7 @@ impl<'a> Reader<'a> {
         self.rest.is_empty()
     }
 
-    /// An unsigned int (RFC 4506, section 4.2). `Short` where fewer than 4 bytes are left.
+    /// An unsigned int (RFC 4506, section 4.2). `Short`: fewer than 4 bytes are left.
     pub fn u32(&mut self) -> Result<u32, XdrFault>
         ensures { Gives (λ n. n) self.old self.new result (read_at uint self.old) }
     {
@@ -106,7 +106,7 @@ impl<'a> Reader<'a> {
         Ok(u32::from_be_bytes([item[0], item[1], item[2], item[3]]))
     }
 
-    /// An unsigned hyper (section 4.5). `Short` where fewer than 8 bytes are left.
+    /// An unsigned hyper (section 4.5). `Short`: fewer than 8 bytes are left.
     pub fn u64(&mut self) -> Result<u64, XdrFault>
         ensures { Gives (λ n. n) self.old self.new result (read_at hyper self.old) }
     {
@@ -120,14 +120,14 @@ impl<'a> Reader<'a> {
         ]))
     }
 
-    /// A hyper, in two's complement (section 4.5). `Short` where fewer than 8 bytes are left.
+    /// A hyper, in two's complement (section 4.5). `Short`: fewer than 8 bytes are left.
     pub fn i64(&mut self) -> Result<i64, XdrFault>
         ensures { Gives (λ z. z) self.old self.new result (read_at signed_hyper self.old) }
     {
         Ok(self.u64()?.cast_signed())
     }
 
-    /// A boolean (section 4.4). `Short` where fewer than 4 bytes are left, `BadBool` at a number above 1.
+    /// A boolean (section 4.4). `Short`: fewer than 4 bytes are left. `BadBool`: the number is above 1.
     pub fn boolean(&mut self) -> Result<bool, XdrFault>
         ensures { Gives (λ b. b) self.old self.new result (read_at boolean self.old) }
     {
@@ -142,8 +142,8 @@ impl<'a> Reader<'a> {
         }
     }
 
-    /// The count of an array or the length of an opaque item, at most `max`. `Short` where fewer than 4 bytes are
-    /// left, `TooLong` above `max`.
+    /// The count of an array or the length of an opaque item, at most `max`. `Short`: fewer than 4 bytes are left.
+    /// `TooLong`: the number is above `max`.
     pub fn count(&mut self, max: usize) -> Result<u32, XdrFault>
         ensures gives { Gives (λ n. n) self.old self.new result (count_at max self.old) }
         ensures within { IfOk result (λ n. n ≤ max) }
@@ -157,8 +157,8 @@ impl<'a> Reader<'a> {
         Ok(count)
     }
 
-    /// Opaque data of n bytes and its padding (section 4.9). `Short` where bytes or padding are missing, else `BadPad`
-    /// where the padding isn't zero.
+    /// Opaque data of n bytes and its padding (section 4.9). `Short`: bytes or padding are missing. Else `BadPad`: the
+    /// padding isn't zero.
     pub fn fixed(&mut self, n: usize) -> Result<&'a [u8], XdrFault>
         ensures gives { Gives (λ x. x.now) self.old self.new result (read_at (fixed n) self.old) }
         ensures len { IfOk result (λ x. length x.now ≡ n) }
@@ -168,17 +168,17 @@ impl<'a> Reader<'a> {
         Ok(item)
     }
 
-    /// Opaque data of at most `max` bytes, after its length (section 4.10). The faults come in this
-    /// order: `Short` where the length is missing, `TooLong` where it is above `max`. Then `Short`
-    /// where bytes or padding are missing, `BadPad` where the padding isn't zero.
+    /// Opaque data of at most `max` bytes, after its length (section 4.10). The faults come in this order. `Short`: the
+    /// length is missing. `TooLong`: the length is above `max`. `Short`: bytes or padding are missing. `BadPad`: the
+    /// padding isn't zero.
     pub fn opaque(&mut self, max: usize) -> Result<&'a [u8], XdrFault>
         ensures gives { Gives (λ x. x.now) self.old self.new result (read_at (opaque max) self.old) }
         ensures within { IfOk result (λ x. length x.now ≤ max) }
     {
-        let mut behind = Reader { rest: self.rest };
-        let len = behind.count(max)?;
-        let item = behind.fixed(len as usize)?;
-        self.rest = behind.rest;
+        let mut appended = Reader { rest: self.rest };
+        let len = appended.count(max)?;
+        let item = appended.fixed(len as usize)?;
+        self.rest = appended.rest;
         Ok(item)
     }
 }

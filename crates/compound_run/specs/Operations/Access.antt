@@ -1,5 +1,5 @@
--- ACCESS (RFC 8881, section 18.1): the rights requested that are supported for the object, and
--- those that its list grants. It has no demands on the list, and writes no line.
+-- ACCESS (RFC 8881, section 18.1): the requested permissions that are supported for the object, and those that its
+-- access control list (ACL) grants. It demands nothing of the ACL, and writes no line.
 use Rattle.std.specs.Prelude.{ℕ, []}
 use Rattle.xdr_wire.specs.Xdr.{Value}
 use Rattle.nfs_ops.specs.Forms.{access_result}
@@ -14,10 +14,10 @@ use Rattle.compound_run.specs.Context.{Context}
 use Rattle.compound_run.specs.Sight.{Sight, kind_at}
 use Rattle.compound_run.specs.Meaning.{Meaning, stays, with_handle, here}
 
-abbrev pub told_rights : Rights → Value access_result
-told_rights r = (r.supported, r.granted)
+abbrev pub access_value : Rights → Value access_result
+access_value r = (r.supported, r.granted)
 
--- the rights of an object
+-- the permissions on an object
 abbrev pub rights_at : Context → FileHandles → ℕ → Sight → Rights
 rights_at c h asked s = rights_of (kind_at s (here h)) asked (granted_at s.lists c.caller (here h))
 
@@ -26,7 +26,7 @@ access asked c h = record {
   number = (row kinds.Access).number;
   caller = c.caller;
   questions = with_handle h.current [];
-  answer = λ s. Done kinds.Access (told_rights (rights_at c h asked s));
+  answer = λ s. Done kinds.Access (access_value (rights_at c h asked s));
   effect = stays;
   goes = λ s. h;
 }

@@ -1,4 +1,4 @@
--- CLOSE (RFC 8881, section 18.2): an open of the current file ends.
+-- CLOSE (RFC 8881, section 18.2): closes an open of the current file.
 use Rattle.std.specs.Prelude.{ℕ, [], ◌∷◌, unwrap_or}
 use Rattle.xdr_wire.specs.Xdr.{Value}
 use Rattle.nfs_types.specs.StateIds.{closed, open_of}
@@ -14,7 +14,7 @@ use Rattle.compound_run.specs.declared.stateids.Purpose.TheVariants.{ToClose}
 use Rattle.compound_run.specs.Stateids.{has_stateid, without_open}
 use Rattle.compound_run.specs.Meaning.{Meaning, with_handle, here}
 
--- the open of a number ends
+-- the open of this number is closed
 abbrev pub ended : ℕ → Realm → Realm
 ended number r = record r { opens = without_open number r.opens }
 

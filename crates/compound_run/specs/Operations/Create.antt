@@ -1,4 +1,5 @@
--- CREATE (RFC 8881, section 18.4): a directory or a link is created in the current directory, and becomes current.
+-- CREATE (RFC 8881, section 18.4): creates a directory or a symbolic link in the current directory. It becomes the
+-- current filehandle.
 use Rattle.std.specs.Prelude.{ℕ, nat_lt, ◌==◌, ◌&&◌, Bool, true, false, if◌then◌else◌, List, [], ◌∷◌, length, is_some}
 use Rattle.std.specs.Prelude.{unwrap_or, Option, Some, None, Result, Ok, Err}
 use Rattle.std.specs.Option.{option_map_or}
@@ -36,7 +37,7 @@ use Rattle.compound_run.specs.Rows.{first_row}
 use Rattle.compound_run.specs.Meaning.{Meaning, at, in_world, changed, with_handle, here, names_at, is_link}
 use Rattle.compound_run.specs.Meaning.{is_directory, is_name, has_no_child, has_space}
 
--- the object that is created: a directory, or a link with its text; other types aren't
+-- the object to create: a directory, or a symbolic link with its text; no other type is supported
 pub record Draft : Type 0 where
   pub kind : Kind
   pub text : List ℕ
@@ -46,7 +47,7 @@ draft_of parts.Directory = Some (record { kind = kinds.Directory; text = [] })
 draft_of (parts.Link text) = Some (record { kind = kinds.Link; text = text })
 draft_of _ = None
 
--- only these types are created
+-- only these types are supported
 abbrev pub type_fault : Option Draft → Option Status
 type_fault (Some draft) = None
 type_fault None = Some statuses.BadType
@@ -95,7 +96,7 @@ wanted_in (Err status) = nothing
 abbrev pub wanted : Context → Value create_args → Wanted
 wanted c v = wanted_in (sent c v)
 
--- only a file has a size to set
+-- the size of an object that isn't a file can't be set
 abbrev pub size_fault : Wanted → Option Status
 size_fault wanted = if is_some wanted.size then Some statuses.Inval else None
 
@@ -106,26 +107,26 @@ size_may wanted = of (is_some wanted.size)
     of true = tt
     of false = tt
 
--- the owner can only be the caller, and the group only a group of the caller
+-- the owner that is set must be the caller, and the group one of the caller's
 abbrev pub is_own : Identity → Wanted → Bool
 is_own caller wanted =
     option_map_or (λ owner. owner == caller.uid) wanted.owner true && option_map_or (is_member caller) wanted.group true
 
--- there is room for one more name and object, and a number, a stamp and a cookie are left for it
+-- one more name and object are within the limits, and a number, a stamp and a cookie are left for them
 abbrev pub can_add : Sight → ℕ → Bool
 can_add s directory = may_add (names_at s directory) s.object_count s.next_number s.next_stamp s.next_cookie
 
--- there is room for the new object, and its list is within the bounds
+-- the new object is within the limits, and its access control list (ACL) within its bounds
 abbrev pub can_make : Wanted → Kind → Sight → ℕ → Bool
 can_make wanted kind s directory = new_fits wanted kind (values.list_at s directory) && can_add s directory
 
--- the new object, in a directory of this list
+-- the new object, in a directory with this ACL
 abbrev pub created : Context → Draft → Wanted → List Entry → ℕ → At → Object
 created c draft wanted parent stamp at =
     new_object draft.kind draft.text c.caller.uid (unwrap_or wanted.group c.caller.gid)
     (new_list wanted draft.kind parent) (created_high wanted.mode) (record { stamp = stamp; at = at })
 
--- the list of the new object
+-- the ACL of an object, empty if the object doesn't exist
 abbrev pub list_at : World → ℕ → List Entry
 list_at w number = option_map_or (λ j. j.list) (judged_of w number) []
 
@@ -156,7 +157,7 @@ create v c h = record {
   goes = λ s. record h { current = Some s.next_number };
 }
 
--- CREATE in a directory with its last question alone
+-- CREATE in a directory, with its last question alone
 abbrev pub making : Value create_args → ℕ → Context → FileHandles → Meaning
 making v directory c h =
     record (create v c h) { questions = has_space (λ s. can_make (wanted c v) (draft v).kind s directory) ∷ [] }

@@ -17,12 +17,12 @@ use Rattle.compound_run.specs.Rows.{first_row}
 use Rattle.compound_run.specs.Meaning.{Meaning, stays, with_handle, here, has_room}
 
 -- the attributes of an object
-unfoldable pub told : Context → ℕ → List ℕ → Sight → Value attributes
-told c number asked s = attributes_at c.book s number statuses.Ok asked
+unfoldable pub attributes_of : Context → ℕ → List ℕ → Sight → Value attributes
+attributes_of c number asked s = attributes_at c.book s number statuses.Ok asked
 
--- the number of bytes that the result has
-abbrev pub told_size : Value attributes → ℕ
-told_size v = getattr_size (length (set_of v)) (length (values_of v))
+-- the byte count of the result
+abbrev pub result_size : Value attributes → ℕ
+result_size v = getattr_size (length (set_of v)) (length (values_of v))
 
 abbrev pub getattr : List ℕ → Context → FileHandles → Meaning
 getattr asked c h = record {
@@ -30,9 +30,9 @@ getattr asked c h = record {
   caller = c.caller;
   questions = with_handle h.current
       (first_row h (Known kinds.GetAttr asked)
-      ∷ has_room c (λ s. told_size (told c (here h) asked s))
+      ∷ has_room c (λ s. result_size (attributes_of c (here h) asked s))
       ∷ []);
-  answer = λ s. Done kinds.GetAttr (told c (here h) asked s);
+  answer = λ s. Done kinds.GetAttr (attributes_of c (here h) asked s);
   effect = stays;
   goes = λ s. h;
 }

@@ -1,4 +1,4 @@
--- LINK (RFC 8881, section 18.9): the saved object gets one more name, in the current directory.
+-- LINK (RFC 8881, section 18.9): adds a name for the saved object to the current directory.
 use Rattle.std.specs.Prelude.{ℕ, List, [], ◌∷◌}
 use Rattle.nfs_types.specs.declared.status.Status.TheVariants as statuses
 use Rattle.nfs_ops.specs.Operations.{Known}
@@ -36,6 +36,6 @@ link name c h = record {
   goes = λ s. h;
 }
 
--- LINK in a directory with its last question alone
+-- LINK in a directory, with its last question alone
 abbrev pub naming : List ℕ → ℕ → Context → FileHandles → Meaning
 naming name directory c h = record (link name c h) { questions = is_nameable directory ∷ [] }

@@ -1,4 +1,4 @@
--- LOOKUP (RFC 8881, section 18.13): the child of a name becomes current.
+-- LOOKUP (RFC 8881, section 18.13): the child of a name becomes the current filehandle.
 use Rattle.std.specs.Prelude.{ℕ, List, [], ◌∷◌}
 use Rattle.nfs_ops.specs.Operations.{Known}
 use Rattle.nfs_ops.specs.declared.OpKind.TheVariants as kinds

@@ -1,4 +1,5 @@
--- LOOKUPP (RFC 8881, section 18.14): the parent of the current directory becomes current. The root has no parent.
+-- LOOKUPP (RFC 8881, section 18.14): the parent of the current directory becomes the current filehandle. The root has
+-- no parent.
 use Rattle.std.specs.Prelude.{[], ◌∷◌, is_some}
 use Rattle.nfs_types.specs.declared.status.Status.TheVariants as statuses
 use Rattle.nfs_ops.specs.Operations.{Known}

@@ -1,4 +1,4 @@
--- NVERIFY (RFC 8881, section 18.15): goes on where attributes of the current object don't all have these values.
+-- NVERIFY (RFC 8881, section 18.15): OK if the attributes of the current object don't all have these values.
 use Rattle.std.specs.Prelude.{not, [], ◌∷◌}
 use Rattle.xdr_wire.specs.Xdr.{Value}
 use Rattle.nfs_types.specs.declared.status.Status.TheVariants as statuses

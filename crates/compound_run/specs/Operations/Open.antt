@@ -1,6 +1,5 @@
--- OPEN (RFC 8881, section 18.16): a file is opened, by its name in the current directory or by the
--- current filehandle. An absent file may be created, an existing file truncated. The file becomes
--- current.
+-- OPEN (RFC 8881, section 18.16): opens a file, by its name in the current directory or by the current filehandle. It
+-- may create an absent file and truncate an existing one. The file becomes the current filehandle.
 use Rattle.std.specs.Prelude.{ℕ, ◌+◌, ◌==◌, ◌%◌, Bool, true, false, ◌&&◌, ◌||◌, nat_lt, nat_eq, if◌then◌else◌, List}
 use Rattle.std.specs.Prelude.{[], ◌∷◌, ◌++◌, length, map, find, unwrap_or, bit_or, Option, Some, None, Result, Ok}
 use Rattle.std.proofs.Common.{inl}
@@ -43,18 +42,18 @@ use Rattle.compound_run.specs.Meaning.{Meaning, at, changed, unchanged, with_han
 
 -- ---- the access, and the open-owner
 
--- to read, to write, or both; higher bits are hints
+-- to read, to write, or both; the higher bits are hints
 abbrev pub access_of : Value open_args → ℕ
 access_of v = open_access v % 256
 
 abbrev pub access_fault : ℕ → Option Status
 access_fault access = if (access == 1) || (access == 2) || (access == 3) then None else Some statuses.Inval
 
--- a share that denies anything isn't supported
+-- a share reservation that denies anything isn't supported
 abbrev pub deny_fault : ℕ → Option Status
 deny_fault deny = if deny == 0 then None else if nat_lt 3 deny then Some statuses.Inval else Some statuses.NotSupp
 
--- a name has to be valid; a file that has a filehandle exists already
+-- a name must be valid; by filehandle, the file exists and can't be created
 abbrev pub claim_fault : Claim → How → Option Status
 claim_fault (ByName name) how = name_fault name
 claim_fault ByHandle how = if is_creating how then Some statuses.Inval else None
@@ -64,9 +63,9 @@ arguments_fault v =
     first_fault (access_fault (access_of v))
     (first_fault (deny_fault (open_deny v)) (claim_fault (claim_of v) (how_of v)))
 
--- ---- the attributes of a file that may be created
+-- ---- the attributes of a file that OPEN may create
 
--- the values that the attributes set on a file, or their fault
+-- the values that the attributes set on a file, or the fault of the attributes
 abbrev pub sent_with : Content → Value attributes → Result Wanted Status
 sent_with book set = wanted_of book File (set_of set) (values_of set)
 
@@ -93,7 +92,7 @@ truncates c v = is_truncating (how_of v) (wanted c v).size
 
 -- ---- the file
 
--- by name in a directory, by filehandle a file
+-- by name the current object must be a directory, by filehandle a file
 abbrev pub current_fault : Claim → Kind → Option Status
 current_fault (ByName name) Directory = None
 current_fault (ByName name) File = Some statuses.NotDir
@@ -115,7 +114,7 @@ found_by ByHandle h s = h.current
 abbrev pub found : Value open_args → FileHandles → Sight → Option ℕ
 found v h s = found_by (claim_of v) h s
 
--- An absent file is created by UNCHECKED4 and GUARDED4. An existing object must be a file, and is refused by GUARDED4.
+-- UNCHECKED4 and GUARDED4 create an absent file. An existing object must be a file, and GUARDED4 refuses it.
 abbrev pub found_fault : How → Option Kind → Option Status
 found_fault NoCreate None = Some statuses.NoEnt
 found_fault (Unchecked set) None = None
@@ -128,17 +127,17 @@ found_fault (Unchecked set) (Some File) = None
 found_fault (Unchecked set) (Some Directory) = Some statuses.IsDir
 found_fault (Unchecked set) (Some Link) = Some statuses.Symlink
 
--- a new file: of the size that is set, each byte of it zero
+-- a new file of the size that is set; each byte of it is zero
 abbrev pub file_of : Wanted → Draft
 file_of wanted = record { kind = File; text = resized [] (unwrap_or wanted.size 0) }
 
 -- ---- the open
 
--- the open of a file by an owner of a client
+-- the open is one of this file, by this owner of this client
 abbrev pub is_opened_by : ℕ → List ℕ → ℕ → Opened → Bool
 is_opened_by client owner file o = (o.client == client) && pointwise nat_eq o.owner owner && (o.object == file)
 
--- the owner's open of the object, if there is one: then it is opened again
+-- the owner's open of the object, if there is one: then OPEN upgrades it
 abbrev pub joined : Context → Value open_args → Option ℕ → List Opened → Option Opened
 joined c v None opens = None
 joined c v (Some file) opens = find (is_opened_by (client_of c) (open_owner v) file) opens
@@ -147,14 +146,14 @@ joined c v (Some file) opens = find (is_opened_by (client_of c) (open_owner v) f
 abbrev pub risen : ℕ → ℕ
 risen seqid = if seqid == 0xffff_ffff then 1 else seqid + 1
 
--- the open once it is opened again, also for this access
+-- the open after an upgrade: it also has this access
 abbrev pub reopened : ℕ → Opened → Opened
 reopened access o = record o { access = bit_or o.access access; seqid = risen o.seqid }
 
 abbrev pub with_reopened : ℕ → ℕ → List Opened → List Opened
 with_reopened number access opens = map (λ o. if o.number == number then reopened access o else o) opens
 
--- a new open, by the next number
+-- a new open, with the next number
 abbrev pub new_open : Context → Value open_args → ℕ → ℕ → Opened
 new_open c v number file =
     record {
@@ -234,7 +233,7 @@ found_may (Unchecked set) (Some Link) = tt
 
 -- ---- the questions after the second row
 
--- a new file is the caller's, and within the limit
+-- a new file must belong to the caller, and its size must be within the limit
 abbrev pub is_permitted : Context → Value open_args → Option ℕ → Bool
 is_permitted c v None = is_own c.caller (wanted c v)
 is_permitted c v (Some file) = true
@@ -265,13 +264,13 @@ last_questions v c h =
 
 -- ---- the result, and the realm after it
 
--- the change of the directory, which stays where no file is created; by filehandle there is none
+-- The change attribute of the directory, which stays unless a file is created. By filehandle there is no directory.
 abbrev pub change_of : Claim → ℕ → Option ℕ → Sight → Value change_info
 change_of (ByName name) directory None s = changed s directory
 change_of (ByName name) directory (Some file) s = unchanged s directory
 change_of ByHandle directory file s = (inl tt, (0, 0))
 
--- the attributes that are set: all that were sent on a new file, size (4) alone on a truncated one
+-- the attributes that are set: on a new file all that were sent, on a truncated file size (4) alone
 abbrev pub set_by : Context → Value open_args → Option ℕ → List ℕ
 set_by c v None = sent_set (how_of v)
 set_by c v (Some file) = if truncates c v then 16 ∷ [] else []
@@ -313,6 +312,6 @@ open_file v c h = record {
   goes = λ s. record h { current = Some (unwrap_or (found v h s) s.next_number) };
 }
 
--- OPEN with its last questions alone
+-- OPEN, with its last questions alone
 abbrev pub opening : Value open_args → Context → FileHandles → Meaning
 opening v c h = record (open_file v c h) { questions = last_questions v c h }

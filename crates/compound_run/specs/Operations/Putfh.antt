@@ -1,4 +1,4 @@
--- PUTFH (RFC 8881, section 18.19): the object of a filehandle becomes current.
+-- PUTFH (RFC 8881, section 18.19): this filehandle becomes the current one.
 use Rattle.std.specs.Prelude.{ℕ, List, [], ◌∷◌, Option, Some, None, Result, Ok, Err}
 use Rattle.nfs_types.specs.declared.status.Status.{Status}
 use Rattle.nfs_types.specs.Handles.{object_of}
@@ -12,7 +12,7 @@ use Rattle.compound_run.specs.ArgumentFaults.{object_may}
 use Rattle.compound_run.specs.Questions.{is_valid}
 use Rattle.compound_run.specs.Meaning.{Meaning, stays, is_live}
 
--- the object of a handle, if there is one
+-- the object number of a filehandle, if it is valid
 abbrev pub object_in : Result ℕ Status → Option ℕ
 object_in (Ok number) = Some number
 object_in (Err status) = None

@@ -1,4 +1,4 @@
--- PUTROOTFH (RFC 8881, section 18.21): the root becomes current.
+-- PUTROOTFH (RFC 8881, section 18.21): the root becomes the current filehandle.
 use Rattle.std.specs.Prelude.{[], Some}
 use Rattle.nfs_ops.specs.declared.OpKind.TheVariants as kinds
 use Rattle.nfs_ops.specs.Rows.{row}

@@ -1,4 +1,4 @@
--- READ (RFC 8881, section 18.22): bytes of a file, from an offset.
+-- READ (RFC 8881, section 18.22): reads bytes of a file, from an offset.
 use Rattle.std.specs.Prelude.{ℕ, ◌+◌, ◌-◌, ◌*◌, ◌/◌, nat_le, min, List, [], ◌∷◌, length, take, drop}
 use Rattle.xdr_wire.specs.Xdr.{Value}
 use Rattle.nfs_ops.specs.Forms.{read_args, read_result}
@@ -16,12 +16,12 @@ use Rattle.compound_run.specs.Stateids.{has_stateid}
 use Rattle.compound_run.specs.Rows.{first_row}
 use Rattle.compound_run.specs.Meaning.{Meaning, stays, with_handle, here, is_no_directory, is_no_link}
 
--- the most bytes of data of a result in this much room: its number, its status, the mark of the end
--- and the length take 16
+-- The most bytes of data of a result in this much room. The operation's number, its status, eof and the length take 16
+-- bytes.
 abbrev pub data_room : ℕ → ℕ
 data_room room = (room - 16) / 4 * 4
 
--- the most bytes that are returned, of this many requested, in this much room
+-- the most bytes that are returned, for this requested count and this much room
 abbrev pub most_of : ℕ → ℕ → ℕ
 most_of count room = min (data_room room) (min count MAX_READ)
 
@@ -29,7 +29,7 @@ most_of count room = min (data_room room) (min count MAX_READ)
 abbrev pub part : Context → Value read_args → ℕ → Sight → List ℕ
 part c v file s = take (most_of (read_count v) c.room) (drop (read_offset v) (s.bytes file))
 
--- the end is reached where offset and bytes returned reach the size
+-- eof is set if the offset and the bytes returned reach the size
 abbrev pub gives : Context → Value read_args → ℕ → Sight → Value read_result
 gives c v file s = read_gives (nat_le (s.sizes file) (read_offset v + length (part c v file s))) (part c v file s)
 

@@ -1,4 +1,4 @@
--- READDIR (RFC 8881, section 18.23): entries of the current directory, each with attributes of its object.
+-- READDIR (RFC 8881, section 18.23): lists entries of the current directory, each with attributes of its object.
 use Rattle.std.specs.Prelude.{ℕ, ◌==◌, ◌||◌, Bool, true, false, not, nat_lt, if◌then◌else◌, List, [], ◌∷◌, map}
 use Rattle.std.specs.Prelude.{filter, Option, Some, None, Result, Ok, Err}
 use Rattle.xdr_wire.specs.Xdr.{Value}
@@ -13,7 +13,7 @@ use Rattle.nfs_ops.specs.Forms.{entry, readdir_args}
 use Rattle.nfs_ops.specs.Given.{readdir_outcome}
 use Rattle.nfs_ops.specs.Listing.{Judged, Listing, listing, readdir_limit}
 use Rattle.nfs_ops.specs.Operations.{Known}
-use Rattle.nfs_ops.specs.Parts.{listed_behind, listed_at_most, listed_attributes}
+use Rattle.nfs_ops.specs.Parts.{listed_after, listed_at_most, listed_attributes}
 use Rattle.nfs_ops.specs.declared.listing.ListFault.{ListFault}
 use Rattle.nfs_ops.specs.declared.listing.ListFault.TheVariants.{Refused, TooSmall}
 use Rattle.nfs_ops.specs.declared.OpKind.TheVariants as kinds
@@ -35,26 +35,26 @@ use Rattle.compound_run.specs.Meaning.{Meaning, stays, with_handle, here, is_dir
 
 -- ---- an entry
 
--- whether the list of an object grants these bits
+-- whether the access control list (ACL) of an object grants these mask bits
 abbrev pub allows : Lists → Identity → ℕ → ℕ → Bool
 allows lists caller number mask = is_granted (decision lists caller (Bits number mask))
 
--- the first of the demands, each where there is one, that the lists don't grant
+-- the first demand that is present and that the ACLs don't grant
 abbrev pub first_refused : Lists → Identity → Demands → Option Demand
 first_refused lists caller [] = None
 first_refused lists caller (None ∷ demands) = first_refused lists caller demands
 first_refused lists caller (Some d ∷ demands) =
     if is_granted (decision lists caller d) then first_refused lists caller demands else Some d
 
--- the attributes requested that the object's list permits
+-- the requested attributes that the object's ACL permits
 abbrev pub permitted : Lists → Identity → ℕ → List ℕ → List ℕ
 permitted lists caller number asked =
     trimmed
     (common asked
     (granted_words (allows lists caller number READ_ATTRIBUTES) (allows lists caller number READ_ACL)))
 
--- The rdattr_error (11) and the attributes of an entry's object, where this demand is the first
--- that its list refuses. Where rdattr_error isn't requested, the demand refuses the entry.
+-- The rdattr_error (11) and the attributes of an entry's object, given the first demand that its ACL refuses. If
+-- rdattr_error isn't requested, the demand refuses the entry.
 abbrev pub judgment : Lists → Identity → List ℕ → ℕ → Option Demand → Result (Status × List ℕ) Demand
 judgment lists caller asked number None = Ok (statuses.Ok, asked)
 judgment lists caller asked number (Some d) =
@@ -84,11 +84,12 @@ names_above s directory cookie = filter (λ n. nat_lt cookie n.cookie) (s.names 
 abbrev pub judged_above : Context → List ℕ → ℕ → ℕ → Sight → List (Judged Demand)
 judged_above c asked directory cookie s = map (judged_entry c asked s) (names_above s directory cookie)
 
--- The entries that are returned: the longest beginning that fits, unless a judged entry is refused, or nothing fits.
+-- The entries that are returned: the longest prefix that fits. There are none if a judged entry is refused, or if
+-- nothing fits.
 unfoldable pub listed : Context → Value readdir_args → ℕ → Sight → Result Listing (ListFault Demand)
 listed c v directory s =
     listing (readdir_limit (listed_at_most v) c.room)
-    (judged_above c (listed_attributes v) directory (listed_behind v) s)
+    (judged_above c (listed_attributes v) directory (listed_after v) s)
 
 abbrev pub refused_in : Result Listing (ListFault Demand) → Option Demand
 refused_in (Ok given) = None
@@ -110,7 +111,7 @@ given_in (Err fault) = record { entries = []; eof = false }
 abbrev pub is_cookie : ℕ → Question
 is_cookie cookie = Holds (λ s. not ((cookie == 1) || (cookie == 2))) statuses.BadCookie tt
 
--- no entry is refused: of the demands of the entries only that of a refused entry writes lines
+-- no entry is refused: of the demands of the entries, only that of a refused entry writes lines
 abbrev pub refuses_none : Context → Value readdir_args → ℕ → Question
 refuses_none c v directory = Row (λ s. refused_in (listed c v directory s) ∷ [])
 
@@ -123,23 +124,12 @@ readdir v c h = record {
   caller = c.caller;
   questions = with_handle h.current
       (is_directory (here h)
-      ∷ is_cookie (listed_behind v)
+      ∷ is_cookie (listed_after v)
       ∷ first_row h (Known kinds.ReadDir v)
       ∷ refuses_none c v (here h)
       ∷ fits_some c v (here h)
       ∷ []);
   answer = λ s. readdir_outcome (given_in (listed c v (here h) s));
-  effect = stays;
-  goes = λ s. h;
-}
-
--- READDIR in a directory with its last two questions alone
-abbrev pub listing_of : Value readdir_args → ℕ → Context → FileHandles → Meaning
-listing_of v directory c h = record {
-  number = (row kinds.ReadDir).number;
-  caller = c.caller;
-  questions = refuses_none c v directory ∷ fits_some c v directory ∷ [];
-  answer = λ s. readdir_outcome (given_in (listed c v directory s));
   effect = stays;
   goes = λ s. h;
 }

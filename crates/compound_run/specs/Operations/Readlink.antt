@@ -1,4 +1,4 @@
--- READLINK (RFC 8881, section 18.24): the text of a link.
+-- READLINK (RFC 8881, section 18.24): the text of a symbolic link.
 use Rattle.std.specs.Prelude.{[], ◌∷◌}
 use Rattle.nfs_types.specs.declared.status.Status.TheVariants as statuses
 use Rattle.nfs_ops.specs.Forms.{readlink_size}

@@ -1,5 +1,5 @@
--- RECLAIM_COMPLETE (RFC 8881, section 18.51): the client of the session reclaims no more. For one
--- file system, that of the current filehandle, nothing changes.
+-- RECLAIM_COMPLETE (RFC 8881, section 18.51): the client of the session has finished its reclaims. For one file system,
+-- that of the current filehandle, nothing changes.
 use Rattle.std.specs.Prelude.{Bool, true, false, if◌then◌else◌, List, [], ◌∷◌, Option, Some, None}
 use Rattle.xdr_wire.specs.Xdr.{Value}
 use Rattle.nfs_types.specs.declared.status.Status.TheVariants as statuses

@@ -1,5 +1,5 @@
--- REMOVE (RFC 8881, section 18.25): a name of the current directory goes. With its last name the
--- object goes, and its opens are closed.
+-- REMOVE (RFC 8881, section 18.25): removes a name of the current directory. When the last name of an object is
+-- removed, the object is removed too, and its opens are closed.
 use Rattle.std.specs.Prelude.{ℕ, not, List, [], ◌∷◌, None}
 use Rattle.nfs_types.specs.declared.status.Status.TheVariants as statuses
 use Rattle.nfs_ops.specs.Operations.{Known}

@@ -1,6 +1,5 @@
--- RENAME (RFC 8881, section 18.26): a child of the saved directory gets a new name in the current
--- one, and a target of that name loses it. An object that has lost its last name goes, and its
--- opens are closed.
+-- RENAME (RFC 8881, section 18.26): a child of the saved directory gets a new name in the current one. A target that
+-- has that name loses it. An object that has lost its last name is removed, and its opens are closed.
 use Rattle.std.specs.Prelude.{ℕ, Bool, not, if◌then◌else◌, List, [], ◌∷◌, Option}
 use Rattle.xdr_wire.specs.Xdr.{Value}
 use Rattle.nfs_types.specs.declared.status.Status.TheVariants as statuses
@@ -22,18 +21,18 @@ use Rattle.compound_run.specs.Rows.{first_row, second_row}
 use Rattle.compound_run.specs.Meaning.{Meaning, at, changed, unchanged, with_handle, here, there, number_in, names_at}
 use Rattle.compound_run.specs.Meaning.{is_directory, is_name, has_child, has_space}
 
--- the child that gets another name, and the target of that name
+-- the child that is renamed, and the target of its new name
 abbrev pub moved : FileHandles → Value rename_args → Sight → Option ℕ
 moved h v s = child s (there h) (old_name v)
 
 abbrev pub replaced : FileHandles → Value rename_args → Sight → Option ℕ
 replaced h v s = child s (here h) (new_name v)
 
--- both names are those of one object
+-- both names belong to one object
 abbrev pub is_same : FileHandles → Value rename_args → Sight → Bool
 is_same h v s = is_one (moved h v s) (replaced h v s)
 
--- the directory is the child, or lies below it
+-- the directory is the child itself, or is below it
 abbrev pub goes_below : Sight → ℕ → ℕ → Bool
 goes_below s child directory = is_below s.kinds s.parents s.next_number child directory
 
@@ -45,7 +44,7 @@ can_replace s child target = may_replace s.kinds s.has_entries child target
 abbrev pub can_move : Sight → ℕ → ℕ → Option ℕ → Bool
 can_move s from to target = may_move (names_at s to) s.next_cookie from to target
 
--- the changes of both directories, which stay where the names are those of one object
+-- the change attributes of both directories, which stay if the names belong to one object
 abbrev pub changes : FileHandles → Value rename_args → Sight → Value change_info × Value change_info
 changes h v s =
     if is_same h v s then (unchanged s (there h), unchanged s (here h)) else (changed s (there h), changed s (here h))
@@ -77,7 +76,3 @@ rename v c h = record {
       (replaced h v (whole r)) r;
   goes = λ s. h;
 }
-
--- RENAME between two directories with its last question alone
-abbrev pub moving : Value rename_args → ℕ → ℕ → Context → FileHandles → Meaning
-moving v from to c h = record (rename v c h) { questions = is_movable from to (new_name v) ∷ [] }

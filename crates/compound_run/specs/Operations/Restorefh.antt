@@ -1,4 +1,4 @@
--- RESTOREFH (RFC 8881, section 18.27): the saved filehandle becomes current, and stays saved.
+-- RESTOREFH (RFC 8881, section 18.27): the saved filehandle becomes the current one, and stays saved.
 use Rattle.std.specs.Prelude.{[]}
 use Rattle.nfs_ops.specs.declared.OpKind.TheVariants as kinds
 use Rattle.nfs_ops.specs.Rows.{row}

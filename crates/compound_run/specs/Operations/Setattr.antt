@@ -1,4 +1,4 @@
--- SETATTR (RFC 8881, section 18.30): attributes of the current object are set, all of those that are sent or none.
+-- SETATTR (RFC 8881, section 18.30): sets all attributes that are sent on the current object, or none of them.
 use Rattle.std.specs.Prelude.{ℕ, ◌+◌, ◌^◌, Bool, true, false, ◌&&◌, ◌||◌, nat_le, if◌then◌else◌, [], ◌∷◌, is_some}
 use Rattle.std.specs.Prelude.{is_none, unwrap_or, Option, Some, None, Result}
 use Rattle.std.specs.Option.{option_map_or}
@@ -10,7 +10,7 @@ use Rattle.who_book.specs.Content.{Content}
 use Rattle.nfs_types.specs.Forms.{stateid}
 use Rattle.nfs_types.specs.declared.status.Status.{Status}
 use Rattle.nfs_types.specs.declared.status.Status.TheVariants as statuses
-use Rattle.nfs_types.specs.Sent.{Wanted, has_list, wanted_of}
+use Rattle.nfs_types.specs.Sent.{Wanted, has_acl, wanted_of}
 use Rattle.nfs_ops.specs.Forms.{setattr_args}
 use Rattle.nfs_ops.specs.Operations.{Known}
 use Rattle.nfs_ops.specs.Parts.{set_stateid, set_attributes, set_of, values_of}
@@ -37,7 +37,7 @@ use Rattle.compound_run.specs.Meaning.{Meaning, at, in_world, with_handle, here}
 
 -- ---- the attributes that are sent
 
--- the values that the attributes set on an object of a kind, or their fault
+-- the values that the attributes set on an object of this type, or the fault of the attributes
 abbrev pub sent_by : Content → Value setattr_args → Kind → Result Wanted Status
 sent_by book v kind = wanted_of book kind (set_of (set_attributes v)) (values_of (set_attributes v))
 
@@ -51,7 +51,7 @@ sent_may c v kind =
 abbrev pub wanted : Context → Value setattr_args → Kind → Wanted
 wanted c v kind = wanted_in (sent c v kind)
 
--- the values that the attributes set on an object that is seen
+-- the values that the attributes set on an object of the sight
 abbrev pub wanted_on : Context → Value setattr_args → ℕ → Sight → Wanted
 wanted_on c v number s = wanted c v (kind_at s number)
 
@@ -65,7 +65,7 @@ is_file File = true
 is_file Directory = false
 is_file Link = false
 
--- only a file has a size to set, which takes a stateid
+-- only a file has a size to set, and setting it needs a stateid
 abbrev pub size_fault : Option ℕ → Context → ℕ → Value stateid → Sight → Option Status
 size_fault None c number id s = None
 size_fault (Some size) c number id s =
@@ -87,29 +87,30 @@ size_fits (Some size) = is_none (resize_refusal size)
 
 -- ---- the counters
 
--- a new list, by a list, a part of one or a mode, takes a stamp; a new owner or group takes another
-abbrev pub sets_list : Wanted → Bool
-sets_list wanted = is_some wanted.mode || has_list wanted
+-- A new access control list (ACL) takes a stamp: it is set by an acl, by a dacl or sacl, or by a mode. A new owner or
+-- group takes another stamp.
+abbrev pub sets_acl : Wanted → Bool
+sets_acl wanted = is_some wanted.mode || has_acl wanted
 
 abbrev pub sets_owner : Wanted → Bool
 sets_owner wanted = is_some wanted.owner || is_some wanted.group
 
 abbrev pub sets_any : Wanted → Bool
-sets_any wanted = is_some wanted.size || sets_list wanted || sets_owner wanted
+sets_any wanted = is_some wanted.size || sets_acl wanted || sets_owner wanted
 
 abbrev pub stamps : Wanted → ℕ
-stamps wanted = (if sets_list wanted then 1 else 0) + (if sets_owner wanted then 1 else 0)
+stamps wanted = (if sets_acl wanted then 1 else 0) + (if sets_owner wanted then 1 else 0)
 
--- a tick is left, and as many stamps as it takes; where no attribute is set none is taken
+-- A tick is left, and each stamp that is taken. If no attribute is set, none is taken.
 unfoldable pub can_count : Wanted → Sight → Bool
 can_count wanted s =
     if sets_any wanted then has_left s.next_tick && nat_le (s.next_stamp + stamps wanted) (2 ^ 63) else true
 
--- these counters are left, and the new list is within the bounds
+-- these counters are left, and the new ACL is within its bounds
 abbrev pub has_space_to_set : Wanted → ℕ → Sight → Bool
 has_space_to_set wanted number s = can_count wanted s && set_fits wanted (kind_at s number) (list_at s number)
 
--- ---- the change, part by part: the parts share the tick
+-- ---- the change, part by part; the parts share the tick
 
 abbrev pub sized : ℕ → Option ℕ → At → World → World
 sized number None at w = w
@@ -117,7 +118,7 @@ sized number (Some size) at w = with_size w number size at
 
 abbrev pub listed : ℕ → Object → Wanted → At → World → World
 listed number o wanted at w =
-    if sets_list wanted
+    if sets_acl wanted
     then with_list w number (set_list wanted o.kind o.list) (changed_high o.high wanted.mode) at
     else w
 
@@ -126,7 +127,7 @@ owned number o wanted at w =
     if sets_owner wanted then with_owner w number (unwrap_or wanted.owner o.owner) (unwrap_or wanted.group o.group) at
     else w
 
--- the change of an object as it was before
+-- the change, given the object as it was before
 abbrev pub set_on : ℕ → Object → Wanted → At → World → World
 set_on number o wanted at w = owned number o wanted at (listed number o wanted at (sized number wanted.size at w))
 

@@ -1,4 +1,4 @@
--- VERIFY (RFC 8881, section 18.31): goes on where attributes of the current object have these values.
+-- VERIFY (RFC 8881, section 18.31): OK if the attributes of the current object have these values.
 use Rattle.std.specs.Prelude.{ℕ, Bool, true, false, not, nat_eq, if◌then◌else◌, List, [], ◌∷◌, Option, Some, None}
 use Rattle.std.specs.Cmp.Lexicographic.{pointwise}
 use Rattle.xdr_wire.specs.Xdr.{Value}
@@ -22,7 +22,7 @@ use Rattle.compound_run.specs.Questions.{Holds, is_valid}
 use Rattle.compound_run.specs.Rows.{first_row}
 use Rattle.compound_run.specs.Meaning.{Meaning, stays, with_handle, here}
 
--- the attributes that can't be compared: those that aren't supported, and rdattr_error
+-- the fault of attributes that can't be compared: unsupported ones, and rdattr_error
 abbrev pub set_fault : List ℕ → Option Status
 set_fault set =
     if not (is_within set supported_words) then Some statuses.AttrNotSupp
@@ -37,7 +37,7 @@ set_may set = of (not (is_within set supported_words)) (has_number set 11)
     of false true = tt
     of false false = tt
 
--- whether the values that were sent are those that GETATTR returns, byte for byte
+-- whether the values as sent are those that GETATTR returns, byte for byte
 unfoldable pub is_same : Context → ℕ → Value attributes → Sight → Bool
 is_same c number v s = pointwise nat_eq (values_at c.book s number statuses.Ok (set_of v)) (values_of v)
 

@@ -1,4 +1,4 @@
--- WRITE (RFC 8881, section 18.32): bytes are written into the current file, at an offset.
+-- WRITE (RFC 8881, section 18.32): writes bytes into the current file, at an offset.
 use Rattle.std.specs.Prelude.{ℕ, ◌==◌, Bool, true, if◌then◌else◌, List, [], ◌∷◌, length, is_none, None}
 use Rattle.std.proofs.Common.{inl}
 use Rattle.xdr_wire.specs.Xdr.{Value}
@@ -21,11 +21,11 @@ use Rattle.compound_run.specs.Stateids.{has_stateid}
 use Rattle.compound_run.specs.Rows.{sized_row}
 use Rattle.compound_run.specs.Meaning.{Meaning, at, in_world, with_handle, here, is_no_directory, is_no_link}
 
--- bytes don't reach beyond the limit of a file
+-- the bytes end within the limit of a file
 abbrev pub fits : ℕ → List ℕ → Bool
 fits offset more = is_none (write_refusal offset more)
 
--- a tick is left for them; no bytes take none
+-- a tick is left for the bytes; writing none takes no tick
 abbrev pub has_tick_for : List ℕ → Sight → Bool
 has_tick_for more s = if length more == 0 then true else has_left s.next_tick
 

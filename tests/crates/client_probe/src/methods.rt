@@ -1,8 +1,8 @@
-//! The client's method for each command, without the contracts of these, which no caller here needs.
+//! The client's method for each command, without its contract, which no caller here needs.
 
 use crate::outcomes::{put_done, put_given, put_rights};
 use crate::played::Player;
-use nfs_client::{Answer, Command, ListPart, ToolFault};
+use nfs_client::{AclPart, Answer, Command, ToolFault};
 use std::test::Fail;
 
 /// Runs a command, whose answer is a text.
@@ -15,30 +15,30 @@ pub fn end(client: &mut Player<'_, '_>) -> Result<(), ToolFault> {
     client.end()
 }
 
-/// The entries of a list or of a part of it.
-fn get(client: &mut Player<'_, '_>, part: ListPart, path: &[u8]) -> Result<Vec<u8>, ToolFault> {
+/// The ACEs of an ACL (access control list) or of a part of it.
+fn get(client: &mut Player<'_, '_>, part: AclPart, path: &[u8]) -> Result<Vec<u8>, ToolFault> {
     match part {
-        ListPart::Acl => client.getacl(path),
-        ListPart::Dacl => client.getdacl(path),
-        ListPart::Sacl => client.getsacl(path),
+        AclPart::Acl => client.getacl(path),
+        AclPart::Dacl => client.getdacl(path),
+        AclPart::Sacl => client.getsacl(path),
     }
 }
 
-/// Sets a list or a part of it.
+/// Sets an ACL or a part of it.
 fn set(
     client: &mut Player<'_, '_>,
-    part: ListPart,
+    part: AclPart,
     path: &[u8],
     entries: &[&[u8]],
 ) -> Result<(), ToolFault> {
     match part {
-        ListPart::Acl => client.setacl(path, entries),
-        ListPart::Dacl => client.setdacl(path, entries),
-        ListPart::Sacl => client.setsacl(path, entries),
+        AclPart::Acl => client.setacl(path, entries),
+        AclPart::Dacl => client.setdacl(path, entries),
+        AclPart::Sacl => client.setsacl(path, entries),
     }
 }
 
-/// The rights that are supported, and those that are granted.
+/// The supported permissions, and the granted ones.
 fn access(client: &mut Player<'_, '_>, path: &[u8]) -> Result<(u32, u32), ToolFault> {
     match client.access(path) {
         Ok(rights) => Ok((rights.supported, rights.granted)),
@@ -50,7 +50,7 @@ fn ls(client: &mut Player<'_, '_>, path: &[u8]) -> Result<Vec<u8>, ToolFault> {
     client.ls(path)
 }
 
-/// The entries of a directory, with a zero byte behind each column.
+/// The entries of a directory, with a zero byte after each column.
 pub fn ls_zero(client: &mut Player<'_, '_>, path: &[u8]) -> Result<Vec<u8>, ToolFault> {
     client.ls_zero(path)
 }
@@ -88,7 +88,7 @@ fn chmod(client: &mut Player<'_, '_>, mode: &[u8], path: &[u8]) -> Result<(), To
     client.chmod(mode, path)
 }
 
-/// Puts what comes of the client's method for a command.
+/// Appends the outcome of the client's method for a command.
 pub fn put_method(
     out: &mut String,
     client: &mut Player<'_, '_>,

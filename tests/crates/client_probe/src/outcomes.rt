@@ -1,11 +1,11 @@
-//! What comes of a command, as a line: `= HEX`, the bytes of its answer; or `! NUMBER`, the number of its fault, and after that of a
-//! refusal the numbers of the operation and of the status.
+//! The outcome of a command, as a line: `= HEX`, the bytes of its answer; or `! NUMBER`, the number of its fault. For a
+//! refusal the numbers of the operation and of the status follow.
 
 use nfs_client::{Answer, ToolFault};
 use nfs_types::Status;
 use std::test::Fail;
 
-/// Puts the line of an answer.
+/// Appends the line of an answer.
 fn put_bytes(out: &mut String, bytes: &[u8]) -> Result<(), Fail> {
     let digits = hex::encode(*out.allocator(), bytes)?;
     out.push_str("= ")?;
@@ -14,7 +14,7 @@ fn put_bytes(out: &mut String, bytes: &[u8]) -> Result<(), Fail> {
     Ok(())
 }
 
-/// Puts the line of a refusal.
+/// Appends the line of a refusal.
 fn put_refusal(out: &mut String, operation: u32, status: Status) -> Result<(), Fail> {
     let (alloc, status) = (*out.allocator(), status.number());
     let line = format!(in alloc; "! 2 {operation} {status}\n")?;
@@ -22,7 +22,7 @@ fn put_refusal(out: &mut String, operation: u32, status: Status) -> Result<(), F
     Ok(())
 }
 
-/// Puts the line of a fault.
+/// Appends the line of a fault.
 fn put_fault(out: &mut String, fault: ToolFault) -> Result<(), Fail> {
     if let ToolFault::Refused(operation, status) = fault {
         return put_refusal(out, operation, status);
@@ -33,40 +33,40 @@ fn put_fault(out: &mut String, fault: ToolFault) -> Result<(), Fail> {
     Ok(())
 }
 
-/// Puts what came of a command whose answer is a text.
-pub fn put_answer(out: &mut String, came: Result<Answer, ToolFault>) -> Result<(), Fail> {
-    match came {
+/// Appends the outcome of a command whose answer is a text.
+pub fn put_answer(out: &mut String, outcome: Result<Answer, ToolFault>) -> Result<(), Fail> {
+    match outcome {
         Ok(answer) => put_bytes(out, answer.as_bytes()),
         Err(fault) => put_fault(out, fault),
     }
 }
 
-/// Puts what came of a method that gives bytes.
-pub fn put_given(out: &mut String, came: Result<Vec<u8>, ToolFault>) -> Result<(), Fail> {
-    match came {
+/// Appends the outcome of a method that returns bytes.
+pub fn put_given(out: &mut String, outcome: Result<Vec<u8>, ToolFault>) -> Result<(), Fail> {
+    match outcome {
         Ok(bytes) => put_bytes(out, &bytes),
         Err(fault) => put_fault(out, fault),
     }
 }
 
-/// Puts the line of two numbers of rights.
+/// Appends the line of two sets of permissions.
 fn put_numbers(out: &mut String, supported: u32, granted: u32) -> Result<(), Fail> {
     let alloc = *out.allocator();
     let line = format!(in alloc; "access {supported:08x} {granted:08x}\n")?;
     put_bytes(out, line.as_bytes())
 }
 
-/// Puts what came of a method that gives rights: those that are supported, and those that are granted.
-pub fn put_rights(out: &mut String, came: Result<(u32, u32), ToolFault>) -> Result<(), Fail> {
-    match came {
+/// Appends the outcome of a method that returns the supported permissions and the granted ones.
+pub fn put_rights(out: &mut String, outcome: Result<(u32, u32), ToolFault>) -> Result<(), Fail> {
+    match outcome {
         Ok((supported, granted)) => put_numbers(out, supported, granted),
         Err(fault) => put_fault(out, fault),
     }
 }
 
-/// Puts what came of a method that gives nothing more.
-pub fn put_done(out: &mut String, came: Result<(), ToolFault>) -> Result<(), Fail> {
-    match came {
+/// Appends the outcome of a method that returns no value.
+pub fn put_done(out: &mut String, outcome: Result<(), ToolFault>) -> Result<(), Fail> {
+    match outcome {
         Ok(()) => put_bytes(out, b"ok\n"),
         Err(fault) => put_fault(out, fault),
     }

@@ -3,7 +3,7 @@
 use nfs_client::Client;
 use std::io::{self, ErrorKind, Read, Write};
 
-/// The calls that are still to come, and the replies that are still to be given.
+/// The expected calls, and the replies that are left.
 #[derive(Drop)]
 pub struct Played<'a> {
     pub wants: &'a [u8],
@@ -12,8 +12,8 @@ pub struct Played<'a> {
     pub takes_any: bool,
 }
 
-/// Takes the wanted bytes and no others, three at a time, and gives the replies, four bytes at a time: each reply ends with a read. Where
-/// any bytes are taken, it takes and gives as many as there are.
+/// Takes the expected bytes and no others, three at a time. It gives the replies, four bytes at a time: each reply ends
+/// with a read. If any bytes are taken, it takes and gives as many as are offered and wanted.
 #[derive(Drop)]
 pub struct Lent<'a, 'b> {
     pub played: &'a mut Played<'b>,
@@ -26,8 +26,8 @@ impl Read for Lent<'_, '_> {
     fn read(&mut self, buf: &mut [u8]) -> io::Result<usize> {
         let most = if self.played.takes_any { buf.len() } else { 4 };
         let n = self.played.gives.len().min(buf.len()).min(most);
-        let (front, rest) = self.played.gives.split_at(n);
-        buf[..n].copy_from_slice(front);
+        let (prefix, rest) = self.played.gives.split_at(n);
+        buf[..n].copy_from_slice(prefix);
         self.played.gives = rest;
         Ok(n)
     }
@@ -39,8 +39,8 @@ impl Write for Lent<'_, '_> {
             return Ok(buf.len());
         }
         let n = self.played.wants.len().min(buf.len()).min(3);
-        let (front, rest) = self.played.wants.split_at(n);
-        if front != &buf[..n] {
+        let (prefix, rest) = self.played.wants.split_at(n);
+        if prefix != &buf[..n] {
             return Err(io::Error::from(ErrorKind::Other));
         }
         self.played.wants = rest;

@@ -17,7 +17,7 @@ fn split_word(line: &str) -> (&str, &str) {
     line.split_once(' ').unwrap_or((line, ""))
 }
 
-/// The bytes of hexadecimal digits; none of `any`.
+/// The bytes of hexadecimal digits; none for `any`.
 fn bytes_of(alloc: Global, digits: &str) -> Result<Vec<u8>, Fail> {
     if digits == "any" {
         return Ok(Vec::new(alloc));
@@ -34,9 +34,9 @@ fn words_of(alloc: Global, line: &str) -> Result<Vec<&[u8]>, AllocError> {
     Ok(words)
 }
 
-/// Puts what comes of a line: of the command of these words, of a listing with zero bytes, of a text that takes the place of
+/// Appends the outcome of a line: of the command of these words, of a listing with zero bytes, of a text that replaces
 /// a file's bytes, or of the end of the session and the client.
-fn put_came(
+fn put_outcome(
     out: &mut String,
     client: &mut Player<'_, '_>,
     word: &str,
@@ -56,7 +56,7 @@ fn put_came(
 fn run_line(out: &mut String, client: &mut Player<'_, '_>, line: &str) -> Result<(), Fail> {
     let (word, rest) = split_word(line);
     let words = words_of(*out.allocator(), rest)?;
-    put_came(out, client, word, &words)
+    put_outcome(out, client, word, &words)
 }
 
 /// Runs the commands of lines.
@@ -67,13 +67,14 @@ fn run_lines(out: &mut String, client: &mut Player<'_, '_>, lines: &str) -> Resu
     Ok(())
 }
 
-/// A client of this number that goes on with a session of 16 bytes, of which the last is given, by number 1.
+/// A client with this client ID that continues a session, with sequence ID 1. The session ID has 16 bytes, of which the
+/// last is given.
 fn resumed<'a, 'b>(alloc: Global, lent: Lent<'a, 'b>, client: u64, session: u8) -> Player<'a, 'b> {
     let id = [0, 0, 0, 0, 0, 0, 0, 0, 0, 0, 0, 0, 0, 0, 0, session];
     Client::resume(alloc, lent, 1001, 100, client, id, 1)
 }
 
-/// `resume CLIENT SESSION`: runs commands of a client that goes on with a session.
+/// `resume CLIENT SESSION`: runs commands of a client that continues a session.
 fn play_resumed(
     out: &mut String,
     lent: Lent<'_, '_>,
@@ -93,7 +94,7 @@ fn open<'a, 'b>(
     Client::open(alloc, lent, 1001, 100, b"nfsc", verifier)
 }
 
-/// `open VERIFIER`: puts what comes of opening a session by this verifier, and where it is open runs commands.
+/// `open VERIFIER`: appends the outcome of opening a session by this verifier. If it is open, runs commands.
 fn play_opened(
     out: &mut String,
     lent: Lent<'_, '_>,
@@ -110,7 +111,7 @@ fn play_opened(
     }
 }
 
-/// Plays a scene over a stream: its first line says how the client begins.
+/// Plays a scene over a stream: its first line states how the client begins.
 fn play_over(
     out: &mut String,
     played: &mut Played<'_>,
@@ -124,7 +125,7 @@ fn play_over(
     }
 }
 
-/// Puts how many bytes of the calls weren't written, and how many of the replies weren't read.
+/// Appends how many bytes of the calls weren't written, and how many of the replies weren't read.
 fn put_left(out: &mut String, played: &Played<'_>) -> Result<(), Fail> {
     let (alloc, calls, replies) = (*out.allocator(), played.wants.len(), played.gives.len());
     let line = format!(in alloc; "left {calls} {replies}\n")?;
@@ -142,8 +143,8 @@ fn play_stream(
     put_left(out, played)
 }
 
-/// What comes of a scene: a line for each command, and one of the bytes that are left.
-pub fn scene_said(alloc: Global, scene: &str) -> Result<String, Fail> {
+/// The outcome of a scene: a line for each command, and one of the bytes that are left.
+pub fn scene_printed(alloc: Global, scene: &str) -> Result<String, Fail> {
     let (begin, rest) = split_line(scene);
     let (takes, rest) = split_line(rest);
     let (gives, lines) = split_line(rest);

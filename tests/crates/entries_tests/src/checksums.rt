@@ -1,5 +1,5 @@
-//! The checksum of results, beside those that Python gives (`hash` of bytes under PYTHONHASHSEED=0,
-//! which is SipHash-1-3 from version 3.11 on). The one of no bytes is that of Rust's `DefaultHasher`.
+//! The checksum of results, beside that of Python (`hash` of bytes under PYTHONHASHSEED=0, which is SipHash-1-3 from
+//! version 3.11 on). The one of no bytes is that of Rust's `DefaultHasher`.
 use log_entries::results_checksum;
 use std::process::Abort;
 

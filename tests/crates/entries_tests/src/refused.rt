@@ -1,5 +1,5 @@
 //! Bytes that are no entries.
-use crate::samples::{BOOK, COUNT, LET_GO, PLAIN, bytes_of, words_of};
+use crate::samples::{BOOK, CLIENT_EXPIRED, COUNT, PLAIN, bytes_of, words_of};
 use log_entries::{Entries, Entry, count_entries};
 use std::alloc::{AllocError, Global};
 use std::process::Abort;
@@ -17,7 +17,7 @@ fn a_sample_that_is_cut_is_none(rt: HostRuntime) -> Result<(), Fail> {
     Ok(())
 }
 
-/// Whether no entry stands at the front of words of which one is another one.
+/// Whether words are refused as an entry if one of them is replaced.
 fn is_refused(alloc: Global, words: &[u32], at: usize, word: u32) -> Result<bool, AllocError> {
     let mut others = words.to_vec(alloc)?;
     if let Some(other) = others.get_mut(at) {
@@ -29,9 +29,9 @@ fn is_refused(alloc: Global, words: &[u32], at: usize, word: u32) -> Result<bool
 #[test]
 fn other_words_are_refused(rt: HostRuntime) -> Result<(), Fail> {
     let alloc = rt.alloc();
-    // no kind, a billion nanoseconds, a record that is longer than the bytes, no boolean, and bytes of padding
+    // no type, a billion nanoseconds, a record that is longer than the bytes, no boolean, and bytes of padding
     for kind in [0, 4, 0x0100_0000] {
-        assert!(rt; is_refused(alloc, &LET_GO, 0, kind)?);
+        assert!(rt; is_refused(alloc, &CLIENT_EXPIRED, 0, kind)?);
     }
     for (at, word) in [
         (3, 1_000_000_000),

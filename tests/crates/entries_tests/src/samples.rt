@@ -4,7 +4,7 @@ use nfs_types::Moment;
 use std::alloc::{AllocError, Global};
 use xdr_wire::{Opaque, Writer};
 
-/// A call at 1.5 seconds before the epoch, whose operation at place 2 found no memory.
+/// A call at 1.5 seconds before the epoch, in which an allocation of the operation at place 2 failed.
 pub const DELAYED: [u32; 11] = [
     1,
     0xffff_ffff,
@@ -22,16 +22,16 @@ pub const DELAYED: [u32; 11] = [
 /// A call at the last nanosecond of the second 7, of a record of four bytes.
 pub const PLAIN: [u32; 9] = [1, 0, 7, 999_999_999, 4, 0x6361_6c6c, 0, 0, 9];
 
-/// The client 2^32 + 3 was let go.
-pub const LET_GO: [u32; 3] = [2, 1, 3];
+/// The client 2^32 + 3 expired.
+pub const CLIENT_EXPIRED: [u32; 3] = [2, 1, 3];
 
 /// A book was loaded.
 pub const BOOK: [u32; 5] = [3, 1, 6, 0x7573_6572, 0x730a_0000];
 
-/// No book is there any more.
+/// The book was removed.
 pub const NO_BOOK: [u32; 2] = [3, 0];
 
-/// How many samples there are.
+/// The number of samples.
 pub const COUNT: usize = 5;
 
 /// The words of a sample.
@@ -39,7 +39,7 @@ pub fn words_of(sample: usize) -> &'static [u32] {
     match sample {
         0 => &DELAYED,
         1 => &PLAIN,
-        2 => &LET_GO,
+        2 => &CLIENT_EXPIRED,
         3 => &BOOK,
         _ => &NO_BOOK,
     }
@@ -73,7 +73,7 @@ pub fn sample(sample: usize) -> Entry<'static> {
             delayed: None,
             checksum: 9,
         }),
-        2 => Entry::LetGo(0x1_0000_0003),
+        2 => Entry::ClientExpired(0x1_0000_0003),
         3 => Entry::Book(Some(opaque(b"users\n"))),
         _ => Entry::Book(None),
     }
@@ -88,14 +88,14 @@ pub fn bytes_of(alloc: Global, words: &[u32]) -> Result<Vec<u8>, AllocError> {
     Ok(bytes)
 }
 
-/// An entry as it is written, where there is this much room.
+/// An entry as written, into `room` bytes.
 pub fn written(alloc: Global, entry: &Entry<'_>, room: usize) -> Result<Vec<u8>, AllocError> {
     let mut log = Writer::new(alloc, room)?;
     entry.put(&mut log);
     Ok(log.into_bytes())
 }
 
-/// Whether two entries are the same.
+/// Whether two entries are equal.
 pub fn is_same(one: &Entry<'_>, other: &Entry<'_>) -> bool {
     match (one, other) {
         (Entry::Call(one), Entry::Call(other)) => {
@@ -104,7 +104,7 @@ pub fn is_same(one: &Entry<'_>, other: &Entry<'_>) -> bool {
                 && one.delayed == other.delayed
                 && one.checksum == other.checksum
         }
-        (Entry::LetGo(one), Entry::LetGo(other)) => one == other,
+        (Entry::ClientExpired(one), Entry::ClientExpired(other)) => one == other,
         (Entry::Book(Some(one)), Entry::Book(Some(other))) => one.bytes == other.bytes,
         (Entry::Book(None), Entry::Book(None)) => true,
         _ => false,

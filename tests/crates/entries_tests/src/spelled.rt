@@ -1,4 +1,4 @@
-//! Entries are written as the words that stand for them, and are read again.
+//! Entries are written as the words that encode them, and are read again.
 use crate::samples::{COUNT, bytes_of, is_same, sample, words_of, written};
 use log_entries::{Entries, Entry, call_room, count_entries};
 use std::alloc::{AllocError, Global};

@@ -1,4 +1,4 @@
-//! The tests of the book of names: texts with their answers, how whos are spelled, and the groups of callers.
+//! The tests of the book of names: texts with their results, the text of principals, and the groups of callers.
 
 mod books;
 mod given;

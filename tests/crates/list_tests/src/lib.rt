@@ -1,4 +1,5 @@
-//! Tests of lists of entries, of the book of names and of sessions: `acl_list`, `acl_shape`, `who_book` and `session_slots`.
+//! Tests of access control lists, of the book of names and of sessions: `acl_list`, `acl_shape`, `who_book` and
+//! `session_slots`.
 #![tactic(auto)]
 
 #[cfg(test)]

@@ -1,9 +1,9 @@
 //! Tests of `session_slots`.
 
 mod clients;
-mod hearing;
 mod memory;
 mod plain;
+mod renewing;
 mod restoring;
 mod sessions;
 mod slots;

@@ -1,4 +1,4 @@
-//! Books that come while streams are served: the book by which each call is judged.
+//! Books that arrive while streams are served: the book by which each call is judged.
 
 use crate::memory::{Memory, Time};
 use crate::peers::{Script, script_of};
@@ -9,7 +9,8 @@ use std::hash::RandomState;
 use std::process::Abort;
 use std::test::Fail;
 
-/// A book with the caller of all calls in no group, while each call says that the caller is in group 100, the group of the file.
+/// A book by which the caller of all calls is in no group. Each call states that the caller is in group 100, the group
+/// of the file.
 const IN_NO_GROUP: &str = "\
 domain = 'd'
 root_owner = 0
@@ -20,7 +21,7 @@ groups = { staff = 100 }
 members = { staff = [] }
 ";
 
-/// Two peers with two calls each, of 108 bytes, and a book that comes meanwhile.
+/// Two peers with two calls each, of 108 bytes, and a book that arrives meanwhile.
 #[derive(Clone, Copy)]
 struct Scene {
     name: &'static str,
@@ -28,12 +29,12 @@ struct Scene {
     peers: [&'static str; 2],
     /// The most bytes of a read, and of a write.
     sizes: (usize, usize),
-    /// How many waits come before the book. Streams are admitted behind the first, and read from the second on.
+    /// How many waits come before the book. Streams are admitted after the first, and read from the second on.
     brings: u64,
     /// How many reads come before the book.
     reads: u64,
-    /// The calls of each peer that are answered that it may read the file, a digit a call.
-    told: [&'static str; 2],
+    /// Of each call of each peer, a digit each: 1 if the reply grants reading the file, else 0.
+    sent: [&'static str; 2],
 }
 
 static SCENES: [Scene; 12] = [
@@ -43,7 +44,7 @@ static SCENES: [Scene; 12] = [
         sizes: (108, 4096),
         brings: 1,
         reads: 0,
-        told: ["00", "00"],
+        sent: ["00", "00"],
     },
     Scene {
         name: "between the first and the second calls",
@@ -51,7 +52,7 @@ static SCENES: [Scene; 12] = [
         sizes: (108, 4096),
         brings: 3,
         reads: 0,
-        told: ["10", "10"],
+        sent: ["10", "10"],
     },
     Scene {
         name: "between the halves of the first calls",
@@ -59,7 +60,7 @@ static SCENES: [Scene; 12] = [
         sizes: (54, 4096),
         brings: 3,
         reads: 0,
-        told: ["00", "00"],
+        sent: ["00", "00"],
     },
     Scene {
         name: "behind the first calls in halves",
@@ -67,7 +68,7 @@ static SCENES: [Scene; 12] = [
         sizes: (54, 4096),
         brings: 4,
         reads: 0,
-        told: ["10", "10"],
+        sent: ["10", "10"],
     },
     Scene {
         name: "between the halves of the second calls",
@@ -75,7 +76,7 @@ static SCENES: [Scene; 12] = [
         sizes: (54, 4096),
         brings: 5,
         reads: 0,
-        told: ["10", "10"],
+        sent: ["10", "10"],
     },
     Scene {
         name: "behind all calls",
@@ -83,7 +84,7 @@ static SCENES: [Scene; 12] = [
         sizes: (54, 4096),
         brings: 6,
         reads: 0,
-        told: ["11", "11"],
+        sent: ["11", "11"],
     },
     Scene {
         name: "between the calls of two connections",
@@ -91,7 +92,7 @@ static SCENES: [Scene; 12] = [
         sizes: (108, 4096),
         brings: 3,
         reads: 0,
-        told: ["10", "00"],
+        sent: ["10", "00"],
     },
     Scene {
         name: "before the last byte of the first calls",
@@ -99,7 +100,7 @@ static SCENES: [Scene; 12] = [
         sizes: (1, 4096),
         brings: 109,
         reads: 0,
-        told: ["00", "00"],
+        sent: ["00", "00"],
     },
     Scene {
         name: "behind the last byte of the first calls",
@@ -107,7 +108,7 @@ static SCENES: [Scene; 12] = [
         sizes: (1, 4096),
         brings: 110,
         reads: 0,
-        told: ["10", "10"],
+        sent: ["10", "10"],
     },
     Scene {
         name: "with the first read, before what it gave is run",
@@ -115,7 +116,7 @@ static SCENES: [Scene; 12] = [
         sizes: (108, 4096),
         brings: 0,
         reads: 1,
-        told: ["00", "00"],
+        sent: ["00", "00"],
     },
     Scene {
         name: "with the second read of two calls that were read at once",
@@ -123,7 +124,7 @@ static SCENES: [Scene; 12] = [
         sizes: (216, 4096),
         brings: 0,
         reads: 2,
-        told: ["11", "00"],
+        sent: ["11", "00"],
     },
     Scene {
         name: "while replies wait to be written",
@@ -131,7 +132,7 @@ static SCENES: [Scene; 12] = [
         sizes: (108, 1),
         brings: 3,
         reads: 0,
-        told: ["10", "10"],
+        sent: ["10", "10"],
     },
 ];
 
@@ -139,10 +140,10 @@ fn scenes() -> &'static [Scene] {
     &SCENES
 }
 
-/// Adds the two streams, and the book that comes.
+/// Adds the two streams, and the book.
 fn set(streams: &mut Memory<'_>, scene: &Scene) {
     let (piece, takes) = scene.sizes;
-    for (word, digits) in scene.peers.iter().zip(scene.told.iter()) {
+    for (word, digits) in scene.peers.iter().zip(scene.sent.iter()) {
         let script = Script {
             piece,
             takes,
@@ -155,8 +156,9 @@ fn set(streams: &mut Memory<'_>, scene: &Scene) {
     streams.brings_reads = scene.reads;
 }
 
-/// The end of serving both peers, whether each got its replies, and whether each wait is followed by a request for a book.
-fn told(
+/// The end of serving both peers, whether each got its replies, and whether each wait is followed by a request for a
+/// book.
+fn sent(
     alloc: Global,
     hasher: RandomState,
     scene: &Scene,
@@ -173,17 +175,17 @@ fn told(
     Ok((end, is_answered, streams.asked == streams.waits))
 }
 
-/// Each call is judged by the book that had come when its last byte was read, and a reply that waits stays as it is.
+/// Each call is judged by the book that had arrived when its last byte was read. A reply that waits isn't changed.
 #[test]
 fn calls_are_judged_by_the_book_of_their_end(rt: HostRuntime) -> Result<(), Fail> {
     let hasher = RandomState::new(&rt)?;
     for scene in scenes() {
-        let told = told(rt.alloc(), hasher, scene)?;
-        see(&rt, scene.name, told);
+        let sent = sent(rt.alloc(), hasher, scene)?;
+        see(&rt, scene.name, sent);
     }
     Ok(())
 }
 
-fn see(rt: &impl Abort, name: &str, told: (AllEnd, bool, bool)) {
-    assert!(rt; told == (AllEnd::Served, true, true), "{name}: {told:?}");
+fn see(rt: &impl Abort, name: &str, sent: (AllEnd, bool, bool)) {
+    assert!(rt; sent == (AllEnd::Served, true, true), "{name}: {sent:?}");
 }

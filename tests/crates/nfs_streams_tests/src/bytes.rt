@@ -1,4 +1,4 @@
-//! Calls and their replies, as bytes that stand in a value of one size.
+//! Calls and their replies, as bytes in a value of one size.
 
 /// At most 256 bytes.
 #[derive(Clone, Copy)]
@@ -19,7 +19,7 @@ impl Bytes {
         self.bytes.get(..self.len).unwrap_or(&[])
     }
 
-    /// Drops the last bytes, so many.
+    /// Drops the last `count` bytes.
     pub fn drop_last(&mut self, count: usize) {
         self.len = self.len.saturating_sub(count);
     }
@@ -37,7 +37,7 @@ impl Bytes {
         }
     }
 
-    /// Puts words of four bytes, in hexadecimal digits, high byte first; `x` stands for this number.
+    /// Appends words of four bytes, in hexadecimal digits, high byte first; `x` represents this number.
     fn put(&mut self, words: &str, number: u32) {
         for word in words.split_whitespace() {
             self.put_number(u32::from_str_radix(word, 16).unwrap_or(number));
@@ -49,23 +49,24 @@ impl Bytes {
 const CALL: &str =
     "80000068 x 0 2 186a3 4 1 1 18 0 0 3ea 64 1 64 0 0 0 1 3 18 f 5 6e6f7465 73000000 3 2d";
 
-/// PUTROOTFH and REMOVE of `notes`, by the same user, who has no right to that.
+/// PUTROOTFH and REMOVE of `notes`, by the same user, who has no permission for it.
 const REMOVE: &str =
     "80000060 x 0 2 186a3 4 1 1 18 0 0 3ea 64 1 64 0 0 0 1 2 18 1c 5 6e6f7465 73000000";
 
-/// PUTROOTFH, LOOKUP of `pub` and CREATE of a directory `made`, by the same user, who has the right to that.
+/// PUTROOTFH, LOOKUP of `pub` and CREATE of a directory `made`, by the same user, who has the permission for it.
 const MAKE: &str =
     "80000074 x 0 2 186a3 4 1 1 18 0 0 3ea 64 1 64 0 0 0 1 3 18 f 3 70756200 6 2 4 6d616465 0 0";
 
-/// The reply where the caller has the right to read, and where it has none.
+/// The reply if the caller may read, and the reply if the caller may not.
 const REPLY: &str = "80000044 x 1 0 0 0 0 0 0 3 18 0 f 0 3 0 2d 1";
 
 const NO_RIGHT: &str = "80000044 x 1 0 0 0 0 0 0 3 18 0 f 0 3 0 2d 0";
 
-/// A reply has so many bytes.
+/// The number of bytes of a reply.
 pub const REPLY_LEN: usize = 72;
 
-/// So many calls of a peer, and behind them, if it is to be so, bytes that break its connection. The calls are numbered from 1,000 times the peer's number on.
+/// `calls` calls of a peer, and after them, if `breaks` is set, bytes that break its connection. The calls are numbered
+/// from 1,000 times the peer's number on.
 pub fn calls_of(peer: u32, calls: u32, breaks: bool) -> Bytes {
     let mut bytes = Bytes::none();
     let first = peer.saturating_mul(1_000);
@@ -78,7 +79,7 @@ pub fn calls_of(peer: u32, calls: u32, breaks: bool) -> Bytes {
     bytes
 }
 
-/// So many calls of a peer that are refused.
+/// `calls` calls of a peer that are refused.
 pub fn removes_of(peer: u32, calls: u32) -> Bytes {
     let mut bytes = Bytes::none();
     let first = peer.saturating_mul(1_000);
@@ -95,7 +96,7 @@ pub fn makes_of(peer: u32) -> Bytes {
     bytes
 }
 
-/// The replies to the first calls of a peer, a digit a call: 1 where the caller may read the file, 0 where it has no right to it.
+/// The replies to the first calls of a peer, a digit a call: 1 if the caller may read the file, 0 if not.
 pub fn replies_to(peer: u32, digits: &str) -> Bytes {
     let mut bytes = Bytes::none();
     let mut number = peer.saturating_mul(1_000);

@@ -1,4 +1,4 @@
-//! How each connection is said to have ended.
+//! The reported end of each connection.
 
 use crate::memory::{Memory, Time};
 use crate::peers::{Script, script_of};
@@ -9,7 +9,7 @@ use std::hash::RandomState;
 use std::process::Abort;
 use std::test::Fail;
 
-/// A peer, beside another one that sends two calls and leaves, and how its connection ends.
+/// A peer, and how its connection ends. Another peer sends two calls and leaves.
 #[derive(Clone, Copy)]
 struct Scene {
     name: &'static str,
@@ -18,7 +18,7 @@ struct Scene {
     fails: (u32, u32),
     limits: Limits,
     end: Option<StreamEnd>,
-    /// The number of the end, as `nfsd` says it.
+    /// The number of the end, as `nfsd` prints it.
     number: u8,
 }
 
@@ -146,9 +146,9 @@ fn ends(
     Ok([first.end, second.end])
 }
 
-fn see(rt: &impl Abort, scene: &Scene, told: [Option<StreamEnd>; 2]) {
+fn see(rt: &impl Abort, scene: &Scene, sent: [Option<StreamEnd>; 2]) {
     let name = scene.name;
-    let [first, second] = told;
+    let [first, second] = sent;
     assert_eq!(rt; first, scene.end, "{name}");
     assert_eq!(rt; first.map(|end| end as u8), Some(scene.number), "{name}");
     let is_kept_out = scene.limits.places == 1 && scene.end == Some(StreamEnd::Stopped);
@@ -163,11 +163,11 @@ fn see(rt: &impl Abort, scene: &Scene, told: [Option<StreamEnd>; 2]) {
 }
 
 #[test]
-fn each_end_is_told(rt: HostRuntime) -> Result<(), Fail> {
+fn each_end_is_reported(rt: HostRuntime) -> Result<(), Fail> {
     let hasher = RandomState::new(&rt)?;
     for scene in scenes() {
-        let told = ends(rt.alloc(), hasher, scene)?;
-        see(&rt, scene, told);
+        let sent = ends(rt.alloc(), hasher, scene)?;
+        see(&rt, scene, sent);
     }
     Ok(())
 }

@@ -1,4 +1,4 @@
-//! Full houses: peers that never read, silent peers, and peers that knock at a full house.
+//! Full houses: peers that never read, silent peers, and peers that connect to a full house.
 
 use crate::bytes::REPLY_LEN;
 use crate::memory::{Memory, Time};
@@ -10,7 +10,7 @@ use std::hash::RandomState;
 use std::process::Abort;
 use std::test::Fail;
 
-/// Peers at a house, and their fate in 400 turns.
+/// The peers of a house, and their outcome in 400 turns.
 #[derive(Clone, Copy)]
 struct House {
     name: &'static str,
@@ -21,8 +21,8 @@ struct House {
     /// The most connections that were open at once.
     most: usize,
     /// How many calls of each peer have replies, a digit a peer.
-    told: &'static str,
-    /// The peer that is let go first, and behind how many waits; 0: no peer.
+    sent: &'static str,
+    /// The peer whose connection is closed first, and after how many waits; 0: no peer.
     first: (u32, u64),
 }
 
@@ -32,7 +32,7 @@ static HOUSES: [House; 8] = [
         places: 2,
         peers: "s5 s9 u20",
         most: 2,
-        told: "002",
+        sent: "002",
         first: (1, 21),
     },
     House {
@@ -40,7 +40,7 @@ static HOUSES: [House; 8] = [
         places: 2,
         peers: "o s u10",
         most: 2,
-        told: "102",
+        sent: "102",
         first: (2, 11),
     },
     House {
@@ -48,7 +48,7 @@ static HOUSES: [House; 8] = [
         places: 1,
         peers: "s u1",
         most: 1,
-        told: "02",
+        sent: "02",
         first: (1, 3),
     },
     House {
@@ -56,7 +56,7 @@ static HOUSES: [House; 8] = [
         places: 1,
         peers: "w u",
         most: 1,
-        told: "22",
+        sent: "22",
         first: (1, 218),
     },
     House {
@@ -64,7 +64,7 @@ static HOUSES: [House; 8] = [
         places: 16,
         peers: "s s s w s s s s s s s s s s s s u2",
         most: 16,
-        told: "00020000000000002",
+        sent: "00020000000000002",
         first: (16, 3),
     },
     House {
@@ -72,7 +72,7 @@ static HOUSES: [House; 8] = [
         places: 40,
         peers: "s s s w s s s s s s s s s s s s u2",
         most: 16,
-        told: "00020000000000002",
+        sent: "00020000000000002",
         first: (16, 3),
     },
     House {
@@ -80,7 +80,7 @@ static HOUSES: [House; 8] = [
         places: 0,
         peers: "u u",
         most: 0,
-        told: "00",
+        sent: "00",
         first: (0, 0),
     },
     House {
@@ -88,7 +88,7 @@ static HOUSES: [House; 8] = [
         places: 3,
         peers: "d u w",
         most: 3,
-        told: "022",
+        sent: "022",
         first: (2, 3),
     },
 ];
@@ -97,14 +97,14 @@ fn houses() -> &'static [House] {
     &HOUSES
 }
 
-/// The peer that was let go first, and behind how many waits; 0: no peer.
-fn first_gone(streams: &[Stream]) -> (u32, u64) {
+/// The peer whose connection was closed first, and after how many waits; 0: no peer.
+fn first_expired(streams: &[Stream]) -> (u32, u64) {
     let mut first = (0, 0);
     let mut earliest = u64::MAX;
     let mut peer = 0u32;
     for stream in streams {
         peer = peer.saturating_add(1);
-        if let Seat::Gone(waits) = stream.seat {
+        if let Seat::Done(waits) = stream.seat {
             if waits < earliest {
                 earliest = waits;
                 first = (peer, waits);
@@ -114,21 +114,21 @@ fn first_gone(streams: &[Stream]) -> (u32, u64) {
     first
 }
 
-/// The first peer, from 1 on, that doesn't have the replies to so many of its calls, a digit a peer; 0: no peer.
-fn first_other(streams: &[Stream], told: &str) -> u32 {
+/// The first peer, from 1 on, whose replies aren't those to the given number of its calls, a digit a peer; 0: no peer.
+fn first_other(streams: &[Stream], sent: &str) -> u32 {
     let mut peer = 0u32;
-    for (stream, digit) in streams.iter().zip(told.bytes()) {
+    for (stream, digit) in streams.iter().zip(sent.bytes()) {
         peer = peer.saturating_add(1);
         let calls = usize::from(digit.saturating_sub(b'0'));
-        if !stream.right || stream.told != calls.saturating_mul(REPLY_LEN) {
+        if !stream.right || stream.sent != calls.saturating_mul(REPLY_LEN) {
             return peer;
         }
     }
     0
 }
 
-/// Serves a house for 400 turns. Gives the peer that was let go first, and behind how many waits, the most connections at once, and the first peer that has other
-/// replies.
+/// Serves a house for 400 turns. Returns the peer whose connection was closed first, and after how many waits; the most
+/// connections at once; and the first peer that has other replies.
 fn serve_house(
     alloc: Global,
     hasher: RandomState,
@@ -142,27 +142,28 @@ fn serve_house(
         ..AMPLE
     };
     serve_new(alloc, hasher, &mut streams, &time, limits)?;
-    let first = first_gone(streams.all());
-    let other = first_other(streams.all(), house.told);
+    let first = first_expired(streams.all());
+    let other = first_other(streams.all(), house.sent);
     Ok((first, streams.most, other))
 }
 
-fn see(rt: &impl Abort, house: &House, told: ((u32, u64), usize, u32)) {
+fn see(rt: &impl Abort, house: &House, sent: ((u32, u64), usize, u32)) {
     let name = house.name;
-    assert!(rt; told == (house.first, house.most, 0), "{name}: {told:?}");
+    assert!(rt; sent == (house.first, house.most, 0), "{name}: {sent:?}");
 }
 
 #[test]
-fn who_is_let_go(rt: HostRuntime) -> Result<(), Fail> {
+fn who_expires(rt: HostRuntime) -> Result<(), Fail> {
     let hasher = RandomState::new(&rt)?;
     for house in houses() {
-        let told = serve_house(rt.alloc(), hasher, house)?;
-        see(&rt, house, told);
+        let sent = serve_house(rt.alloc(), hasher, house)?;
+        see(&rt, house, sent);
     }
     Ok(())
 }
 
-/// Behind 400 turns: how many bytes were read of the first peer and written to it, and how many waits only looked.
+/// After 400 turns: how many bytes were read from the first peer and written to it, and how many waits returned at
+/// once.
 fn looks(
     alloc: Global,
     hasher: RandomState,
@@ -174,10 +175,10 @@ fn looks(
     serve_new(alloc, hasher, &mut streams, &time, AMPLE)?;
     let looks = streams.waits.saturating_sub(streams.rests);
     let first = streams.all().first();
-    Ok((first.map(|stream| (stream.read, stream.told)), looks))
+    Ok((first.map(|stream| (stream.read, stream.sent)), looks))
 }
 
-/// Of a peer that never reads one piece is read, and no more; and while no peer speaks serving waits, and doesn't only look.
+/// From a peer that never reads one piece is read, and no more. While no peer sends, serving waits and doesn't poll.
 #[test]
 fn silence_is_waited_for(rt: HostRuntime) -> Result<(), Fail> {
     let hasher = RandomState::new(&rt)?;

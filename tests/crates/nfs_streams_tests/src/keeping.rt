@@ -1,5 +1,5 @@
-//! What is done between a read and the replies: the trail is kept after each record, a book that came with the read counts, and a peer that
-//! never reads gets 4,096 bytes of replies and one piece in.
+//! What is done between a read and the replies. The trail is kept after each record, and a book that arrived with the
+//! read is used. A peer that never reads gets 4,096 bytes of replies, and one piece of its calls is run.
 
 use crate::memory::{Memory, Time};
 use crate::peers::{Script, script_of};
@@ -9,7 +9,8 @@ use std::alloc::{AllocError, Global};
 use std::hash::RandomState;
 use std::test::Fail;
 
-/// How many lines one refused call writes, as `most_new` of a peer that sends so many of them in one piece, and how many lines there were.
+/// The most new lines at once (`most_new`) of a peer that sends `calls` refused calls in one piece, and the number of
+/// all lines.
 fn lines_of(alloc: Global, hasher: RandomState, calls: u32) -> Result<(u64, u64), AllocError> {
     let time = Time::new();
     let mut streams = Memory::new(alloc, &time);
@@ -34,8 +35,8 @@ fn the_trail_is_kept_after_each_record(rt: HostRuntime) -> Result<(), Fail> {
     Ok(())
 }
 
-/// The bytes that were read of a peer that never reads, and how often the trail was kept besides once a turn, where a read gives so many
-/// bytes.
+/// The bytes that were read from a peer that never reads, if a read gives `piece` bytes. And how often the trail was
+/// kept in addition to once a turn.
 fn deaf(alloc: Global, hasher: RandomState, piece: usize) -> Result<(usize, u64), AllocError> {
     let time = Time::new();
     let mut streams = Memory::new(alloc, &time);
@@ -52,8 +53,9 @@ fn deaf(alloc: Global, hasher: RandomState, piece: usize) -> Result<(usize, u64)
     ))
 }
 
-/// Of 4,096 bytes that are read of a peer that never reads all are given: 37 calls of 108 bytes, and a part of one. Of 131,072 bytes 57 calls are given
-/// until more than 4,096 bytes wait, since a reply has 72; and then what is left of the piece that began with the last of them: 36 calls and a part of one.
+/// Of 4,096 bytes that are read from a peer that never reads all are run: 37 calls of 108 bytes, and a part of one. Of
+/// 131,072 bytes 57 calls are run until more than 4,096 bytes wait, since a reply has 72. Then the rest of the piece is
+/// run that began with the last of them: 36 calls and a part of one.
 #[test]
 fn one_piece_is_given_while_replies_wait(rt: HostRuntime) -> Result<(), Fail> {
     let hasher = RandomState::new(&rt)?;
@@ -63,7 +65,8 @@ fn one_piece_is_given_while_replies_wait(rt: HostRuntime) -> Result<(), Fail> {
     Ok(())
 }
 
-/// How many waits took at most a second, and whether the peer was served, where it can't be taken before so many waits.
+/// How many waits took at most a second, and whether the peer was served, if it can't be accepted before seven
+/// waits.
 fn stuck(alloc: Global, hasher: RandomState, places: usize) -> Result<(u64, bool), AllocError> {
     let time = Time::new();
     let mut streams = Memory::new(alloc, &time);
@@ -81,7 +84,7 @@ fn stuck(alloc: Global, hasher: RandomState, places: usize) -> Result<(u64, bool
     ))
 }
 
-/// A peer that waits and can't be taken is tried again after a second at most.
+/// A peer that waits and can't be accepted is tried again after a second at most.
 #[test]
 fn one_that_cannot_be_taken_is_tried_again(rt: HostRuntime) -> Result<(), Fail> {
     let hasher = RandomState::new(&rt)?;

@@ -1,5 +1,6 @@
-//! Tests of `nfs_streams`: streams in memory, ready in any order, some of which fail, break or are silent, books that come meanwhile,
-//! a store in two files in memory, over which sessions outlive a crash, and sockets of 127.0.0.1.
+//! Tests of `nfs_streams`: streams in memory, ready in any order, some of which fail, break or are silent. Books arrive
+//! meanwhile. Persistent sessions over a store on a disk in memory outlive a crash. There are sockets of 127.0.0.1,
+//! too.
 #![tactic(auto)]
 
 #[cfg(test)]
@@ -8,8 +9,6 @@ mod books;
 mod bytes;
 #[cfg(test)]
 mod ends;
-#[cfg(test)]
-mod files;
 #[cfg(test)]
 mod house;
 #[cfg(test)]

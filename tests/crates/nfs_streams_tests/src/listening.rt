@@ -1,36 +1,40 @@
-//! A server that listens on 127.0.0.1, by the sockets of `nfsd`, in one process with its peers, and without a thread: each peer connects, writes, and ends its
-//! side of the stream; then they are served; and then they read.
+//! A server that listens on 127.0.0.1, by the sockets of `nfsd`, in one process with its peers, and without a thread.
+//! Each peer connects, writes, and ends its side of the stream; then they are served; and then they read.
 
 use crate::bytes::{Bytes, calls_of, makes_of, replies_to};
 use crate::memory::Time;
 use crate::plain::{AMPLE, bare};
 use crate::sockets::Sockets;
 use compound_run::Server;
-use journal::{Disk, LoadFault, Slot};
 use nfs_hub::{ConnId, Hub};
-use nfs_streams::{AllEnd, Knock, Limits, Moved, StreamEnd, Streams, Wait, serve_all};
+use nfs_streams::{AllEnd, Arrival, Limits, Moved, StreamEnd, Streams, Wait, serve_all};
 use std::alloc::{Allocator, Global};
 use std::hash::RandomState;
 use std::io;
 use std::io::{Read, Write};
-use std::net::{Shutdown, TcpListener, TcpStream};
+use std::net::{Ipv4Addr, Shutdown, SocketAddr, SocketAddrV4, TcpListener, TcpStream};
 use std::test::Fail;
+use store_journal::{Disk, LoadFault, Slot};
 use who_book::Book;
 
 /// Sockets, and how their streams ended, in turn.
 #[derive(Drop)]
-struct Heard {
+struct Received {
     sockets: Sockets,
     ends: Vec<StreamEnd>,
 }
 
 /// There is no store.
-impl Disk for Heard {
+impl Disk for Received {
+    fn load_current<A: Allocator>(&mut self, _alloc: A) -> Result<Option<Vec<u8, A>>, LoadFault> {
+        Err(LoadFault::Failed)
+    }
+
     fn load<A: Allocator>(&mut self, _alloc: A, _slot: Slot) -> Result<Vec<u8, A>, LoadFault> {
         Err(LoadFault::Failed)
     }
 
-    fn append(&mut self, _slot: Slot, _bytes: &[u8]) -> bool {
+    fn write(&mut self, _slot: Slot, _at: u64, _prefix: &[u8], _body: &[u8], _back: &[u8]) -> bool {
         false
     }
 
@@ -38,12 +42,12 @@ impl Disk for Heard {
         false
     }
 
-    fn empty(&mut self, _slot: Slot) -> bool {
+    fn turn(&mut self, _bytes: &[u8]) -> bool {
         false
     }
 }
 
-impl Streams<Global> for Heard {
+impl Streams<Global> for Received {
     ghost disk_acts = { λ old new act it. tt };
 
     fn wait(&mut self, how: Wait) -> bool {
@@ -54,8 +58,8 @@ impl Streams<Global> for Heard {
         None
     }
 
-    fn knocks(&mut self) -> Knock {
-        self.sockets.knocks()
+    fn arrival(&mut self) -> Arrival {
+        self.sockets.arrival()
     }
 
     fn admit(&mut self, place: usize, _conn: ConnId) {
@@ -80,7 +84,7 @@ impl Streams<Global> for Heard {
     }
 }
 
-/// A port of 127.0.0.1 that is free.
+/// A free port of 127.0.0.1.
 fn free_port(rt: &HostRuntime) -> io::Result<u16> {
     let listener = TcpListener::bind(rt, "127.0.0.1:0")?;
     Ok(listener.local_addr()?.port())
@@ -94,8 +98,8 @@ fn peer(rt: &HostRuntime, port: u16, bytes: &[u8]) -> io::Result<TcpStream> {
     Ok(stream)
 }
 
-/// What comes to a peer, up to the end.
-fn heard(alloc: Global, stream: &mut TcpStream) -> io::Result<Vec<u8>> {
+/// What a peer receives, up to the end.
+fn received_bytes(alloc: Global, stream: &mut TcpStream) -> io::Result<Vec<u8>> {
     let mut bytes = Vec::new(alloc);
     stream.read_to_end(&mut bytes)?;
     Ok(bytes)
@@ -107,10 +111,11 @@ fn cut(mut bytes: Bytes) -> Bytes {
     bytes
 }
 
-/// What a peer writes, what comes to it, and how its connection ends.
+/// What a peer writes, what it receives, and how its connection ends.
 type Peer = (Bytes, Bytes, StreamEnd);
 
-/// Peers that make their calls whole, break off inside a call behind a whole one, send bytes that break their connection, say nothing, and are answered no.
+/// Peers that complete their calls, stop inside a call after a complete one, send bytes that break their connection,
+/// send nothing, and are refused.
 fn peers() -> [Peer; 5] {
     [
         (calls_of(1, 2, false), replies_to(1, "11"), StreamEnd::Ended),
@@ -125,8 +130,8 @@ fn peers() -> [Peer; 5] {
     ]
 }
 
-/// Serves as many connections as there are peers, in so many places.
-fn serve(alloc: Global, hub: &mut Hub, streams: &mut Heard, places: usize) -> AllEnd {
+/// Serves one connection for each peer, in `places` places.
+fn serve(alloc: Global, hub: &mut Hub, streams: &mut Received, places: usize) -> AllEnd {
     let limits = Limits {
         places,
         connections: peers().len() as u64,
@@ -136,41 +141,44 @@ fn serve(alloc: Global, hub: &mut Hub, streams: &mut Heard, places: usize) -> Al
     serve_all(alloc, hub, streams, &Time::new(), None, limits)
 }
 
-/// Serves the peers in so many places. Gives the end of serving, how the connections ended in turn, and what came to each peer.
+/// Serves the peers in `places` places. Returns the end of serving, how the connections ended in turn, and what each
+/// peer received.
 fn served(
     rt: &HostRuntime,
     alloc: Global,
     places: usize,
 ) -> Result<(AllEnd, Vec<StreamEnd>, Vec<Vec<u8>>), Fail> {
     let port = free_port(rt)?;
-    let sockets = Sockets::listen(rt, alloc, port, false)?;
-    let mut streams = Heard {
+    let address = SocketAddr::V4(SocketAddrV4::new(Ipv4Addr::LOCALHOST, port));
+    let mut sockets = Sockets::new(rt, alloc, &[])?;
+    sockets.listen(rt, address, false)?;
+    let mut streams = Received {
         sockets,
         ends: Vec::new(alloc),
     };
     let mut all = Vec::new(alloc);
-    for (says, _, _) in peers() {
-        all.push(peer(rt, port, says.as_slice())?)?;
+    for (reads, _, _) in peers() {
+        all.push(peer(rt, port, reads.as_slice())?)?;
     }
     let mut hub = bare(alloc, RandomState::new(rt)?)?;
     let end = serve(alloc, &mut hub, &mut streams, places);
-    let mut told = Vec::new(alloc);
+    let mut sent = Vec::new(alloc);
     for stream in &mut all {
-        told.push(heard(alloc, stream)?)?;
+        sent.push(received_bytes(alloc, stream)?)?;
     }
-    Ok((end, streams.ends, told))
+    Ok((end, streams.ends, sent))
 }
 
 /// One after the other, and all at once: the connections are accepted in the order in which the peers connected.
 #[test]
 fn peers_on_the_loopback_are_served(rt: HostRuntime) -> Result<(), Fail> {
     for places in [1, 16] {
-        let (end, ends, told) = served(&rt, rt.alloc(), places)?;
+        let (end, ends, sent) = served(&rt, rt.alloc(), places)?;
         assert!(rt; end == AllEnd::Served, "{places}: {end:?}");
-        assert_eq!(rt; told.len(), peers().len());
-        for (place, (_, hears, _)) in peers().iter().enumerate() {
+        assert_eq!(rt; sent.len(), peers().len());
+        for (place, (_, receives, _)) in peers().iter().enumerate() {
             assert!(rt;
-                told[place].as_slice() == hears.as_slice(),
+                sent[place].as_slice() == receives.as_slice(),
                 "{places}: peer {place}"
             );
         }

@@ -1,18 +1,17 @@
-//! Streams in memory: peers that knock in turn, a trail that is kept, and a book that comes.
+//! Streams in memory: peers that connect in turn, a trail that is kept, and a book that arrives.
 
-use crate::files::Files;
 use crate::peers::{Script, Seat, Stream, USUAL, script_of};
 use crate::plain::{read_book, total};
 use compound_run::Server;
-use journal::{Disk, LoadFault, Slot};
 use nfs_hub::{Clock, ConnId};
-use nfs_streams::{Knock, Moved, StreamEnd, Streams, Wait};
+use nfs_streams::{Arrival, Moved, StreamEnd, Streams, Wait};
 use nfs_types::Moment;
 use std::alloc::{Allocator, Global};
 use std::cell::Cell;
+use store_journal::{Disk, LoadFault, Slot};
 use who_book::Book;
 
-/// Time that goes on by a second with each wait, and a clock of the moments that can be set.
+/// Time that advances by a second with each wait, and a clock of the moments that can be set.
 #[derive(Drop)]
 pub struct Time {
     seconds: Cell<i64>,
@@ -28,12 +27,12 @@ impl Time {
         }
     }
 
-    /// The clock of the moments is set ahead by so much.
+    /// Sets the clock of the moments ahead by `ahead`.
     pub fn set(&self, ahead: i64) {
         self.ahead.set(ahead);
     }
 
-    /// A second goes by.
+    /// Advances by a second.
     pub fn go_on(&self) {
         self.seconds.set(self.seconds.get().saturating_add(1));
     }
@@ -52,7 +51,7 @@ impl Clock for Time {
     }
 }
 
-/// At most 17 streams. It owns nothing, so that a test may go on from it in many ways.
+/// At most 17 streams. It owns nothing, so that a test may continue from it in many ways.
 #[derive(Clone, Copy)]
 pub struct Memory<'a> {
     alloc: Global,
@@ -63,7 +62,7 @@ pub struct Memory<'a> {
     /// How many streams were admitted.
     pub admitted: usize,
     pub waits: u64,
-    /// How many waits didn't only look.
+    /// The number of waits that may block.
     pub rests: u64,
     /// The wait of this number fails; 0: none.
     pub fails_wait: u64,
@@ -73,19 +72,15 @@ pub struct Memory<'a> {
     pub keeps: u64,
     /// Keeping fails at this number; 0: never.
     pub fails_keep: u64,
-    /// The files of the store, if there is one.
-    pub files: Files,
-    /// Bytes were written while something in the files wasn't synced.
-    pub late: bool,
-    /// How many lines the trail had where it was kept last.
+    /// How many lines the trail had when it was kept last.
     pub lines: u64,
-    /// The most lines that were new where the trail was kept.
+    /// The most new lines when the trail was kept.
     pub most_new: u64,
-    /// A stream that comes can't be taken before so many waits.
+    /// A stream that connects can't be accepted before this number of waits.
     pub stuck: u64,
     /// The most streams that were at places at once.
     pub most: usize,
-    /// The text of the book, while it hasn't come.
+    /// The text of the book, until it arrives.
     pub book: Option<&'static str>,
     /// How many waits come before the book.
     pub brings: u64,
@@ -111,8 +106,6 @@ impl<'a> Memory<'a> {
             seconds: 0,
             keeps: 0,
             fails_keep: 0,
-            files: Files::new(),
-            late: false,
             lines: 0,
             most_new: 0,
             stuck: 0,
@@ -125,7 +118,7 @@ impl<'a> Memory<'a> {
         }
     }
 
-    /// Adds the stream of a peer, the next one from 1 on, whose calls are to be answered so.
+    /// Adds the stream of a peer, the next one from 1 on. Its calls are to be answered by these digits.
     pub fn add(&mut self, script: Script, digits: &str) {
         let number = u32::try_from(self.count).unwrap_or(0).saturating_add(1);
         if let Some(place) = self.streams.get_mut(self.count) {
@@ -134,7 +127,7 @@ impl<'a> Memory<'a> {
         }
     }
 
-    /// Adds a stream for each peer of these words, with a right to the file.
+    /// Adds a stream for each peer of these words, whose calls may read the file.
     pub fn add_all(&mut self, words: &str) {
         for word in words.split_whitespace() {
             self.add(script_of(word), "11");
@@ -146,10 +139,10 @@ impl<'a> Memory<'a> {
         self.streams.get(..self.count).unwrap_or(&[])
     }
 
-    /// The wait behind which the next stream comes that isn't admitted.
-    fn next_comes(&self) -> Option<u64> {
+    /// The wait after which the next stream connects that isn't admitted yet.
+    fn next_arrives(&self) -> Option<u64> {
         match self.all().get(self.admitted) {
-            Some(stream) => Some(stream.script.comes),
+            Some(stream) => Some(stream.script.arrives),
             None => None,
         }
     }
@@ -172,21 +165,26 @@ impl<'a> Memory<'a> {
     }
 }
 
+/// There is no store.
 impl Disk for Memory<'_> {
-    fn load<A: Allocator>(&mut self, alloc: A, slot: Slot) -> Result<Vec<u8, A>, LoadFault> {
-        self.files.load(alloc, slot)
+    fn load_current<A: Allocator>(&mut self, _alloc: A) -> Result<Option<Vec<u8, A>>, LoadFault> {
+        Err(LoadFault::Failed)
     }
 
-    fn append(&mut self, slot: Slot, bytes: &[u8]) -> bool {
-        self.files.append(slot, bytes)
+    fn load<A: Allocator>(&mut self, _alloc: A, _slot: Slot) -> Result<Vec<u8, A>, LoadFault> {
+        Err(LoadFault::Failed)
+    }
+
+    fn write(&mut self, _slot: Slot, _at: u64, _prefix: &[u8], _body: &[u8], _back: &[u8]) -> bool {
+        false
     }
 
     fn sync(&mut self, _slot: Slot) -> bool {
-        self.files.sync()
+        false
     }
 
-    fn empty(&mut self, slot: Slot) -> bool {
-        self.files.empty(slot)
+    fn turn(&mut self, _bytes: &[u8]) -> bool {
+        false
     }
 }
 
@@ -213,16 +211,16 @@ impl<A: Allocator + Copy> Streams<A> for Memory<'_> {
         read_book(self.alloc, self.book.take()?)
     }
 
-    fn knocks(&mut self) -> Knock {
-        match self.next_comes() {
-            Some(comes) if comes < self.waits => {
+    fn arrival(&mut self) -> Arrival {
+        match self.next_arrives() {
+            Some(arrives) if arrives < self.waits => {
                 if self.waits < self.stuck {
-                    Knock::Waiting
+                    Arrival::Waiting
                 } else {
-                    Knock::Here
+                    Arrival::Here
                 }
             }
-            _ => Knock::Nobody,
+            _ => Arrival::Nobody,
         }
     }
 
@@ -237,7 +235,7 @@ impl<A: Allocator + Copy> Streams<A> for Memory<'_> {
     fn close(&mut self, place: usize, end: StreamEnd) {
         let waits = self.waits;
         if let Some(stream) = self.at(place) {
-            stream.seat = Seat::Gone(waits);
+            stream.seat = Seat::Done(waits);
             stream.end = Some(end);
         }
     }
@@ -253,7 +251,6 @@ impl<A: Allocator + Copy> Streams<A> for Memory<'_> {
 
     fn write(&mut self, place: usize, bytes: &[u8]) -> Moved {
         let waits = self.waits;
-        self.late = self.late || self.files.loose;
         match self.at(place) {
             Some(stream) => stream.take(waits, bytes),
             None => Moved::Failed,

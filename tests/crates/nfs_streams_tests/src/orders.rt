@@ -1,5 +1,5 @@
-//! Streams that are ready in every order, with short reads and writes, and one among them that fails or breaks: each gets the replies to
-//! its own calls.
+//! Streams that are ready in every order, with short reads and writes, one of which fails or breaks: each gets the
+//! replies to its own calls.
 
 use crate::bytes::REPLY_LEN;
 use crate::memory::{Memory, Time};
@@ -11,21 +11,21 @@ use std::hash::RandomState;
 use std::process::Abort;
 use std::test::Fail;
 
-/// Three peers, and how many calls of the second have replies; with `None` it gets a front of them.
+/// Three peers, and how many calls of the second have replies; with `None` it gets a prefix of them.
 #[derive(Clone, Copy)]
 struct Three {
     scripts: [Script; 3],
     second: Option<u32>,
 }
 
-/// Whether a peer got replies, to so many calls where that is known, and was let go.
+/// Whether a peer got replies, to this number of calls if it is known, and its stream was closed.
 fn is_served(stream: &Stream, calls: Option<u32>) -> bool {
-    let told = calls.map(|calls| (calls as usize).saturating_mul(REPLY_LEN));
-    let is_gone = matches!(&stream.seat, Seat::Gone(_));
-    stream.right && is_gone && stream.told == told.unwrap_or(stream.told)
+    let sent = calls.map(|calls| (calls as usize).saturating_mul(REPLY_LEN));
+    let is_expired = matches!(&stream.seat, Seat::Done(_));
+    stream.right && is_expired && stream.sent == sent.unwrap_or(stream.sent)
 }
 
-/// The end of serving three, and whether each of them is served: to all calls of the first and the last.
+/// The end of serving three peers, and whether each of them is served: the first and the last to all calls.
 fn serve_three(
     alloc: Global,
     hasher: RandomState,
@@ -59,8 +59,8 @@ fn see_three(
     hasher: RandomState,
     three: &Three,
 ) -> Result<(), Fail> {
-    let told = serve_three(alloc, hasher, three)?;
-    assert!(rt; told == (AllEnd::Served, [true; 3]), "{told:?}");
+    let sent = serve_three(alloc, hasher, three)?;
+    assert!(rt; sent == (AllEnd::Served, [true; 3]), "{sent:?}");
     Ok(())
 }
 
@@ -144,7 +144,7 @@ fn one_breaks_and_leaves_the_others(rt: HostRuntime) -> Result<(), Fail> {
     Ok(())
 }
 
-/// The second peer's k-th read or write fails, in short pieces.
+/// The k-th read or write of the second peer fails, in short pieces.
 fn failing(k: u32, at_read: bool) -> Three {
     let slow = Script {
         piece: 40,
@@ -169,7 +169,8 @@ fn failing(k: u32, at_read: bool) -> Three {
     )
 }
 
-/// The k-th read of a peer fails, or its k-th write: it gets a front of its replies, and the other peers all of theirs.
+/// The k-th read of a peer fails, or its k-th write. It gets a prefix of its replies, and the other peers all of
+/// theirs.
 #[test]
 fn one_fails_and_leaves_the_others(rt: HostRuntime) -> Result<(), Fail> {
     let hasher = RandomState::new(&rt)?;

@@ -6,21 +6,21 @@ use nfs_streams::{Moved, StreamEnd};
 /// The acts of the peer of a stream.
 #[derive(Clone, Copy)]
 pub struct Script {
-    /// How many waits come before its knock.
-    pub comes: u64,
+    /// How many waits come before it connects.
+    pub arrives: u64,
     /// How many calls it sends.
     pub calls: u32,
     /// It sends them again and again.
-    pub repeats: bool,
+    pub retries: bool,
     /// Its calls are refused: each would remove the file.
     pub removes: bool,
     /// It makes a directory by one call.
     pub makes: bool,
     /// The stream ends inside the last call.
     pub stops_short: bool,
-    /// Behind its calls the peer sends bytes that break the connection.
+    /// After its calls the peer sends bytes that break the connection.
     pub breaks: bool,
-    /// Behind all its bytes the stream ends; else the peer stays silent.
+    /// After all its bytes the stream ends; else the peer stays silent.
     pub leaves: bool,
     /// The most bytes that a read gives.
     pub piece: usize,
@@ -34,11 +34,11 @@ pub struct Script {
     pub fails_write: u32,
 }
 
-/// A peer that comes at once, sends two calls and leaves.
+/// A peer that connects at once, sends two calls and leaves.
 pub const USUAL: Script = Script {
-    comes: 0,
+    arrives: 0,
     calls: 2,
-    repeats: false,
+    retries: false,
     removes: false,
     makes: false,
     stops_short: false,
@@ -51,17 +51,17 @@ pub const USUAL: Script = Script {
     fails_write: u32::MAX,
 };
 
-/// One that sends so many calls, leaves or is silent then, and comes behind so many waits.
-fn peer(comes: u64, calls: u32, leaves: bool) -> Script {
+/// A peer that sends `calls` calls, leaves or is silent then, and connects after `arrives` waits.
+fn peer(arrives: u64, calls: u32, leaves: bool) -> Script {
     Script {
-        comes,
+        arrives,
         calls,
         leaves,
         ..USUAL
     }
 }
 
-/// The script of a word: the kind of the peer by a letter, and a number, how many waits come before its knock.
+/// The script of a word: the type of the peer by a letter, and a number, how many waits come before it connects.
 ///
 /// | Letter | The peer |
 /// |---|---|
@@ -78,50 +78,50 @@ fn peer(comes: u64, calls: u32, leaves: bool) -> Script {
 /// | r | sends two calls that are refused, in one piece, and leaves |
 /// | m | sends a call that makes a directory, and leaves |
 pub fn script_of(word: &str) -> Script {
-    let comes = word.get(1..).unwrap_or("").parse::<u64>().unwrap_or(0);
+    let arrives = word.get(1..).unwrap_or("").parse::<u64>().unwrap_or(0);
     match word.as_bytes().first() {
         Some(b'b') => Script {
             breaks: true,
-            ..peer(comes, 2, false)
+            ..peer(arrives, 2, false)
         },
         Some(b'c') => Script {
             breaks: true,
             piece: 1,
             takes: 3,
-            ..peer(comes, 1, true)
+            ..peer(arrives, 1, true)
         },
         Some(b'g') => Script {
             breaks: true,
-            ..peer(comes, 0, false)
+            ..peer(arrives, 0, false)
         },
-        Some(b'n') => peer(comes, 0, true),
+        Some(b'n') => peer(arrives, 0, true),
         Some(b'w') => Script {
             piece: 1,
-            ..peer(comes, 2, true)
+            ..peer(arrives, 2, true)
         },
         Some(b'o') => Script {
             ready: 0x80,
-            ..peer(comes, 1, false)
+            ..peer(arrives, 1, false)
         },
         Some(b'd') => Script {
-            repeats: true,
+            retries: true,
             takes: 0,
-            ..peer(comes, 2, true)
+            ..peer(arrives, 2, true)
         },
-        Some(b's') => peer(comes, 0, false),
+        Some(b's') => peer(arrives, 0, false),
         Some(b'h') => Script {
             stops_short: true,
-            ..peer(comes, 2, true)
+            ..peer(arrives, 2, true)
         },
         Some(b'r') => Script {
             removes: true,
-            ..peer(comes, 2, true)
+            ..peer(arrives, 2, true)
         },
         Some(b'm') => Script {
             makes: true,
-            ..peer(comes, 1, true)
+            ..peer(arrives, 1, true)
         },
-        _ => peer(comes, 2, true),
+        _ => peer(arrives, 2, true),
     }
 }
 
@@ -140,16 +140,16 @@ fn input_of(number: u32, script: Script) -> Bytes {
     input
 }
 
-/// Where a stream is.
+/// The state of a stream.
 #[derive(Clone, Copy)]
 pub enum Seat {
     Outside,
     At(usize),
-    /// The stream was let go behind so many waits.
-    Gone(u64),
+    /// The stream was closed after this number of waits.
+    Done(u64),
 }
 
-/// A peer's stream. What the server writes is compared with the replies that are to come.
+/// A peer's stream. The bytes that the server writes are compared with the expected replies.
 #[derive(Clone, Copy)]
 pub struct Stream {
     pub script: Script,
@@ -161,8 +161,8 @@ pub struct Stream {
     pub read: usize,
     reads: u32,
     writes: u32,
-    /// How many bytes were written to the stream, and whether they are a front of the replies.
-    pub told: usize,
+    /// How many bytes were written to the stream, and whether they are a prefix of the replies.
+    pub sent: usize,
     pub right: bool,
     pub seat: Seat,
     /// How the connection ended.
@@ -170,7 +170,7 @@ pub struct Stream {
 }
 
 impl Stream {
-    /// The stream of a peer, whose calls are to be answered so, a digit a call.
+    /// The stream of a peer, whose calls are to be answered by these digits, a digit a call.
     pub fn new(number: u32, script: Script, digits: &str) -> Self {
         Stream {
             script,
@@ -180,7 +180,7 @@ impl Stream {
             read: 0,
             reads: 0,
             writes: 0,
-            told: 0,
+            sent: 0,
             right: true,
             seat: Seat::Outside,
             end: None,
@@ -189,13 +189,13 @@ impl Stream {
 
     /// Whether all replies were written, and nothing more.
     pub fn has_all(&self) -> bool {
-        self.right && self.told == self.replies.as_slice().len()
+        self.right && self.sent == self.replies.as_slice().len()
     }
 
     pub fn is_at(&self, place: usize) -> bool {
         match self.seat {
             Seat::At(at) => at == place,
-            Seat::Outside | Seat::Gone(_) => false,
+            Seat::Outside | Seat::Done(_) => false,
         }
     }
 
@@ -203,9 +203,9 @@ impl Stream {
         (self.script.ready >> (waits % 8)) & 1 == 1
     }
 
-    /// The next byte of the input, which begins again where it is repeated.
+    /// The next byte of the input, which begins again if the peer repeats its calls.
     fn next_byte(&mut self) -> Option<u8> {
-        if self.script.repeats && self.at >= self.input.as_slice().len() {
+        if self.script.retries && self.at >= self.input.as_slice().len() {
             self.at = 0;
         }
         let byte = self.input.as_slice().get(self.at).copied()?;
@@ -213,7 +213,7 @@ impl Stream {
         Some(byte)
     }
 
-    /// Reads on in the input, and says how many bytes.
+    /// Copies the next bytes of the input, and returns their number.
     fn give_more(&mut self, buf: &mut [u8]) -> usize {
         let mut n = 0usize;
         for index in 0..buf.len().min(self.script.piece) {
@@ -247,15 +247,15 @@ impl Stream {
         }
     }
 
-    /// Compares bytes with the replies that come next.
-    fn hear(&mut self, bytes: &[u8]) {
-        let end = self.told.saturating_add(bytes.len());
-        let is_next = self.replies.as_slice().get(self.told..end) == Some(bytes);
+    /// Compares bytes with the next bytes of the replies.
+    fn receive(&mut self, bytes: &[u8]) {
+        let end = self.sent.saturating_add(bytes.len());
+        let is_next = self.replies.as_slice().get(self.sent..end) == Some(bytes);
         self.right = self.right && is_next;
-        self.told = end;
+        self.sent = end;
     }
 
-    /// Takes a front of the bytes.
+    /// Takes a prefix of the bytes.
     pub fn take(&mut self, waits: u64, bytes: &[u8]) -> Moved {
         if !self.is_ready(waits) {
             return Moved::NotYet;
@@ -268,7 +268,7 @@ impl Stream {
         if n == 0 {
             return Moved::NotYet;
         }
-        self.hear(&bytes[..n]);
+        self.receive(&bytes[..n]);
         Moved::Bytes(n)
     }
 }

@@ -1,16 +1,17 @@
-//! Sessions over a store: what they have done is found after a crash, and what is sent again acts once.
+//! Sessions over a store: their effects are found after a crash, and a call that is sent again acts once.
 
 use crate::memory::Time;
 use crate::talks::{Disks, Reply, Talk, found_in, serve_talk};
-use client_changes::{Closeness, are_close};
+use client_parts::are_same;
+use compound_run::Lent;
 use nfs_streams::AllEnd;
 use std::alloc::{AllocError, Global};
 use std::hash::RandomState;
 use std::process::Abort;
 use std::test::Fail;
 
-/// The call of a COMPOUND by a user, up to the number of its operations: the first word is the call's number, the
-/// tenth the user's.
+/// The call of a COMPOUND by a user, up to the count of its operations: the first word is the call's number, the tenth
+/// the user's.
 const CALL: [u32; 17] = [0, 0, 2, 100_003, 4, 1, 1, 20, 0, 0, 0, 0, 0, 0, 0, 0, 1];
 
 /// EXCHANGE_ID of the owner `alice`.
@@ -53,7 +54,8 @@ const OPEN: [u32; 16] = [
 /// PUTROOTFH, LOOKUP of `file`, and CLOSE of the open 1.
 const CLOSE: [u32; 10] = [24, 15, 4, 0x6669_6c65, 4, 0, 1, 0, 0, 1];
 
-/// The places in the record of a reply: the status of a COMPOUND, and the flags of a CREATE_SESSION that is alone.
+/// The places in the record of a reply: the status of a COMPOUND, and the flags of a CREATE_SESSION that is the only
+/// operation.
 const STATUS: usize = 28;
 
 const FLAGS: usize = 68;
@@ -96,13 +98,13 @@ fn record(alloc: Global, xid: u32, uid: u32, compound: &[&[u32]]) -> Result<Vec<
     Ok(bytes)
 }
 
-/// The words of a COMPOUND on slot 0 of session 1: how many operations there are, and SEQUENCE.
+/// The words of a COMPOUND on slot 0 of session 1: the count of its operations, and SEQUENCE.
 fn sequence(number: u32, count: u32) -> [u32; 10] {
     [1 + count, 53, 0, 0, 0, 1, number, 0, 1, 0]
 }
 
-/// A client comes, makes a directory, looks, removes it, opens a new file and closes it. The fourth call changes
-/// nothing.
+/// A client registers, makes a directory, reads an attribute, removes the directory, opens a new file and closes it.
+/// The fourth call changes nothing.
 fn calls(alloc: Global) -> Result<Vec<Vec<u8>>, AllocError> {
     let mut calls = Vec::new(alloc);
     calls.push(record(alloc, 1, 0, &[&EXCHANGE_ID])?)?;
@@ -122,7 +124,7 @@ fn calls(alloc: Global) -> Result<Vec<Vec<u8>>, AllocError> {
     Ok(calls)
 }
 
-/// A talk of all calls that goes well.
+/// A complete talk of all calls.
 fn undisturbed<'a>(
     alloc: Global,
     hasher: RandomState,
@@ -137,7 +139,7 @@ fn undisturbed<'a>(
     Ok(talk)
 }
 
-/// CREATE_SESSION4_FLAG_PERSIST is granted, and each call that changes anything is kept before its reply is written: a
+/// CREATE_SESSION4_FLAG_PERSIST is granted. Each call that changes anything is logged before its reply is written: a
 /// record and a sync.
 #[test]
 fn what_is_kept_of_calls(rt: HostRuntime) -> Result<(), Fail> {
@@ -150,20 +152,22 @@ fn what_is_kept_of_calls(rt: HostRuntime) -> Result<(), Fail> {
         assert!(rt; !reply.files.loose);
         acts.push(reply.files.calls)?;
     }
-    assert_eq!(rt; acts.as_slice(), [2, 4, 6, 6, 8, 10, 12].as_slice());
+    // the call that changes nothing leaves a second for a mark
+    assert_eq!(rt; acts.as_slice(), [2, 4, 6, 6, 10, 12, 14].as_slice());
     assert_eq!(rt; word(&talk.replies[1], FLAGS), Some(1));
-    // the number that the slot keeps in the files, reply by reply
+    // the sequence ID of the slot in the files, reply by reply
     let mut numbers = Vec::new(alloc);
     for reply in &talk.replies {
-        let found = found_in(alloc, &reply.files)?;
-        numbers.push(found.known.clients.kept(1, 0).map_or(0, |kept| kept.number))?;
+        let found = found_in(alloc, hasher, &reply.files)?;
+        let clients = found.server().clients();
+        numbers.push(clients.kept(1, 0).map_or(0, |kept| kept.number))?;
     }
     assert_eq!(rt; numbers.as_slice(), [0, 0, 1, 1, 3, 4, 5].as_slice());
     Ok(())
 }
 
-/// Whether calls that are sent after a start over these files get the replies of the undisturbed talk, and the files
-/// have what they have after it.
+/// Whether calls that are sent after a start over these files get the replies of the complete talk, and the files have
+/// the same state as after it.
 fn goes_on(
     alloc: Global,
     hasher: RandomState,
@@ -179,20 +183,20 @@ fn goes_on(
     for (reply, wanted) in talk.replies.iter().zip(&whole.replies[first..]) {
         is_same = is_same && reply.bytes.as_slice() == wanted.bytes.as_slice();
     }
-    let (found, wanted) = (
-        found_in(alloc, &talk.files)?,
-        found_in(alloc, &whole.files)?,
-    );
-    let is_known = are_close(Closeness::Same, found.known.lend(), wanted.known.lend());
-    let is_tree = found.tree.next_tick() == wanted.tree.next_tick()
-        && found.tree.number_after(1) == wanted.tree.number_after(1)
-        && found.tree.any_after(0).map(|name| name.cookie())
-            == wanted.tree.any_after(0).map(|name| name.cookie());
+    let found = found_in(alloc, hasher, &talk.files)?;
+    let wanted = found_in(alloc, hasher, &whole.files)?;
+    let (found, wanted) = (found.server(), wanted.server());
+    let is_known = are_same(Lent::of(found), Lent::of(wanted));
+    let (tree, other) = (found.tree(), wanted.tree());
+    let is_tree = tree.next_tick() == other.next_tick()
+        && tree.number_after(1) == other.number_after(1)
+        && tree.any_after(0).map(|name| name.cookie())
+            == other.any_after(0).map(|name| name.cookie());
     Ok(is_same && is_known && is_tree)
 }
 
-/// The server is killed just before it writes a reply, and started again: the same call again gets the same reply, and
-/// has acted once. The first call isn't sent again, since EXCHANGE_ID has no kept reply.
+/// The server is killed just before it writes a reply, and started again. The retry of the call gets the same reply,
+/// and the call has acted once. The first call isn't retried, since EXCHANGE_ID has no cached reply.
 #[test]
 fn a_call_that_is_sent_again_acts_once(rt: HostRuntime) -> Result<(), Fail> {
     let (alloc, hasher) = (rt.alloc(), RandomState::new(&rt)?);
@@ -205,7 +209,7 @@ fn a_call_that_is_sent_again_acts_once(rt: HostRuntime) -> Result<(), Fail> {
             "{first}"
         );
     }
-    // and where the reply was written
+    // and if the reply was written
     for first in 1..calls.len() {
         let files = &whole.replies[first - 1].files;
         assert!(rt;
@@ -216,13 +220,13 @@ fn a_call_that_is_sent_again_acts_once(rt: HostRuntime) -> Result<(), Fail> {
     Ok(())
 }
 
-/// So it is after each act of the files that fails.
+/// The same holds after each act of the files that fails.
 #[test]
 fn a_call_whose_record_fails_acts_once(rt: HostRuntime) -> Result<(), Fail> {
     let (alloc, hasher) = (rt.alloc(), RandomState::new(&rt)?);
     let (time, calls) = (Time::new(), calls(alloc)?);
     let whole = undisturbed(alloc, hasher, &time, &calls)?;
-    for fails in 3..13u64 {
+    for fails in 3..15u64 {
         let mut talk = Talk::new(alloc, &time, Disks::new(alloc), &calls);
         assert_eq!(rt;
             serve_talk(alloc, hasher, &mut talk, false, fails)?,
@@ -238,9 +242,9 @@ fn a_call_whose_record_fails_acts_once(rt: HostRuntime) -> Result<(), Fail> {
     Ok(())
 }
 
-/// Another user gets no reply that was kept before a restart.
+/// Another user gets no reply that was cached before a restart.
 #[test]
-fn a_kept_reply_is_its_callers(rt: HostRuntime) -> Result<(), Fail> {
+fn a_cached_reply_is_its_callers(rt: HostRuntime) -> Result<(), Fail> {
     let (alloc, hasher) = (rt.alloc(), RandomState::new(&rt)?);
     let (time, calls) = (Time::new(), calls(alloc)?);
     let whole = undisturbed(alloc, hasher, &time, &calls)?;
@@ -254,12 +258,13 @@ fn a_kept_reply_is_its_callers(rt: HostRuntime) -> Result<(), Fail> {
     for reply in &talk.replies {
         assert_eq!(rt; word(reply, STATUS), Some(SEQ_FALSE_RETRY));
     }
-    assert_eq!(rt; talk.files.calls, 0);
+    // except for the mark of the start nothing is written
+    assert_eq!(rt; talk.files.calls, 2);
     Ok(())
 }
 
-/// 64 owners come, and after so many seconds of silence one more: its status, and how many records the files have. The
-/// clock of the moments is set ahead by so much as they fall silent.
+/// 64 owners register, and after `silent` seconds of silence one more. Returns its status, and the number of records in
+/// the files. The clock of the moments is set ahead by `ahead` when they fall silent.
 fn after_silence(
     alloc: Global,
     hasher: RandomState,
@@ -276,17 +281,18 @@ fn after_silence(
     talk.silent = silent;
     talk.ahead = ahead;
     serve_talk(alloc, hasher, &mut talk, leases, 0)?;
-    let (records, _) = found_in(alloc, &talk.files)?.known.clients.counts();
+    let found = found_in(alloc, hasher, &talk.files)?;
+    let (records, _) = found.server().clients().counts();
     Ok((
         talk.replies.last().and_then(|reply| word(reply, STATUS)),
         records,
     ))
 }
 
-/// 64 owners fill the server. With leases the first of them is let go more than 90 seconds after it came, and its
-/// record in the store.
+/// 64 owners fill the server. With leases the first of them expires more than 90 seconds after it registered, and so
+/// does its record in the store.
 #[test]
-fn owners_that_vanish_are_let_go(rt: HostRuntime) -> Result<(), Fail> {
+fn owners_that_vanish_expire(rt: HostRuntime) -> Result<(), Fail> {
     let (alloc, hasher) = (rt.alloc(), RandomState::new(&rt)?);
     assert_eq!(rt;
         after_silence(alloc, hasher, false, 300, 0)?,
@@ -296,12 +302,12 @@ fn owners_that_vanish_are_let_go(rt: HostRuntime) -> Result<(), Fail> {
         after_silence(alloc, hasher, true, 10, 0)?,
         (Some(NOSPC), 64)
     );
-    // as many go as there are more than 32; then the 65th comes, and one more goes
+    // all above 32 expire; then the 65th registers, and one more expires
     assert_eq!(rt; after_silence(alloc, hasher, true, 300, 0)?, (Some(OK), 32));
     Ok(())
 }
 
-/// The clock of the moments is set by a day, or by a lease, and leases are those of the clock that only goes forward.
+/// The clock of the moments is set by a day, or by a lease. Leases use the clock that only advances.
 #[test]
 fn leases_are_not_of_the_clock_that_is_set(rt: HostRuntime) -> Result<(), Fail> {
     let (alloc, hasher) = (rt.alloc(), RandomState::new(&rt)?);
@@ -314,7 +320,7 @@ fn leases_are_not_of_the_clock_that_is_set(rt: HostRuntime) -> Result<(), Fail> 
     Ok(())
 }
 
-/// Clients that are restored count as heard at the start, and have a lease from then on.
+/// The lease of a restored client begins at the start.
 #[test]
 fn a_restored_client_has_a_lease(rt: HostRuntime) -> Result<(), Fail> {
     let (alloc, hasher) = (rt.alloc(), RandomState::new(&rt)?);

@@ -17,13 +17,13 @@ struct Stop {
     turns: u64,
     /// The wait that fails; 0: none.
     fails_wait: u64,
-    /// The keeping that fails; 0: none.
+    /// The number of the `keep` that fails; 0: none.
     fails_keep: u64,
     end: AllEnd,
     waits: u64,
     admitted: usize,
     /// How many replies were written to both peers.
-    told: usize,
+    sent: usize,
 }
 
 static STOPS: [Stop; 9] = [
@@ -36,7 +36,7 @@ static STOPS: [Stop; 9] = [
         end: AllEnd::Served,
         waits: 3,
         admitted: 2,
-        told: 4,
+        sent: 4,
     },
     Stop {
         name: "one connection and no more",
@@ -47,7 +47,7 @@ static STOPS: [Stop; 9] = [
         end: AllEnd::Served,
         waits: 3,
         admitted: 1,
-        told: 2,
+        sent: 2,
     },
     Stop {
         name: "no connection",
@@ -58,7 +58,7 @@ static STOPS: [Stop; 9] = [
         end: AllEnd::Served,
         waits: 0,
         admitted: 0,
-        told: 0,
+        sent: 0,
     },
     Stop {
         name: "two turns",
@@ -69,7 +69,7 @@ static STOPS: [Stop; 9] = [
         end: AllEnd::Turns,
         waits: 2,
         admitted: 2,
-        told: 4,
+        sent: 4,
     },
     Stop {
         name: "no turn",
@@ -80,7 +80,7 @@ static STOPS: [Stop; 9] = [
         end: AllEnd::Turns,
         waits: 0,
         admitted: 0,
-        told: 0,
+        sent: 0,
     },
     Stop {
         name: "the second wait fails",
@@ -91,7 +91,7 @@ static STOPS: [Stop; 9] = [
         end: AllEnd::Wait,
         waits: 2,
         admitted: 2,
-        told: 0,
+        sent: 0,
     },
     Stop {
         name: "the trail can't be kept when there are replies to write",
@@ -102,7 +102,7 @@ static STOPS: [Stop; 9] = [
         end: AllEnd::Keep,
         waits: 2,
         admitted: 2,
-        told: 0,
+        sent: 0,
     },
     Stop {
         name: "the trail can't be kept after the second call of the first peer",
@@ -113,7 +113,7 @@ static STOPS: [Stop; 9] = [
         end: AllEnd::Keep,
         waits: 2,
         admitted: 2,
-        told: 0,
+        sent: 0,
     },
     Stop {
         name: "the trail can't be kept at first",
@@ -124,7 +124,7 @@ static STOPS: [Stop; 9] = [
         end: AllEnd::Keep,
         waits: 1,
         admitted: 2,
-        told: 0,
+        sent: 0,
     },
 ];
 
@@ -134,23 +134,23 @@ fn stops() -> &'static [Stop] {
 
 /// The end of serving, how many waits there were, how many were admitted, and how many bytes were written to all.
 #[derive(Clone, Copy)]
-struct Told {
+struct Sent {
     end: AllEnd,
     waits: u64,
     admitted: usize,
-    told: usize,
+    sent: usize,
 }
 
 /// How many bytes were written to all streams.
-fn told_of(streams: &Memory<'_>) -> usize {
-    let mut told = 0usize;
+fn sent_of(streams: &Memory<'_>) -> usize {
+    let mut sent = 0usize;
     for stream in streams.all() {
-        told = told.saturating_add(stream.told);
+        sent = sent.saturating_add(stream.sent);
     }
-    told
+    sent
 }
 
-fn serve_stop(alloc: Global, hasher: RandomState, stop: &Stop) -> Result<Told, AllocError> {
+fn serve_stop(alloc: Global, hasher: RandomState, stop: &Stop) -> Result<Sent, AllocError> {
     let time = Time::new();
     let mut streams = Memory::new(alloc, &time);
     streams.add_all("u u");
@@ -162,28 +162,28 @@ fn serve_stop(alloc: Global, hasher: RandomState, stop: &Stop) -> Result<Told, A
         ..AMPLE
     };
     let end = serve_new(alloc, hasher, &mut streams, &time, limits)?;
-    Ok(Told {
+    Ok(Sent {
         end,
         waits: streams.waits,
         admitted: streams.admitted,
-        told: told_of(&streams),
+        sent: sent_of(&streams),
     })
 }
 
-fn see(rt: &impl Abort, stop: &Stop, told: &Told) {
+fn see(rt: &impl Abort, stop: &Stop, sent: &Sent) {
     let name = stop.name;
-    assert_eq!(rt; told.end, stop.end, "{name}");
-    assert_eq!(rt; told.waits, stop.waits, "{name}");
-    assert_eq!(rt; told.admitted, stop.admitted, "{name}");
-    assert_eq!(rt; told.told, stop.told.saturating_mul(REPLY_LEN), "{name}");
+    assert_eq!(rt; sent.end, stop.end, "{name}");
+    assert_eq!(rt; sent.waits, stop.waits, "{name}");
+    assert_eq!(rt; sent.admitted, stop.admitted, "{name}");
+    assert_eq!(rt; sent.sent, stop.sent.saturating_mul(REPLY_LEN), "{name}");
 }
 
 #[test]
 fn serving_ends(rt: HostRuntime) -> Result<(), Fail> {
     let hasher = RandomState::new(&rt)?;
     for stop in stops() {
-        let told = serve_stop(rt.alloc(), hasher, stop)?;
-        see(&rt, stop, &told);
+        let sent = serve_stop(rt.alloc(), hasher, stop)?;
+        see(&rt, stop, &sent);
     }
     Ok(())
 }

@@ -1,80 +1,101 @@
-//! A store in the files of the streams: what a call has done is kept before its reply is written.
+//! A store of a server: the effect of a call is logged before its reply is written, and the store is marked.
 
-use crate::memory::{Memory, Time};
-use crate::plain::{open_files, serve_stored};
+use crate::memory::Time;
+use crate::talks::{Disks, Talk, serve_talk};
 use nfs_streams::AllEnd;
-use std::alloc::Global;
+use std::alloc::{AllocError, Global};
 use std::hash::RandomState;
+use std::process::Abort;
 use std::test::Fail;
-use tree_store::StoreFault;
 
-/// What came of serving peers with a store.
-#[derive(Clone, Copy)]
-struct Told {
-    end: AllEnd,
-    /// How often the files were written, emptied or synced.
-    calls: u64,
-    /// Bytes were written before all was synced.
-    late: bool,
-    /// How many bytes were written to the first peer.
-    told: usize,
-    /// The number of an object that was made, as it is found in the files afterwards.
-    made: Option<u64>,
+/// EXCHANGE_ID of the owner `owner`, by root.
+const EXCHANGE_ID: [u32; 27] = [
+    0x8000_0068,
+    1,
+    0,
+    2,
+    100_003,
+    4,
+    1,
+    1,
+    20,
+    0,
+    0,
+    0,
+    0,
+    0,
+    0,
+    0,
+    0,
+    1,
+    1,
+    42,
+    0,
+    7,
+    4,
+    0x6f77_6e65,
+    0,
+    0,
+    0,
+];
+
+/// A peer that connects, and leaves after one call.
+fn call(alloc: Global) -> Result<Vec<Vec<u8>>, AllocError> {
+    let mut bytes = Vec::new(alloc);
+    for word in EXCHANGE_ID {
+        bytes.extend_from_slice(&word.to_be_bytes())?;
+    }
+    let mut calls = Vec::new(alloc);
+    calls.push(bytes)?;
+    Ok(calls)
 }
 
-/// Serves the peers of these words; the call of the files of this number fails.
-fn serve(alloc: Global, hasher: RandomState, words: &str, fails: u64) -> Result<Told, StoreFault> {
-    let time = Time::new();
-    let mut streams = Memory::new(alloc, &time);
-    streams.add_all(words);
-    let end = serve_stored(alloc, hasher, &mut streams, &time, fails)?;
-    let calls = streams.files.calls;
-    let (_base, found) = open_files(alloc, &mut streams)?;
-    let made = match &found {
-        Some(found) => found.tree.number_after(3),
-        None => None,
-    };
-    Ok(Told {
-        end,
-        calls,
-        late: streams.late,
-        told: streams.all().first().map_or(0, |stream| stream.told),
-        made,
-    })
-}
-
-/// What was made is in the files before the reply is written, and a start finds it.
+/// A record and its sync come before the reply. If a second passes without a record, a mark and its sync follow.
 #[test]
-fn what_was_made_is_kept(rt: HostRuntime) -> Result<(), Fail> {
-    let hasher = RandomState::new(&rt)?;
-    let told = serve(rt.alloc(), hasher, "m", 0)?;
-    assert_eq!(rt; told.end, AllEnd::Turns);
-    assert_eq!(rt; told.calls, 2);
-    assert!(rt; !told.late);
-    assert!(rt; told.told > 0);
-    assert_eq!(rt; told.made, Some(4));
+fn a_store_is_marked_after_a_second(rt: HostRuntime) -> Result<(), Fail> {
+    let (alloc, hasher) = (rt.alloc(), RandomState::new(&rt)?);
+    let (time, calls) = (Time::new(), call(alloc)?);
+    let mut talk = Talk::new(alloc, &time, Disks::new(alloc), &calls);
+    assert_eq!(rt;
+        serve_talk(alloc, hasher, &mut talk, false, 0)?,
+        AllEnd::Served
+    );
+    assert_eq!(rt; talk.replies.len(), 1);
+    assert_eq!(rt; talk.replies[0].files.calls, 2);
+    assert_eq!(rt; talk.files.calls, 4);
     Ok(())
 }
 
-/// Where nothing changes nothing is written.
+/// In the second of the record itself no mark comes, and waits take at most a second then.
 #[test]
-fn nothing_is_kept_of_calls_that_change_nothing(rt: HostRuntime) -> Result<(), Fail> {
-    let hasher = RandomState::new(&rt)?;
-    let told = serve(rt.alloc(), hasher, "u r", 0)?;
-    assert_eq!(rt; told.calls, 0);
-    assert!(rt; told.told > 0);
-    assert_eq!(rt; told.made, None);
+fn no_mark_comes_in_the_second_of_a_record(rt: HostRuntime) -> Result<(), Fail> {
+    let (alloc, hasher) = (rt.alloc(), RandomState::new(&rt)?);
+    let (time, calls) = (Time::new(), call(alloc)?);
+    let mut talk = Talk::new(alloc, &time, Disks::new(alloc), &calls);
+    talk.goes_on = false;
+    talk.silent = 3;
+    assert_eq!(rt;
+        serve_talk(alloc, hasher, &mut talk, false, 0)?,
+        AllEnd::Served
+    );
+    assert_eq!(rt; talk.files.calls, 2);
+    assert!(rt; talk.seconds > 0);
     Ok(())
 }
 
-/// Where the record can't be appended or synced, serving ends, and no reply was written.
+/// If the record can't be written or synced serving ends, and no reply was written. The same holds if a mark can't.
 #[test]
 fn a_disk_that_fails_ends_serving(rt: HostRuntime) -> Result<(), Fail> {
-    let hasher = RandomState::new(&rt)?;
-    let torn = serve(rt.alloc(), hasher, "m u", 1)?;
-    assert_eq!(rt; (torn.end, torn.calls, torn.told), (AllEnd::Store, 1, 0));
-    assert_eq!(rt; torn.made, None);
-    let loose = serve(rt.alloc(), hasher, "m u", 2)?;
-    assert_eq!(rt; (loose.end, loose.calls, loose.told), (AllEnd::Store, 2, 0));
+    let (alloc, hasher) = (rt.alloc(), RandomState::new(&rt)?);
+    let (time, calls) = (Time::new(), call(alloc)?);
+    for (fails, replies) in [(1u64, 0), (2, 0), (3, 1), (4, 1)] {
+        let mut talk = Talk::new(alloc, &time, Disks::new(alloc), &calls);
+        assert_eq!(rt;
+            serve_talk(alloc, hasher, &mut talk, false, fails)?,
+            AllEnd::Store
+        );
+        assert_eq!(rt; talk.files.calls, fails);
+        assert_eq!(rt; talk.replies.len(), replies);
+    }
     Ok(())
 }

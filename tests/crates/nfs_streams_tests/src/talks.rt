@@ -1,31 +1,49 @@
-//! One peer that sends a call in each turn, two files, and what was in them when each reply was written.
+//! One peer that sends a call in each turn, a disk, and the content of the disk when each reply was written.
 
 use crate::memory::Time;
 use crate::plain::AMPLE;
-use compound_run::{Lent, Server};
-use journal::{Disk, LoadFault, Slot};
-use nfs_hub::{Clock, ConnId, Hub};
-use nfs_streams::{AllEnd, Knock, Limits, Moved, StreamEnd, Streams, Wait, serve_all};
+use call_store::{MACHINE, Opened, Store, open};
+use compound_run::Server;
+use nfs_hub::{Clock, ConnId, Hub, Restart};
+use nfs_streams::{AllEnd, Arrival, Limits, Moved, StreamEnd, Streams, Wait, serve_all};
 use std::alloc::{AllocError, Allocator, Global};
 use std::hash::RandomState;
 use std::test::Fail;
-use tree_store::{Found, NOTES_ROOM, Store, open};
+use store_journal::{Current, Disk, Identity, LoadFault, Slot};
 use who_book::Book;
 
-/// The key of the digests.
-const KEY: u64 = 7;
+/// Puts bytes over those of a file, which is extended if it is too short.
+fn put(file: &mut Vec<u8>, at: usize, bytes: &[u8]) -> Result<(), AllocError> {
+    while file.len() < at.saturating_add(bytes.len()) {
+        file.push(0)?;
+    }
+    for (place, byte) in bytes.iter().enumerate() {
+        if let Some(old) = file.get_mut(at.saturating_add(place)) {
+            *old = *byte;
+        }
+    }
+    Ok(())
+}
 
-/// Two files of any size, and what was asked of them.
+fn lent<A: Allocator>(alloc: A, bytes: &[u8]) -> Result<Vec<u8, A>, LoadFault> {
+    match bytes.to_vec(alloc) {
+        Ok(bytes) => Ok(bytes),
+        Err(AllocError) => Err(LoadFault::Memory),
+    }
+}
+
+/// CURRENT and two files in memory, and the calls of the disk.
 #[derive(Drop)]
 pub struct Disks {
     alloc: Global,
+    current: Option<Vec<u8>>,
     a: Vec<u8>,
     b: Vec<u8>,
-    /// How often bytes were appended, a file was emptied or it was synced.
+    /// How often a file was written or synced, or CURRENT was replaced.
     pub calls: u64,
     /// The call of this number fails, and does nothing; 0: none.
     pub fails: u64,
-    /// Something was done since the last sync.
+    /// Some bytes are unsynced.
     pub loose: bool,
 }
 
@@ -33,6 +51,7 @@ impl Disks {
     pub fn new(alloc: Global) -> Self {
         Disks {
             alloc,
+            current: None,
             a: Vec::new(alloc),
             b: Vec::new(alloc),
             calls: 0,
@@ -41,10 +60,15 @@ impl Disks {
         }
     }
 
-    /// Other files of the same bytes.
+    /// Another disk of the same bytes.
     pub fn copied(&self) -> Result<Self, AllocError> {
+        let current = match &self.current {
+            Some(bytes) => Some(bytes.to_vec(self.alloc)?),
+            None => None,
+        };
         Ok(Disks {
             alloc: self.alloc,
+            current,
             a: self.a.clone()?,
             b: self.b.clone()?,
             calls: self.calls,
@@ -68,16 +92,28 @@ impl Disks {
 }
 
 impl Disk for Disks {
-    fn load<A: Allocator>(&mut self, alloc: A, slot: Slot) -> Result<Vec<u8, A>, LoadFault> {
-        match self.at(slot).to_vec(alloc) {
-            Ok(bytes) => Ok(bytes),
-            Err(AllocError) => Err(LoadFault::Memory),
+    fn load_current<A: Allocator>(&mut self, alloc: A) -> Result<Option<Vec<u8, A>>, LoadFault> {
+        match &self.current {
+            Some(bytes) => Ok(Some(lent(alloc, bytes)?)),
+            None => Ok(None),
         }
     }
 
-    fn append(&mut self, slot: Slot, bytes: &[u8]) -> bool {
+    fn load<A: Allocator>(&mut self, alloc: A, slot: Slot) -> Result<Vec<u8, A>, LoadFault> {
+        lent(alloc, self.at(slot))
+    }
+
+    fn write(&mut self, slot: Slot, at: u64, prefix: &[u8], body: &[u8], back: &[u8]) -> bool {
         self.loose = true;
-        self.is_good() && self.at(slot).extend_from_slice(bytes).is_ok()
+        if !self.is_good() {
+            return false;
+        }
+        let file = self.at(slot);
+        let start = at as usize;
+        let middle = start.saturating_add(prefix.len());
+        put(file, start, prefix).is_ok()
+            && put(file, middle, body).is_ok()
+            && put(file, middle.saturating_add(body.len()), back).is_ok()
     }
 
     fn sync(&mut self, _slot: Slot) -> bool {
@@ -86,17 +122,21 @@ impl Disk for Disks {
         is_good
     }
 
-    fn empty(&mut self, slot: Slot) -> bool {
-        self.loose = true;
+    fn turn(&mut self, bytes: &[u8]) -> bool {
         if !self.is_good() {
             return false;
         }
-        self.at(slot).clear();
-        true
+        match bytes.to_vec(self.alloc) {
+            Ok(bytes) => {
+                self.current = Some(bytes);
+                true
+            }
+            Err(AllocError) => false,
+        }
     }
 }
 
-/// A reply, and what was in the files when it was written.
+/// A reply, and the content of the files when it was written.
 #[derive(Drop)]
 pub struct Reply {
     pub bytes: Vec<u8>,
@@ -114,7 +154,11 @@ pub struct Talk<'a> {
     pub silent: u64,
     /// How far the clock of the moments is set ahead before its last call.
     pub ahead: i64,
-    has_come: bool,
+    has_arrived: bool,
+    /// A second passes with each wait.
+    pub goes_on: bool,
+    /// How many waits took at most a second.
+    pub seconds: u64,
     pub files: Disks,
     pub replies: Vec<Reply>,
 }
@@ -128,13 +172,15 @@ impl<'a> Talk<'a> {
             at: 0,
             silent: 0,
             ahead: 0,
-            has_come: false,
+            has_arrived: false,
+            goes_on: true,
+            seconds: 0,
             files,
             replies: Vec::new(alloc),
         }
     }
 
-    fn hear(&mut self, bytes: &[u8]) -> Option<()> {
+    fn receive(&mut self, bytes: &[u8]) -> Option<()> {
         let reply = Reply {
             bytes: bytes.to_vec(self.alloc).ok()?,
             files: self.files.copied().ok()?,
@@ -144,28 +190,37 @@ impl<'a> Talk<'a> {
 }
 
 impl Disk for Talk<'_> {
+    fn load_current<A: Allocator>(&mut self, alloc: A) -> Result<Option<Vec<u8, A>>, LoadFault> {
+        self.files.load_current(alloc)
+    }
+
     fn load<A: Allocator>(&mut self, alloc: A, slot: Slot) -> Result<Vec<u8, A>, LoadFault> {
         self.files.load(alloc, slot)
     }
 
-    fn append(&mut self, slot: Slot, bytes: &[u8]) -> bool {
-        self.files.append(slot, bytes)
+    fn write(&mut self, slot: Slot, at: u64, prefix: &[u8], body: &[u8], back: &[u8]) -> bool {
+        self.files.write(slot, at, prefix, body, back)
     }
 
     fn sync(&mut self, slot: Slot) -> bool {
         self.files.sync(slot)
     }
 
-    fn empty(&mut self, slot: Slot) -> bool {
-        self.files.empty(slot)
+    fn turn(&mut self, bytes: &[u8]) -> bool {
+        self.files.turn(bytes)
     }
 }
 
 impl<A: Allocator + Copy> Streams<A> for Talk<'_> {
     ghost disk_acts = { λ old new act it. tt };
 
-    fn wait(&mut self, _how: Wait) -> bool {
-        self.time.go_on();
+    fn wait(&mut self, how: Wait) -> bool {
+        if how == Wait::Second {
+            self.seconds = self.seconds.saturating_add(1);
+        }
+        if self.goes_on {
+            self.time.go_on();
+        }
         true
     }
 
@@ -173,16 +228,16 @@ impl<A: Allocator + Copy> Streams<A> for Talk<'_> {
         None
     }
 
-    fn knocks(&mut self) -> Knock {
-        if self.has_come {
-            Knock::Nobody
+    fn arrival(&mut self) -> Arrival {
+        if self.has_arrived {
+            Arrival::Nobody
         } else {
-            Knock::Here
+            Arrival::Here
         }
     }
 
     fn admit(&mut self, _place: usize, _conn: ConnId) {
-        self.has_come = true;
+        self.has_arrived = true;
     }
 
     fn close(&mut self, _place: usize, _end: StreamEnd) {}
@@ -198,16 +253,16 @@ impl<A: Allocator + Copy> Streams<A> for Talk<'_> {
         let Some(call) = self.calls.get(self.at) else {
             return Moved::Over;
         };
-        let Some(front) = buf.get_mut(..call.len()) else {
+        let Some(prefix) = buf.get_mut(..call.len()) else {
             return Moved::Failed;
         };
-        front.copy_from_slice(call);
+        prefix.copy_from_slice(call);
         self.at += 1;
         Moved::Bytes(call.len())
     }
 
     fn write(&mut self, _place: usize, bytes: &[u8]) -> Moved {
-        match self.hear(bytes) {
+        match self.receive(bytes) {
             Some(()) => Moved::Bytes(bytes.len()),
             None => Moved::Failed,
         }
@@ -218,23 +273,31 @@ impl<A: Allocator + Copy> Streams<A> for Talk<'_> {
     }
 }
 
-/// The hub over what was found, whose clients were heard now, or over a root alone.
-fn hub_over(
-    alloc: Global,
-    hasher: RandomState,
-    found: Option<Found<Global>>,
-    time: &Time,
-) -> Result<Hub, Fail> {
-    let book = Book::default(alloc);
-    let Some(Found { tree, mut known }) = found else {
-        return Ok(Hub::lasting(alloc, book, hasher)?);
-    };
-    known.hear_all(time.second());
-    Ok(Hub::restored(alloc, tree, known, book, hasher)?)
+/// The identity of the stores.
+const IDENTITY: Identity = Identity { high: 1, low: 2 };
+
+/// A hub over the store, or over a root alone, and the store that logs its calls.
+fn hub_over(alloc: Global, hasher: RandomState, talk: &mut Talk<'_>) -> Result<(Hub, Store), Fail> {
+    let second = talk.time.second();
+    match open(talk, alloc, alloc, hasher, second) {
+        Ok(Opened::Kept(found)) => Ok((Hub::started(alloc, found.restart), found.store)),
+        Ok(Opened::New(current)) => {
+            let current = match current {
+                Some(current) => current,
+                None => Current::new(IDENTITY, MACHINE),
+            };
+            let hub = Hub::lasting(alloc, Book::default(alloc), hasher)?;
+            match Store::begin(talk, alloc, current, hub.server()) {
+                Ok(store) => Ok((hub, store)),
+                Err(_) => Err(Fail::new("the store doesn't begin")),
+            }
+        }
+        Err(_) => Err(Fail::new("the store isn't opened")),
+    }
 }
 
-/// A server starts over the files of a talk, and serves it; the act of the files of this number fails, from when
-/// serving begins.
+/// A server starts over the disk of a talk, and serves it. The act of the disk with the number `fails` fails, counted
+/// from when serving begins.
 pub fn serve_talk(
     alloc: Global,
     hasher: RandomState,
@@ -242,16 +305,9 @@ pub fn serve_talk(
     leases: bool,
     fails: u64,
 ) -> Result<AllEnd, Fail> {
-    let Ok((base, found)) = open(talk, alloc, KEY) else {
-        return Err(Fail::new("the store isn't opened"));
-    };
     let time = talk.time;
-    let mut hub = hub_over(alloc, hasher, found, time)?;
-    let server = hub.server();
-    let Ok(store) = Store::start(talk, alloc, base, server.tree(), Lent::of(server)) else {
-        return Err(Fail::new("the store doesn't begin"));
-    };
-    hub.begin_notes(NOTES_ROOM)?;
+    let (mut hub, store) = hub_over(alloc, hasher, talk)?;
+    hub.begin_log();
     talk.files.calls = 0;
     talk.files.fails = fails;
     let limits = Limits {
@@ -264,11 +320,11 @@ pub fn serve_talk(
     Ok(end)
 }
 
-/// What the files have.
-pub fn found_in(alloc: Global, files: &Disks) -> Result<Found<Global>, Fail> {
+/// The server that a start over this disk gives.
+pub fn found_in(alloc: Global, hasher: RandomState, files: &Disks) -> Result<Restart, Fail> {
     let mut files = files.copied()?;
-    match open(&mut files, alloc, KEY) {
-        Ok((_, Some(found))) => Ok(found),
+    match open(&mut files, alloc, alloc, hasher, 0) {
+        Ok(Opened::Kept(found)) => Ok(found.restart),
         _ => Err(Fail::new("nothing is found")),
     }
 }

@@ -11,7 +11,7 @@ fn is_command(alloc: Global, text: &str) -> Result<bool, AllocError> {
     Ok(Command::read(words.as_slice()).is_some())
 }
 
-/// The example at the end of a line of a command, behind at least two spaces.
+/// The example at the end of a line of a command, after at least two spaces.
 fn example(line: &str) -> Option<&str> {
     let (_, found) = line.strip_prefix("    ")?.rsplit_once("  ")?;
     Some(found.trim_start())

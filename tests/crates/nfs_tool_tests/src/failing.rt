@@ -1,4 +1,4 @@
-//! Streams that fail, or go on for ever: the fault is answered, and no command follows it.
+//! Streams that fail, or never end: the fault is answered, and no command follows it.
 
 use crate::plain::{mkdir, resume, rm};
 use crate::replies::REMOVED;
@@ -22,8 +22,8 @@ impl Read for Failing<'_> {
         }
         self.reads -= 1;
         let n = self.gives.len().min(buf.len()).min(3);
-        let (front, rest) = self.gives.split_at(n);
-        buf[..n].copy_from_slice(front);
+        let (prefix, rest) = self.gives.split_at(n);
+        buf[..n].copy_from_slice(prefix);
         self.gives = rest;
         Ok(n)
     }
@@ -43,18 +43,18 @@ impl Write for Failing<'_> {
     }
 }
 
-/// The answers to `rm /f` and to a command behind it.
-type Told = (Result<(), ToolFault>, Result<(), ToolFault>);
+/// The answers to `rm /f` and to a command after it.
+type Outcomes = (Result<(), ToolFault>, Result<(), ToolFault>);
 
-fn removed<S: Read + Write + Drop>(alloc: Global, stream: S) -> Told {
+fn removed<S: Read + Write + Drop>(alloc: Global, stream: S) -> Outcomes {
     let mut client = resume(alloc, stream);
     let first = rm(&mut client);
     let second = mkdir(&mut client, b"/g");
     (first, second)
 }
 
-/// The answers where so many writes and reads don't fail.
-fn removed_within(alloc: Global, writes: u32, reads: u32) -> Told {
+/// The answers if the first `writes` writes and `reads` reads succeed.
+fn removed_within(alloc: Global, writes: u32, reads: u32) -> Outcomes {
     let gives = REMOVED;
     removed(
         alloc,
@@ -66,24 +66,24 @@ fn removed_within(alloc: Global, writes: u32, reads: u32) -> Told {
     )
 }
 
-/// Both commands have failed, the first by this fault.
-fn failed(fault: ToolFault) -> Told {
+/// Both commands fail, the first by this fault.
+fn failed(fault: ToolFault) -> Outcomes {
     (Err(fault), Err(ToolFault::Failed))
 }
 
 /// The call is written by 32 writes.
 fn see_writes(rt: &impl Abort, alloc: Global) {
     for writes in 0..32 {
-        let told = removed_within(alloc, writes, 1000);
-        assert!(rt; told == failed(ToolFault::Write), "{writes} writes");
+        let outcome = removed_within(alloc, writes, 1000);
+        assert!(rt; outcome == failed(ToolFault::Write), "{writes} writes");
     }
 }
 
 /// The reply is read by 40 reads.
 fn see_reads(rt: &impl Abort, alloc: Global) {
     for reads in 0..40 {
-        let told = removed_within(alloc, 1000, reads);
-        assert!(rt; told == failed(ToolFault::Read), "{reads} reads");
+        let outcome = removed_within(alloc, 1000, reads);
+        assert!(rt; outcome == failed(ToolFault::Read), "{reads} reads");
     }
 }
 
@@ -99,11 +99,11 @@ fn each_read_fails(rt: HostRuntime) {
 
 #[test]
 fn no_read_and_no_write_too_many_fail(rt: HostRuntime) {
-    let told = removed_within(rt.alloc(), 32, 40);
-    assert!(rt; told == (Ok(()), Err(ToolFault::Write)));
+    let outcome = removed_within(rt.alloc(), 32, 40);
+    assert!(rt; outcome == (Ok(()), Err(ToolFault::Write)));
 }
 
-/// Takes any bytes, and gives one zero byte at each read, for ever.
+/// Takes any bytes, and gives one zero byte at each read, without end.
 #[derive(Drop)]
 struct Zeros;
 
@@ -132,7 +132,7 @@ fn zeros_for_ever_end(rt: HostRuntime) {
     assert!(rt; removed(rt.alloc(), Zeros) == failed(ToolFault::Read));
 }
 
-/// Gives so many zero bytes, one at each read, which are empty fragments, and then the reply as the last read.
+/// Gives a number of zero bytes, one at each read, which are empty fragments, and then the reply as the last read.
 #[derive(Drop)]
 struct Late<'a> {
     zeros: u32,
@@ -147,8 +147,8 @@ impl Read for Late<'_> {
             return Ok(1);
         }
         let n = self.gives.len().min(buf.len());
-        let (front, rest) = self.gives.split_at(n);
-        buf[..n].copy_from_slice(front);
+        let (prefix, rest) = self.gives.split_at(n);
+        buf[..n].copy_from_slice(prefix);
         self.gives = rest;
         Ok(n)
     }
@@ -164,7 +164,7 @@ impl Write for Late<'_> {
     }
 }
 
-fn removed_late(alloc: Global, zeros: u32) -> Told {
+fn removed_late(alloc: Global, zeros: u32) -> Outcomes {
     let gives = REMOVED;
     removed(alloc, Late { zeros, gives })
 }

@@ -1,4 +1,5 @@
-//! What texts can't say of the client: streams that fail, memory that runs out, streams over a hub, and texts of words and faults.
+//! Tests of the client that texts can't express: streams that fail, memory that runs out, streams over a hub, and texts
+//! of words and faults.
 #![tactic(auto)]
 
 #[cfg(test)]

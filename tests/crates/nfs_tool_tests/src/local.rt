@@ -12,10 +12,10 @@ use std::process::Abort;
 use std::test::Fail;
 
 /// Whether the record after a call is the reply of procedure 0; or the fault.
-type Told = Result<bool, ToolFault>;
+type Outcomes = Result<bool, ToolFault>;
 
 /// Sends bytes as a call over a connection.
-fn sent(alloc: Global, hub: &mut Hub, conn: ConnId, bytes: &[u8]) -> Told {
+fn sent(alloc: Global, hub: &mut Hub, conn: ConnId, bytes: &[u8]) -> Outcomes {
     let mut local = Local::new(hub, conn, 5);
     match local.talk(alloc, bytes) {
         Ok(content) => Ok(content.as_slice() == &DONE[4..]),
@@ -24,7 +24,7 @@ fn sent(alloc: Global, hub: &mut Hub, conn: ConnId, bytes: &[u8]) -> Told {
 }
 
 /// Sends calls over two new connections in turn, and no bytes over the first.
-fn apart(alloc: Global, hub: &mut Hub) -> Result<[Told; 4], HubFault> {
+fn apart(alloc: Global, hub: &mut Hub) -> Result<[Outcomes; 4], HubFault> {
     let first = connect(hub)?;
     let second = connect(hub)?;
     Ok([
@@ -39,7 +39,7 @@ fn apart(alloc: Global, hub: &mut Hub) -> Result<[Told; 4], HubFault> {
 #[derive(Clone, Copy)]
 struct TwoCallers {
     alloc: Global,
-    seen: Result<[Told; 4], HubFault>,
+    seen: Result<[Outcomes; 4], HubFault>,
 }
 
 impl Deed for TwoCallers {
@@ -48,7 +48,7 @@ impl Deed for TwoCallers {
     }
 }
 
-/// Each call has its reply, of which nothing is left. Without a call there is none.
+/// Each call has its reply, and no byte of it is left. Without a call there is none.
 #[test]
 fn each_call_has_its_reply(rt: HostRuntime) -> Result<(), Fail> {
     let alloc = rt.alloc();
@@ -62,7 +62,7 @@ fn each_call_has_its_reply(rt: HostRuntime) -> Result<(), Fail> {
 }
 
 /// Sends a call in two pieces, each as one call.
-fn call_in_halves(alloc: Global, hub: &mut Hub) -> Result<[Told; 2], HubFault> {
+fn call_in_halves(alloc: Global, hub: &mut Hub) -> Result<[Outcomes; 2], HubFault> {
     let conn = connect(hub)?;
     Ok([
         sent(alloc, hub, conn, &NULL[..7]),
@@ -74,7 +74,7 @@ fn call_in_halves(alloc: Global, hub: &mut Hub) -> Result<[Told; 2], HubFault> {
 #[derive(Clone, Copy)]
 struct Halves {
     alloc: Global,
-    seen: Result<[Told; 2], HubFault>,
+    seen: Result<[Outcomes; 2], HubFault>,
 }
 
 impl Deed for Halves {
@@ -83,7 +83,7 @@ impl Deed for Halves {
     }
 }
 
-/// A reply comes after the whole of its call alone.
+/// A reply comes only after its complete call.
 #[test]
 fn a_reply_comes_after_its_whole_call(rt: HostRuntime) -> Result<(), Fail> {
     let alloc = rt.alloc();
@@ -97,7 +97,7 @@ fn a_reply_comes_after_its_whole_call(rt: HostRuntime) -> Result<(), Fail> {
 }
 
 /// Sends bytes that break a connection, twice.
-fn broken(alloc: Global, hub: &mut Hub) -> Result<[Told; 2], HubFault> {
+fn broken(alloc: Global, hub: &mut Hub) -> Result<[Outcomes; 2], HubFault> {
     let conn = connect(hub)?;
     Ok([
         sent(alloc, hub, conn, BROKEN),
@@ -109,7 +109,7 @@ fn broken(alloc: Global, hub: &mut Hub) -> Result<[Told; 2], HubFault> {
 #[derive(Clone, Copy)]
 struct BreakingBytes {
     alloc: Global,
-    seen: Result<[Told; 2], HubFault>,
+    seen: Result<[Outcomes; 2], HubFault>,
 }
 
 impl Deed for BreakingBytes {
@@ -118,7 +118,7 @@ impl Deed for BreakingBytes {
     }
 }
 
-/// A record above 131,072 bytes breaks the connection, which takes no call then.
+/// A record above 131,072 bytes breaks the connection, which then takes no call.
 #[test]
 fn a_broken_connection_takes_nothing(rt: HostRuntime) -> Result<(), Fail> {
     let alloc = rt.alloc();
@@ -132,7 +132,7 @@ fn a_broken_connection_takes_nothing(rt: HostRuntime) -> Result<(), Fail> {
 }
 
 /// Sends a call over a connection that is closed.
-fn call_after_close(alloc: Global, hub: &mut Hub) -> Result<Told, HubFault> {
+fn call_after_close(alloc: Global, hub: &mut Hub) -> Result<Outcomes, HubFault> {
     let conn = connect(hub)?;
     close(hub, conn)?;
     Ok(sent(alloc, hub, conn, NULL))
@@ -142,7 +142,7 @@ fn call_after_close(alloc: Global, hub: &mut Hub) -> Result<Told, HubFault> {
 #[derive(Clone, Copy)]
 struct Closed {
     alloc: Global,
-    seen: Result<Told, HubFault>,
+    seen: Result<Outcomes, HubFault>,
 }
 
 impl Deed for Closed {
@@ -179,8 +179,8 @@ type Put = (Result<(), ToolFault>, Option<i64>);
 
 fn put_on_new(alloc: Global, hub: &mut Hub) -> Result<Put, HubFault> {
     let conn = connect(hub)?;
-    let told = put_at(alloc, Local::new(hub, conn, 77));
-    Ok((told, changed_at(hub, 2)))
+    let outcome = put_at(alloc, Local::new(hub, conn, 77));
+    Ok((outcome, changed_at(hub, 2)))
 }
 
 /// A file that is put on a new connection.

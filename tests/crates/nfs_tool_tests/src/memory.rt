@@ -1,4 +1,4 @@
-//! Every growth refused: a client on a small heap answers `Memory`, and goes on where no bytes were written.
+//! Each allocation fails: a client on a small heap answers `Memory`, and continues if no bytes were written.
 
 use crate::plain::{getacl, mkdir, resume};
 use crate::replies::LISTED;
@@ -17,8 +17,8 @@ struct Given<'a> {
 impl Read for Given<'_> {
     fn read(&mut self, buf: &mut [u8]) -> io::Result<usize> {
         let n = self.gives.len().min(buf.len());
-        let (front, rest) = self.gives.split_at(n);
-        buf[..n].copy_from_slice(front);
+        let (prefix, rest) = self.gives.split_at(n);
+        buf[..n].copy_from_slice(prefix);
         self.gives = rest;
         Ok(n)
     }
@@ -34,37 +34,37 @@ impl Write for Given<'_> {
     }
 }
 
-/// How many bytes `getacl /` prints, or its fault, and the answer to a command behind it.
-type Told = (Result<usize, ToolFault>, Result<(), ToolFault>);
+/// How many bytes `getacl /` prints, or its fault, and the answer to a command after it.
+type Outcomes = (Result<usize, ToolFault>, Result<(), ToolFault>);
 
-fn listed(heap: &LocalHeap) -> Told {
+fn listed(heap: &LocalHeap) -> Outcomes {
     let mut client = resume(heap, Given { gives: LISTED });
     let first = getacl(&mut client);
     let second = mkdir(&mut client, b"/");
     (first, second)
 }
 
-/// The answers on a heap of so many bytes.
-fn listed_on(alloc: Global, size: usize) -> Result<Told, AllocError> {
+/// The answers on a heap of `size` bytes.
+fn listed_on(alloc: Global, size: usize) -> Result<Outcomes, AllocError> {
     let heap = LocalHeap::new(alloc, size)?;
     Ok(listed(&heap))
 }
 
-/// The answers on a heap of 131,000 bytes and so many times 64 more.
-fn listed_at(alloc: Global, step: usize) -> Result<Told, AllocError> {
+/// The answers on a heap of 131,000 bytes and 64 more for each step.
+fn listed_at(alloc: Global, step: usize) -> Result<Outcomes, AllocError> {
     listed_on(alloc, step.saturating_mul(64).saturating_add(131_000))
 }
 
-/// On how many heaps memory was refused, and on how many of those behind them it wasn't.
+/// On how many heaps an allocation failed, and on how many of those after them none did.
 #[derive(Clone, Copy)]
 struct Seen {
     refused: u32,
     done: u32,
 }
 
-/// The answers seen with one more, if it may come behind these.
-fn seen_with(seen: Seen, told: Told) -> Option<Seen> {
-    match told {
+/// The counts with one more outcome, if it may follow these.
+fn seen_with(seen: Seen, outcome: Outcomes) -> Option<Seen> {
+    match outcome {
         (Err(ToolFault::Memory), Err(ToolFault::Path)) if seen.done == 0 => Some(Seen {
             refused: seen.refused.saturating_add(1),
             done: 0,
@@ -84,8 +84,8 @@ fn memory_is_refused_until_there_is_enough(rt: HostRuntime) -> Result<(), Fail> 
         done: 0,
     };
     for step in 0..24 {
-        let told = listed_at(rt.alloc(), step)?;
-        let Some(next) = seen_with(seen, told) else {
+        let outcome = listed_at(rt.alloc(), step)?;
+        let Some(next) = seen_with(seen, outcome) else {
             return Err(Fail::new("another answer"));
         };
         seen = next;

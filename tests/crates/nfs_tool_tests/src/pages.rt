@@ -17,8 +17,8 @@ const EOF_OF_PAGE: usize = 140;
 
 const EOF_OF_PIECE: usize = 100;
 
-/// Takes any bytes, and answers a call at each read by the same reply, under the call's own numbers. The reply of one number is the last: there its eof is
-/// true.
+/// Takes any bytes, and answers a call at each read by the same reply, under the call's own numbers. The reply of one
+/// number is the last: its eof is true.
 #[derive(Drop)]
 struct Pages<'a> {
     reply: &'a [u8],
@@ -59,7 +59,7 @@ impl Write for Pages<'_> {
     }
 }
 
-/// A command that goes through pages.
+/// A command that requests pages.
 #[derive(Clone, Copy)]
 enum Command {
     Ls,
@@ -84,7 +84,7 @@ impl Command {
     }
 }
 
-/// How many bytes a command answers, and the answer to a command behind it where it fails.
+/// How many bytes a command answers, and the answer to a command after it if it fails.
 type Outcome = (Result<usize, ToolFault>, Option<ToolFault>);
 
 fn outcome<S: Read + Write + Drop>(alloc: Global, stream: S, command: Command) -> Outcome {
@@ -95,8 +95,8 @@ fn outcome<S: Read + Write + Drop>(alloc: Global, stream: S, command: Command) -
     }
 }
 
-/// What comes of a command where the last page has this number, and how many calls were answered.
-fn told(alloc: Global, command: Command, last: u32) -> (Outcome, u32) {
+/// The outcome of a command if the last page has this number, and how many calls were answered.
+fn printed(alloc: Global, command: Command, last: u32) -> (Outcome, u32) {
     let mut answered = 0;
     let (reply, eof) = command.reply();
     let pages = Pages {
@@ -108,13 +108,13 @@ fn told(alloc: Global, command: Command, last: u32) -> (Outcome, u32) {
     (outcome(alloc, pages, command), answered)
 }
 
-/// What comes of pages without an end.
+/// The outcome of pages without an end.
 const ENDLESS: (Outcome, u32) = ((Err(ToolFault::Reply), Some(ToolFault::Failed)), 10_000);
 
-/// Checks that as many bytes come of 10,000 pages, and none of pages without an end.
+/// Checks that 10,000 pages give `count` bytes, and that pages without an end give none.
 fn see(rt: &impl Abort, alloc: Global, command: Command, count: usize) {
-    assert!(rt; told(alloc, command, 10_000) == ((Ok(count), None), 10_000));
-    assert!(rt; told(alloc, command, u32::MAX) == ENDLESS);
+    assert!(rt; printed(alloc, command, 10_000) == ((Ok(count), None), 10_000));
+    assert!(rt; printed(alloc, command, u32::MAX) == ENDLESS);
 }
 
 /// Each page is a line `? ? ? ? ? a`, of 12 bytes with its newline.

@@ -1,4 +1,4 @@
-//! The calls of a client, a script and a hub without their contracts, so that a test's proof doesn't carry them along.
+//! The calls of a client, a script and a hub without their contracts, so that a test's proof doesn't carry them.
 
 use crate::replies::SESSION;
 use nfs_hub::{ConnId, Hub, HubFault};
@@ -8,7 +8,7 @@ use std::hash::RandomState;
 use std::io::{Read, Write};
 use who_book::Book;
 
-/// A client that goes on with the session of the tests.
+/// A client that continues the session of the tests.
 pub(crate) fn resume<S: Read + Write, A: Allocator + Copy>(alloc: A, stream: S) -> Client<S, A> {
     Client::resume(alloc, stream, 1001, 100, 1, SESSION, 1)
 }
@@ -24,7 +24,7 @@ pub(crate) fn mkdir<S: Read + Write, A: Allocator + Copy>(
     client.mkdir(path)
 }
 
-/// How many bytes the text of the root's list has.
+/// How many bytes the text of the root's ACL (access control list) has.
 pub(crate) fn getacl<S: Read + Write, A: Allocator + Copy>(
     client: &mut Client<S, A>,
 ) -> Result<usize, ToolFault> {
@@ -72,12 +72,12 @@ pub(crate) fn root_alone(alloc: Global, hasher: RandomState) -> Result<Hub, Allo
     Hub::new(alloc, Book::default(alloc), hasher)
 }
 
-/// What a test does over a hub that it is lent.
+/// The act of a test over a borrowed hub.
 pub(crate) trait Deed {
     fn run(&mut self, hub: &mut Hub);
 }
 
-/// Runs a deed over a new hub. This function alone owns a hub, since each that does is dear to prove.
+/// Runs a deed over a new hub. This function alone owns a hub, since each that does is expensive to prove.
 pub(crate) fn run_over<D: Deed>(
     made: Result<Hub, AllocError>,
     deed: &mut D,
@@ -95,7 +95,7 @@ pub(crate) fn close(hub: &mut Hub, conn: ConnId) -> Result<(), HubFault> {
     hub.close(conn)
 }
 
-/// The second of the last change of an object's bytes, if it is there.
+/// The second of the last change of an object's bytes, if it exists.
 pub(crate) fn changed_at(hub: &Hub, number: u64) -> Option<i64> {
     let node = hub.server().tree().object(number)?;
     Some(node.time_modify().seconds)

@@ -3,8 +3,8 @@
 /// The session of the tests.
 pub(crate) const SESSION: [u8; 16] = [0, 0, 0, 0, 0, 0, 0, 0, 0, 0, 0, 0, 0, 0, 0, 1];
 
-/// The reply to call 1, by which `rm /f` is done: OK, SEQUENCE by number 1, PUTROOTFH, and REMOVE with the change from 1 to 2. These are 120
-/// bytes.
+/// The reply to call 1, by which `rm /f` is done: OK, SEQUENCE with sequence ID 1, PUTROOTFH, and REMOVE with the
+/// change from 1 to 2. These are 120 bytes.
 pub(crate) const REMOVED: &[u8] = b"\
     \x80\x00\x00\x74\
     \x00\x00\x00\x01\x00\x00\x00\x01\x00\x00\x00\x00\x00\x00\x00\x00\x00\x00\x00\x00\
@@ -16,8 +16,8 @@ pub(crate) const REMOVED: &[u8] = b"\
     \x00\x00\x00\x1c\x00\x00\x00\x00\x00\x00\x00\x01\x00\x00\x00\x00\x00\x00\x00\x01\
     \x00\x00\x00\x00\x00\x00\x00\x02";
 
-/// The reply to call 1, by which `getacl /` is done: OK, SEQUENCE by number 1, PUTROOTFH, and GETATTR of attribute 12, the list
-/// `A:00:001e0187:OWNER@`.
+/// The reply to call 1, by which `getacl /` is done: OK, SEQUENCE with sequence ID 1, PUTROOTFH, and GETATTR of
+/// attribute 12, the ACL `A:00:001e0187:OWNER@`.
 pub(crate) const LISTED: &[u8] = b"\
     \x80\x00\x00\x88\
     \x00\x00\x00\x01\x00\x00\x00\x01\x00\x00\x00\x00\x00\x00\x00\x00\x00\x00\x00\x00\
@@ -30,8 +30,8 @@ pub(crate) const LISTED: &[u8] = b"\
     \x00\x00\x00\x01\x00\x00\x00\x00\x00\x00\x00\x00\x00\x1e\x01\x87\x00\x00\x00\x06\
     \x4f\x57\x4e\x45\x52\x40\x00\x00";
 
-/// The reply to call 1, by which a page of `ls /` comes: OK, SEQUENCE by number 1, PUTROOTFH, and READDIR with the entry `a` without attributes, after which
-/// more come. These are 144 bytes.
+/// The reply to call 1 with a page of `ls /`: OK, SEQUENCE with sequence ID 1, PUTROOTFH, and READDIR with the entry
+/// `a` without attributes, after which more follow. These are 144 bytes.
 pub(crate) const PAGE: &[u8] = b"\
     \x80\x00\x00\x8c\
     \x00\x00\x00\x01\x00\x00\x00\x01\x00\x00\x00\x00\x00\x00\x00\x00\x00\x00\x00\x00\
@@ -45,8 +45,8 @@ pub(crate) const PAGE: &[u8] = b"\
     \x00\x00\x00\x00\x00\x00\x00\x00\
     \x00\x00\x00\x00\x00\x00\x00\x00";
 
-/// The reply to call 1, by which a piece of `cat /` would come: OK, SEQUENCE by number 1, PUTROOTFH, and READ of the byte `a`, after which more come. These
-/// are 112 bytes.
+/// The reply to call 1 with a piece of `cat /`: OK, SEQUENCE with sequence ID 1, PUTROOTFH, and READ of the byte `a`,
+/// after which more follow. These are 112 bytes.
 pub(crate) const PIECE: &[u8] = b"\
     \x80\x00\x00\x6c\
     \x00\x00\x00\x01\x00\x00\x00\x01\x00\x00\x00\x00\x00\x00\x00\x00\x00\x00\x00\x00\
@@ -70,7 +70,7 @@ pub(crate) const DONE: &[u8] = b"\
     \x00\x00\x00\x01\x00\x00\x00\x01\x00\x00\x00\x00\x00\x00\x00\x00\x00\x00\x00\x00\
     \x00\x00\x00\x00";
 
-/// A call of NULL, and the front of a record above 131,072 bytes.
+/// A call of NULL, and the prefix of a record above 131,072 bytes.
 pub(crate) const BROKEN: &[u8] = b"\
     \x80\x00\x00\x28\
     \x00\x00\x00\x01\x00\x00\x00\x00\x00\x00\x00\x02\x00\x01\x86\xa3\x00\x00\x00\x04\

@@ -1,4 +1,4 @@
-//! Scripts over a hub with a root alone, where a read or a write fails, or the script never ends.
+//! Scripts over a hub with a root alone, in which a read or a write fails, or the script never ends.
 
 use crate::plain::{Deed, changed_at, root_alone, run_over, run_script};
 use nfs_hub::Hub;
@@ -23,8 +23,8 @@ impl Read for Pieces<'_> {
         }
         self.reads -= 1;
         let n = self.bytes.len().min(buf.len()).min(5);
-        let (front, rest) = self.bytes.split_at(n);
-        buf[..n].copy_from_slice(front);
+        let (prefix, rest) = self.bytes.split_at(n);
+        buf[..n].copy_from_slice(prefix);
         self.bytes = rest;
         Ok(n)
     }
@@ -44,8 +44,8 @@ impl Write for Wanted<'_> {
         }
         self.writes -= 1;
         let n = self.bytes.len().min(buf.len()).min(7);
-        let (front, rest) = self.bytes.split_at(n);
-        if front != &buf[..n] {
+        let (prefix, rest) = self.bytes.split_at(n);
+        if prefix != &buf[..n] {
             return Ok(0);
         }
         self.bytes = rest;
@@ -81,12 +81,12 @@ impl Texts for Range {
     }
 }
 
-/// A script, and what it has to print.
+/// A script, and its expected output.
 type Text = (&'static [u8], &'static [u8]);
 
-/// The end of a script where so many bytes were left of what it had to print. `Reply`: it printed less.
-fn end_of(told: Result<bool, ToolFault>, left: usize) -> Result<bool, ToolFault> {
-    match told {
+/// The end of a script after which `left` bytes of its expected output are left. `Reply`: it printed less.
+fn end_of(outcome: Result<bool, ToolFault>, left: usize) -> Result<bool, ToolFault> {
+    match outcome {
         Ok(_) if left > 0 => Err(ToolFault::Reply),
         other => other,
     }
@@ -104,11 +104,11 @@ fn played_over(
         bytes: wants,
         writes,
     };
-    let told = run_script(alloc, hub, &mut Range { alloc }, &mut reader, &mut writer);
-    end_of(told, writer.bytes.len())
+    let outcome = run_script(alloc, hub, &mut Range { alloc }, &mut reader, &mut writer);
+    end_of(outcome, writer.bytes.len())
 }
 
-/// A script, how many of its reads and writes don't fail, and its end.
+/// A script, how many of its reads and writes succeed, and its end.
 #[derive(Clone, Copy)]
 struct Play {
     alloc: Global,
@@ -116,7 +116,7 @@ struct Play {
     reads: u32,
     writes: u32,
     end: Result<bool, ToolFault>,
-    /// The second of the last change of object 2 then.
+    /// The second of the last change of object 2 at the end.
     changed: Option<i64>,
 }
 
@@ -127,7 +127,8 @@ impl Deed for Play {
     }
 }
 
-/// The end of a script over a new hub, where this many reads and writes don't fail, and the second of the last change of object 2.
+/// The end of a script over a new hub, if this many reads and writes succeed, and the second of the last change of
+/// object 2.
 fn played_and_changed(
     alloc: Global,
     hasher: RandomState,
@@ -149,7 +150,7 @@ fn played_and_changed(
     }
 }
 
-/// The end of a script over a new hub, where this many reads and writes don't fail.
+/// The end of a script over a new hub, if this many reads and writes succeed.
 fn played(
     alloc: Global,
     hasher: RandomState,
@@ -184,14 +185,14 @@ fn each_line_has_its_moment(rt: HostRuntime) -> Result<(), Fail> {
     Ok(())
 }
 
-/// A file is put, listed, and refused to another caller; and behind that comes a line without a command. These are 49 bytes.
+/// A file is put, listed, and refused to another caller; then comes a line without a command. These are 49 bytes.
 const SHORT: Text = (
     b"as 0 0 put /f hi\nas 0 0 ls /\nas 7 7 cat /f\nas ...",
     b"ok\n- 0600 0 0 2 f\nrefused READ ACCESS\nbad line\ntrail 1\n\
     DENY uid=7 op=READ obj=2 mask=00000001 missing=00000001\n",
 );
 
-/// The end of a script that needs so many reads or writes where as many as that, or fewer, don't fail.
+/// The end of a script that needs `needed` reads or writes, if `given` of them succeed.
 fn end_within(given: u32, needed: u32, fault: ToolFault) -> Result<bool, ToolFault> {
     if given < needed {
         Err(fault)
@@ -200,7 +201,7 @@ fn end_within(given: u32, needed: u32, fault: ToolFault) -> Result<bool, ToolFau
     }
 }
 
-/// Checks that a script ends with `Read` where fewer than so many reads don't fail.
+/// Checks that a script ends with `Read` if fewer than `needed` reads succeed.
 fn see_reads(rt: &impl Abort, alloc: Global, hasher: RandomState, text: Text, needed: u32) {
     for reads in 0..=needed {
         let wanted = end_within(reads, needed, ToolFault::Read);
@@ -211,7 +212,7 @@ fn see_reads(rt: &impl Abort, alloc: Global, hasher: RandomState, text: Text, ne
     }
 }
 
-/// Checks that a script ends with `Write` where fewer than so many writes don't fail.
+/// Checks that a script ends with `Write` if fewer than `needed` writes succeed.
 fn see_writes(rt: &impl Abort, alloc: Global, hasher: RandomState, text: Text, needed: u32) {
     for writes in 0..=needed {
         let wanted = end_within(writes, needed, ToolFault::Write);
@@ -229,15 +230,16 @@ fn each_read_fails(rt: HostRuntime) -> Result<(), Fail> {
     Ok(())
 }
 
-/// `ok` is one write. Three writes are of `- 0600 0 0 2 f`, three and one of the refusal, two and one of `bad line`, one, one and one of
-/// the trail's total, and eight and one of its line.
+/// `ok` is one write. Three writes are of `- 0600 0 0 2 f`, three and one of the refusal, two and one of `bad line`,
+/// one, one and one of the trail's total, and eight and one of its line.
 #[test]
 fn each_write_fails(rt: HostRuntime) -> Result<(), Fail> {
     see_writes(&rt, rt.alloc(), RandomState::new(&rt)?, SHORT, 23);
     Ok(())
 }
 
-/// Of `book 3` one write has the word, one the number, and one the newline; then come the word, the number and the newline of the trail.
+/// Of `book 3` one write has the word, one the number, and one the newline; then come the word, the number and the
+/// newline of the trail.
 const FAULT: Text = (b"reload range\n", b"book 3\ntrail 0\n");
 
 #[test]
@@ -246,7 +248,7 @@ fn each_write_of_a_fault_fails(rt: HostRuntime) -> Result<(), Fail> {
     Ok(())
 }
 
-/// Gives one byte of a comment at each read, for ever.
+/// Gives one byte of a comment at each read, without end.
 #[derive(Drop)]
 struct Endless;
 
@@ -295,7 +297,7 @@ fn an_endless_script_ends(rt: HostRuntime) -> Result<(), Fail> {
     Ok(())
 }
 
-/// Gives a newline at each of so many reads, and then the end.
+/// Gives a newline at each of a number of reads, and then the end.
 #[derive(Drop)]
 struct Newlines {
     left: u32,
@@ -323,11 +325,11 @@ fn newlines_over(alloc: Global, hub: &mut Hub, lines: u32) -> Left {
         bytes: b"trail 0\n",
         writes: 3,
     };
-    let told = run_script(alloc, hub, &mut Range { alloc }, &mut reader, &mut writer);
-    (end_of(told, writer.bytes.len()), reader.left)
+    let outcome = run_script(alloc, hub, &mut Range { alloc }, &mut reader, &mut writer);
+    (end_of(outcome, writer.bytes.len()), reader.left)
 }
 
-/// A script of so many empty lines, each a read.
+/// A script of a number of empty lines, each a read.
 #[derive(Clone, Copy)]
 struct NewlinesPlay {
     alloc: Global,
@@ -341,7 +343,8 @@ impl Deed for NewlinesPlay {
     }
 }
 
-/// A script may take 1,000,000 reads, of which the last gives its end. So 999,999 that give a line are the most, and none follows 1,000,000.
+/// A script may take 1,000,000 reads, and the last one gives its end. So at most 999,999 reads give a line, and no read
+/// follows the last one.
 #[test]
 fn the_last_read_is_the_end(rt: HostRuntime) -> Result<(), Fail> {
     let (alloc, hasher) = (rt.alloc(), RandomState::new(&rt)?);

@@ -1,6 +1,6 @@
-//! Paths, entries, modes, lines and words as text.
+//! Paths, ACEs (access control entries), modes, lines and words as text.
 use acl_list::EntryKind;
-use nfs_tool::{Command, EntryText, ListPart, Listed, Path, ToolFault, mode_text, read_mode};
+use nfs_tool::{AclPart, Command, EntryText, Listed, Path, ToolFault, mode_text, read_mode};
 use nfs_types::Status;
 use std::alloc::{AllocError, Global};
 
@@ -12,7 +12,7 @@ fn has_names(alloc: Global, text: &[u8], names: &[&[u8]]) -> Result<bool, ToolFa
     }
 }
 
-/// Texts, the names of the paths that they are, and whether they are paths.
+/// Texts, the names of their paths, and whether they are paths.
 static PATHS: [(&[u8], &[&[u8]], Result<bool, ToolFault>); 7] = [
     (b"/a/bc", &[b"a", b"bc"], Ok(true)),
     (b"/", &[], Ok(true)),
@@ -25,19 +25,19 @@ static PATHS: [(&[u8], &[&[u8]], Result<bool, ToolFault>); 7] = [
 
 #[test]
 fn paths_are_read(rt: HostRuntime) {
-    for (text, names, told) in &PATHS {
-        assert!(rt; has_names(rt.alloc(), text, names) == *told, "{text:?}");
+    for (text, names, outcome) in &PATHS {
+        assert!(rt; has_names(rt.alloc(), text, names) == *outcome, "{text:?}");
     }
 }
 
-/// Whether an entry is written as this text.
+/// Whether an ACE is written as this text.
 fn entry_is(alloc: Global, entry: EntryText<'_>, wanted: &[u8]) -> Result<bool, AllocError> {
     let mut text = Vec::new(alloc);
     entry.put(&mut text)?;
     Ok(text.as_slice() == wanted)
 }
 
-/// Whether a text is read as an entry with this type, flags, mask and who.
+/// Whether a text is read as an ACE with this type, flags, mask and principal.
 fn is_entry(text: &[u8], kind: EntryKind, flags: u8, mask: u32, who: &[u8]) -> bool {
     let Some(entry) = EntryText::read(text) else {
         return false;
@@ -45,7 +45,7 @@ fn is_entry(text: &[u8], kind: EntryKind, flags: u8, mask: u32, who: &[u8]) -> b
     (entry.kind, entry.flags, entry.mask) == (kind, flags, mask) && entry.who == who
 }
 
-/// Whether what is read of a text is written as another one.
+/// Whether the ACE of a text is written as another text.
 fn is_written(alloc: Global, text: &[u8], wanted: &[u8]) -> Result<bool, AllocError> {
     match EntryText::read(text) {
         Some(entry) => entry_is(alloc, entry, wanted),
@@ -60,7 +60,7 @@ fn entries_are_read_and_written(rt: HostRuntime) {
     assert!(rt; is_written(rt.alloc(), text, b"L:0b:00040027:a:b") == Ok(true));
 }
 
-/// Texts that are no entry.
+/// Texts that are no ACE.
 const NO_ENTRIES: &[&[u8]] = &[
     b"",
     b"X:00:00000001:1",
@@ -76,7 +76,7 @@ fn other_texts_are_no_entries(rt: HostRuntime) {
     }
 }
 
-/// Texts, and the modes that they are.
+/// Texts, and their modes.
 static MODES: [(&[u8], Option<u32>); 5] = [
     (b"7", Some(7)),
     (b"0640", Some(0o640)),
@@ -189,8 +189,8 @@ fn other_words_are_no_commands(rt: HostRuntime) {
     }
 }
 
-/// A list or a part of it, a path, and the entries that are to be set, or none.
-type Part<'a> = (ListPart, &'a [u8], &'a [&'a [u8]]);
+/// An ACL (access control list) or a part of it, a path, and the ACEs to be set, or none.
+type Part<'a> = (AclPart, &'a [u8], &'a [&'a [u8]]);
 
 fn part_of<'a>(words: &'a [&'a [u8]]) -> Option<Part<'a>> {
     match Command::read(words)? {
@@ -200,16 +200,16 @@ fn part_of<'a>(words: &'a [&'a [u8]]) -> Option<Part<'a>> {
     }
 }
 
-/// Words, and the list or the part of it that they are about.
+/// Words, and the ACL or the part of it that they name.
 static PARTS: [(&[&[u8]], Part<'static>); 5] = [
-    (&[b"getdacl", b"/f"], (ListPart::Dacl, b"/f", &[])),
-    (&[b"getsacl", b"/f"], (ListPart::Sacl, b"/f", &[])),
+    (&[b"getdacl", b"/f"], (AclPart::Dacl, b"/f", &[])),
+    (&[b"getsacl", b"/f"], (AclPart::Sacl, b"/f", &[])),
     (
         &[b"setacl", b"/f", b"x", b"y"],
-        (ListPart::Acl, b"/f", &[b"x", b"y"]),
+        (AclPart::Acl, b"/f", &[b"x", b"y"]),
     ),
-    (&[b"setdacl", b"/f", b"x"], (ListPart::Dacl, b"/f", &[b"x"])),
-    (&[b"setsacl", b"/f", b"x"], (ListPart::Sacl, b"/f", &[b"x"])),
+    (&[b"setdacl", b"/f", b"x"], (AclPart::Dacl, b"/f", &[b"x"])),
+    (&[b"setsacl", b"/f", b"x"], (AclPart::Sacl, b"/f", &[b"x"])),
 ];
 
 #[test]

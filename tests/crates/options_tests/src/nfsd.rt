@@ -1,5 +1,7 @@
-//! The words of `nfsd`: words that are taken, with their options; words that are refused, with the error; and the text of help.
+//! The words of `nfsd`: words that are accepted, with their options; words that are refused, with the error; addresses
+//! and networks; and the text of help.
 
 mod help;
+mod listening;
 mod refused;
 mod taken;

@@ -19,7 +19,7 @@ pub struct Site<A: Allocator + Copy> {
 /// A caller: the uid, the gid, and one further group.
 type Caller = (u32, u32, u32);
 
-/// A call: who makes it, at which second, the bytes of its record, and its arguments in hexadecimal digits.
+/// A call: its caller, its second, the bytes of its record, and its arguments in hexadecimal digits.
 #[derive(Clone, Copy)]
 struct Call<'a> {
     who: Caller,
@@ -63,7 +63,7 @@ fn run_bare<A: Allocator + Copy>(
     Some(site.server.run_bare(args, who, now, &mut site.out))
 }
 
-/// Makes a call where sessions are in use, in a record of at least as many bytes as the arguments have.
+/// Makes a call with sessions, in a record of at least the length of the arguments.
 fn run<A: Allocator + Copy>(
     site: &mut Site<A>,
     who: &Identity,
@@ -106,8 +106,8 @@ fn make<A: Allocator + Copy>(
     }
 }
 
-/// What is answered to a call that ended so.
-fn said<A: Allocator + Copy>(
+/// The text of a call's outcome.
+fn printed<A: Allocator + Copy>(
     alloc: Global,
     site: &Site<A>,
     end: Option<RunEnd>,
@@ -119,7 +119,7 @@ fn said<A: Allocator + Copy>(
     }
 }
 
-/// `call ..`, or `session ..` where sessions are in use: the results in hexadecimal digits, or `garbage`.
+/// `call ..`, or `session ..` for a call with sessions: the results in hexadecimal digits, or `garbage`.
 pub fn run_call<A: Allocator + Copy>(
     alloc: Global,
     site: &mut Site<A>,
@@ -131,5 +131,5 @@ pub fn run_call<A: Allocator + Copy>(
     };
     let bytes = bytes_in(alloc, call.digits)?;
     let end = make(site, in_session, call, &bytes);
-    said(alloc, site, end)
+    printed(alloc, site, end)
 }

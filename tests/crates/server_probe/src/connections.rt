@@ -7,7 +7,7 @@ use nfs_hub::{ConnId, Hub};
 use std::alloc::{Allocator, Global};
 use std::test::Fail;
 
-/// A hub and the connections that it was ever given.
+/// A hub and all connections that it was ever given.
 #[derive(Drop)]
 pub struct Hall<A: Allocator + Copy> {
     pub hub: Hub<A>,
@@ -45,7 +45,7 @@ fn send<A: Allocator + Copy>(
     Ok(format!(in alloc; "{fault}")?)
 }
 
-/// `take PLACE MOST`: the number of the fault, or 0, and at most that many pending bytes, and at most 8,192.
+/// `take PLACE MOST`: the number of the fault, or 0, and at most MOST pending bytes, and at most 8,192.
 fn take<A: Allocator + Copy>(
     alloc: Global,
     hub: &mut Hub<A>,
@@ -60,7 +60,7 @@ fn take<A: Allocator + Copy>(
     Ok(format!(in alloc; "{} {digits}", number_of(taken))?)
 }
 
-/// `drop PLACE MOST`: the number of the fault, or 0, and how many pending bytes were dropped, at most that many.
+/// `drop PLACE MOST`: the number of the fault, or 0, and how many pending bytes were dropped, at most MOST.
 fn drop_pending<A: Allocator + Copy>(
     alloc: Global,
     hub: &mut Hub<A>,
@@ -72,7 +72,8 @@ fn drop_pending<A: Allocator + Copy>(
     Ok(format!(in alloc; "{} {count}", number_of(dropped))?)
 }
 
-/// `exchange PLACE SECOND BYTES`: bytes are fed, then all pending bytes are taken, and then nothing is fed: the numbers of both faults, and the pending bytes.
+/// `exchange PLACE SECOND BYTES`: feeds bytes, then takes all pending bytes, and then feeds nothing. The answer is the
+/// numbers of both faults, and the pending bytes.
 fn exchange<A: Allocator + Copy>(
     alloc: Global,
     hub: &mut Hub<A>,
@@ -88,7 +89,7 @@ fn exchange<A: Allocator + Copy>(
     Ok(format!(in alloc; "{fault} {again} {replies}")?)
 }
 
-/// `broken PLACE`: `yes`, `no`, or `gone` once it is closed.
+/// `broken PLACE`: `yes`, `no`, or `removed` after it is closed.
 fn broken<A: Allocator + Copy>(alloc: Global, hub: &Hub<A>, conn: ConnId) -> Result<String, Fail> {
     let word = match is_broken(hub, conn) {
         Some(true) => "yes",
@@ -122,7 +123,7 @@ pub fn is_of_one(word: &str) -> bool {
     )
 }
 
-/// Does as a line about a connection says. Where there never was one at its place, `none` is answered.
+/// Does what a line about a connection requests. The answer is `none` for a place that never had a connection.
 pub fn ask_connection<A: Allocator + Copy>(
     alloc: Global,
     hall: &mut Hall<A>,

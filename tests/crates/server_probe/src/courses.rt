@@ -18,7 +18,8 @@ fn steers(line: &str) -> bool {
     matches!(split_word(line).0, "go" | "stop" | "on")
 }
 
-/// `go ANSWER`: the lines up to the next `on` are skipped unless the last answer was this. `stop ANSWER`: they are skipped if it was.
+/// `go ANSWER`: the lines up to the next `on` are skipped unless the last answer was ANSWER. `stop ANSWER`: they are
+/// skipped if it was.
 fn steer(course: &mut Course, line: &str) {
     let (word, answer) = split_word(line);
     let is_last = course.last.as_str() == answer;
@@ -29,7 +30,7 @@ fn steer(course: &mut Course, line: &str) {
     };
 }
 
-/// The answer to a line, or `-` where it is skipped.
+/// The answer to a line, or `-` if it is skipped.
 fn answer<A: Allocator + Copy>(
     alloc: Global,
     house: &mut House<'_, A>,

@@ -1,4 +1,5 @@
-//! Hexadecimal digits. A text has millions of them, so they are read in one loop: where each call is checked, one for a digit takes long.
+//! Hexadecimal digits. A text has millions of them, so they are read in one loop: with checks of each call, a call for
+//! each digit takes long.
 
 use std::alloc::Global;
 use std::test::Fail;

@@ -1,4 +1,4 @@
-//! What answers lines: a server, or a hub.
+//! A server or a hub that answers lines.
 
 use crate::calls::{Site, run_call};
 use crate::connections::{Hall, ask_connection, is_of_one};
@@ -16,14 +16,14 @@ use std::test::Fail;
 use who_book::Book;
 use xdr_wire::Writer;
 
-/// A server or a hub that answers lines, which is lent.
+/// A borrowed server or hub that answers lines.
 #[derive(Drop)]
 pub enum Kind<'a, A: Allocator + Copy> {
     Server(&'a mut Site<A>),
     Hub(&'a mut Hall<A>),
 }
 
-/// A server or a hub, where its memory comes from, and the memory that is withheld from it.
+/// A server or a hub, the allocator of its memory, and the memory that is withheld from it.
 #[derive(Drop)]
 pub struct House<'a, A: Allocator + Copy> {
     pub kind: Kind<'a, A>,
@@ -42,7 +42,7 @@ pub fn book_in(alloc: Global, digits: &str) -> Result<Book, Fail> {
     book_of(alloc, text.as_str())
 }
 
-/// What is answered where a book is loaded, or isn't.
+/// The text for loading a book, by whether it is loaded.
 fn loaded(alloc: Global, is_loaded: bool) -> Result<String, Fail> {
     if is_loaded {
         return Ok(String::from_str(alloc, "ok")?);
@@ -50,7 +50,7 @@ fn loaded(alloc: Global, is_loaded: bool) -> Result<String, Fail> {
     Err(Fail::new("no epoch"))
 }
 
-/// `load BOOK`: a server goes on with this book.
+/// `load BOOK`: a server loads this book.
 fn load_on_server<A: Allocator + Copy>(
     alloc: Global,
     server: &mut Server<A>,
@@ -116,8 +116,8 @@ fn withhold<A: Allocator + Copy>(
     Err(Fail::new("too much memory"))
 }
 
-/// `withhold SIZE`: all memory is taken, in chunks of this size and then of one byte. `give COUNT`: the last chunks are given back, at most that many. The
-/// number of chunks that are withheld then.
+/// `withhold SIZE`: all memory is taken, in chunks of this size and then of one byte. `give COUNT`: the last chunks are
+/// freed, at most COUNT of them. The answer is the number of chunks that are withheld then.
 fn ask_memory<A: Allocator + Copy>(
     alloc: Global,
     house: &mut House<'_, A>,

@@ -1,11 +1,11 @@
-//! What stands in a server.
+//! The state of a server.
 
 use crate::pictures::{list_text, trail_text, tree_text};
 use compound_run::Server;
 use std::alloc::{Allocator, Global};
 use std::test::Fail;
 
-/// Puts the first 64 bytes of an object.
+/// Appends the first 64 bytes of an object.
 fn put_bytes<A: Allocator + Copy>(
     text: &mut Vec<u8>,
     server: &Server<A>,
@@ -28,7 +28,7 @@ fn bytes_of<A: Allocator + Copy>(
     Ok(bytes)
 }
 
-/// Puts the list and the bytes of an object.
+/// Appends the ACL (access control list) and the bytes of an object.
 fn put_object<A: Allocator + Copy>(
     alloc: Global,
     text: &mut Vec<u8>,
@@ -40,7 +40,7 @@ fn put_object<A: Allocator + Copy>(
     put_bytes(text, server, number)
 }
 
-/// Puts how many lines were written to the trail, and how many files are open.
+/// Appends how many lines were written to the trail, and how many files are open.
 fn put_counts<A: Allocator + Copy>(
     alloc: Global,
     text: &mut Vec<u8>,
@@ -52,7 +52,7 @@ fn put_counts<A: Allocator + Copy>(
     Ok(())
 }
 
-/// Puts the lists and the bytes of the objects below a limit, the trail and the counts.
+/// Appends the ACLs and the bytes of the objects below a limit, the trail and the counts.
 fn put_rest<A: Allocator + Copy>(
     alloc: Global,
     text: &mut Vec<u8>,
@@ -67,7 +67,8 @@ fn put_rest<A: Allocator + Copy>(
     put_counts(alloc, text, server)
 }
 
-/// `picture LIMIT`: the objects below a limit with their names whose cookies are, their lists and bytes, the trail, and how many lines and open files there are.
+/// `picture LIMIT`: the objects below a limit and their names with cookies below it, their ACLs and bytes, the trail,
+/// and how many lines and open files there are.
 fn picture_of<A: Allocator + Copy>(
     alloc: Global,
     server: &Server<A>,
@@ -95,7 +96,8 @@ fn picture<A: Allocator + Copy>(
     }
 }
 
-/// `counts`: the lines that were written to the trail, the entries that were examined, and the tick and the stamp that the tree gives next.
+/// `counts`: the lines that were written to the trail, the ACEs that were examined, and the tick and the stamp that the
+/// tree gives next.
 fn counts<A: Allocator + Copy>(alloc: Global, server: &Server<A>) -> Result<String, Fail> {
     let (total, examined) = (server.guard().total(), server.guard().examined());
     let (tick, stamp) = (server.tree().next_tick(), server.tree().next_stamp());
@@ -117,7 +119,7 @@ fn opens<A: Allocator + Copy>(alloc: Global, server: &Server<A>) -> Result<Strin
     Ok(text)
 }
 
-/// Looks at a server as a line says. Pictures come in hexadecimal digits.
+/// Answers a line about a server's state. Pictures are hexadecimal digits.
 pub fn look<A: Allocator + Copy>(
     alloc: Global,
     server: &Server<A>,

@@ -1,4 +1,5 @@
-//! `server_probe`: makes servers and hubs, and answers lines of standard input about them. `README.md` has the lines.
+//! `server_probe`: makes servers and hubs, and answers lines of standard input about them. `README.md` describes the
+//! lines.
 #![tactic(auto)]
 
 mod calls;

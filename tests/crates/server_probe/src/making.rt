@@ -1,4 +1,4 @@
-//! Servers and hubs as lines name them, with ample memory or over heaps of a size.
+//! Servers and hubs that lines name, with ample memory or over heaps of a size.
 
 use crate::calls::Site;
 use crate::connections::Hall;
@@ -19,7 +19,7 @@ use std::test::Fail;
 use who_book::Book;
 use xdr_wire::Writer;
 
-/// A server of a root with this list, and what the lines add to it.
+/// A server of a root with this ACL (access control list), and the objects and names that the lines add.
 fn server_over(
     alloc: Global,
     hasher: RandomState,
@@ -37,7 +37,7 @@ fn hub_by(alloc: Global, hasher: RandomState, digits: &str) -> Result<Hub, Fail>
     Ok(Hub::new(alloc, book, hasher)?)
 }
 
-/// Prints a text, and answers lines over a server that is lent.
+/// Prints a text, and answers lines over a borrowed server.
 fn over_site<R: Print, A: Allocator + Copy>(
     rt: &R,
     alloc: Global,
@@ -55,7 +55,7 @@ fn over_site<R: Print, A: Allocator + Copy>(
     answer_lines(rt, alloc, &mut house, head, lines)
 }
 
-/// Prints a text, and answers lines over a hub that is lent.
+/// Prints a text, and answers lines over a borrowed hub.
 fn over_hall<R: Print, A: Allocator + Copy>(
     rt: &R,
     alloc: Global,
@@ -125,7 +125,7 @@ fn answer_over_root<R: Print>(
     )
 }
 
-/// Answers lines over what the first line of a block names, with ample memory.
+/// Answers lines over the house that the first line of a block names, with ample memory.
 fn answer_over<R: Print>(
     rt: &R,
     alloc: Global,
@@ -159,7 +159,8 @@ fn entry(kind: EntryKind, flags: u32, mask: u32) -> Entry {
     }
 }
 
-/// A server of a root and a file `f` whose changes and reads are audited. The room for its results is taken first. `None`: there is no memory.
+/// A server of a root and a file `f` whose changes and reads are audited. The room for its results is allocated first.
+/// `None`: an allocation failed.
 fn one_file_in<A: Allocator + Copy>(
     alloc: Global,
     memory: A,
@@ -175,7 +176,7 @@ fn one_file_in<A: Allocator + Copy>(
     Some(Site { server, out })
 }
 
-/// Answers lines over a hub in a heap, if there was memory for it.
+/// Answers lines over a hub in a heap, if its allocation succeeded.
 fn answer_over_hub_in<R: Print, A: Allocator + Copy>(
     rt: &R,
     alloc: Global,
@@ -189,7 +190,7 @@ fn answer_over_hub_in<R: Print, A: Allocator + Copy>(
     }
 }
 
-/// Answers lines over a server in a heap, if there was memory for it.
+/// Answers lines over a server in a heap, if its allocation succeeded.
 fn answer_over_site_in<R: Print, A: Allocator + Copy>(
     rt: &R,
     alloc: Global,
@@ -203,8 +204,8 @@ fn answer_over_site_in<R: Print, A: Allocator + Copy>(
     }
 }
 
-/// Answers whether there is memory in a heap for a hub of the sample tree without sessions, for one of a root alone with sessions, or for a server, and
-/// then the lines over it.
+/// Answers whether a heap has memory for a hub of the sample tree without sessions, for one of a root alone with
+/// sessions, or for a server. Then it answers the lines over it.
 fn answer_over_heap<R: Print>(
     rt: &R,
     alloc: Global,
@@ -223,7 +224,8 @@ fn answer_over_heap<R: Print>(
     }
 }
 
-/// Answers lines over a house in a heap of a size, and then how many bytes of the heap are in use when the house is gone.
+/// Answers lines over a house in a heap of a size, and then how many bytes of the heap are in use after the house is
+/// dropped.
 fn answer_in_heap<R: Print>(
     rt: &R,
     alloc: Global,
@@ -238,7 +240,7 @@ fn answer_in_heap<R: Print>(
     Ok(())
 }
 
-/// Sizes of heaps: the first, the step to the next, and how many.
+/// Sizes of heaps: the first, the step to the next, and their number.
 #[derive(Clone, Copy)]
 struct Sizes {
     first: usize,
@@ -277,8 +279,9 @@ fn answer_in_heaps<R: Print>(
     Ok(())
 }
 
-/// Answers lines over a hub of a root alone, by a book, in memory of which the growth of a number is refused once the hub is there. Then whether there was
-/// such a growth, and how many bytes are in use when the hub is gone.
+/// Answers lines over a hub of a root alone, by a book, in memory in which the growth of a number fails. Growths are
+/// counted once the hub exists. Then it answers whether there was such a growth, and how many bytes are in use after
+/// the hub is dropped.
 fn answer_refused<R: Print>(
     rt: &R,
     alloc: Global,
@@ -296,7 +299,7 @@ fn answer_refused<R: Print>(
     Ok(())
 }
 
-/// `refused FIRST COUNT BOOK`: answers lines over such a hub for each of so many numbers.
+/// `refused FIRST COUNT BOOK`: answers lines over such a hub for each of COUNT numbers.
 fn answer_each_refused<R: Print>(
     rt: &R,
     alloc: Global,
@@ -314,7 +317,7 @@ fn answer_each_refused<R: Print>(
     Ok(())
 }
 
-/// Makes what the first line of a block names, and answers the lines after it.
+/// Makes the house that the first line of a block names, and answers the lines after it.
 pub fn answer_block<R: Print>(
     rt: &R,
     alloc: Global,

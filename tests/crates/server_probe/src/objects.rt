@@ -19,7 +19,7 @@ fn kind_of_entry(text: &str) -> Option<EntryKind> {
     }
 }
 
-fn who_of(text: &str) -> Option<Who> {
+fn principal_of(text: &str) -> Option<Who> {
     match text {
         "OWNER@" => Some(Who::Owner),
         "GROUP@" => Some(Who::Group),
@@ -28,7 +28,7 @@ fn who_of(text: &str) -> Option<Who> {
     }
 }
 
-/// The entry `TYPE:FLAGS:MASK:WHO`.
+/// The ACE (access control entry) `TYPE:FLAGS:MASK:WHO`.
 fn entry_of(word: &str) -> Option<Entry> {
     let (kind, rest) = word.split_once(':')?;
     let (flags, rest) = rest.split_once(':')?;
@@ -37,7 +37,7 @@ fn entry_of(word: &str) -> Option<Entry> {
         kind: kind_of_entry(kind)?,
         flags: u32::from_str_radix(flags, 16).ok()?,
         mask: u32::from_str_radix(mask, 16).ok()?,
-        who: who_of(who)?,
+        who: principal_of(who)?,
     })
 }
 
@@ -51,7 +51,7 @@ fn put_entries(entries: &mut Vec<Entry>, words: &str) -> Result<(), Fail> {
     Ok(())
 }
 
-/// The list of these entries.
+/// The ACL (access control list) of these ACEs.
 fn list_of(alloc: Global, words: &str) -> Result<AclList, Fail> {
     let mut entries = Vec::new(alloc);
     put_entries(&mut entries, words)?;
@@ -78,7 +78,7 @@ fn kind<A: Allocator + Copy>(tree: &Tree<A>, number: u64) -> Option<Kind>
     tree.object(number).map(|node| node.kind())
 }
 
-/// A root with this list, of owner 0 and group 0.
+/// A root with this ACL, of owner 0 and group 0.
 fn root<A: Allocator + Copy>(alloc: A, list: &[Entry]) -> Result<Tree<A>, TreeFault> {
     let list = AclList::from_slice(alloc, list)?;
     if !is_bounded(&list) {
@@ -87,7 +87,7 @@ fn root<A: Allocator + Copy>(alloc: A, list: &[Entry]) -> Result<Tree<A>, TreeFa
     Ok(Tree::new(alloc, 0, 0, list, 0)?)
 }
 
-/// A root of owner 0 and group 0 with the list of these entries as text.
+/// A root of owner 0 and group 0 with the ACL of these ACEs as text.
 pub fn root_of(alloc: Global, words: &str) -> Result<Tree, Fail> {
     let list = list_of(alloc, words)?;
     Ok(root(alloc, list.as_slice())?)
@@ -120,7 +120,7 @@ pub fn add(
     Ok(tree.add(directory, name, new, at)?)
 }
 
-/// Adds the file `f` of owner 0 and group 0 with this list, without bytes, to the root.
+/// Adds the file `f` of owner 0 and group 0 with this ACL, without bytes, to the root.
 fn add_file<A: Allocator + Copy>(
     alloc: A,
     tree: &mut Tree<A>,
@@ -146,7 +146,7 @@ fn add_file<A: Allocator + Copy>(
     Ok(())
 }
 
-/// A root and the file `f` in it, both with this list.
+/// A root and the file `f` in it, both with this ACL.
 pub fn one_file<A: Allocator + Copy>(alloc: A, list: &[Entry]) -> Result<Tree<A>, TreeFault> {
     let mut tree = root(alloc, list)?;
     add_file(alloc, &mut tree, list)?;
@@ -165,7 +165,7 @@ pub fn link(tree: &mut Tree, name: &[u8], number: u64) -> Result<(), Fail> {
     Ok(tree.link(directory, name, number, at)?)
 }
 
-/// Sets the list of the object that has a name in the root.
+/// Sets the ACL of the object that has a name in the root.
 pub fn set_list(alloc: Global, tree: &mut Tree, name: &[u8], words: &str) -> Result<(), Fail> {
     let list = list_of(alloc, words)?;
     let (Some(at), Some(number)) = (now(tree), tree.find(tree.root(), name)) else {

@@ -1,4 +1,4 @@
-//! Trees, lists and trails as text.
+//! Trees, access control lists (ACLs) and trails as text.
 
 use access_guard::{Guard, write_line};
 use acl_list::{Entry, EntryKind, Who};
@@ -26,7 +26,7 @@ fn kind_letter(kind: Kind) -> &'static str {
     }
 }
 
-/// Puts a line with an object's parts.
+/// Appends a line with an object's parts.
 fn put_object<A: Allocator + Copy>(
     alloc: Global,
     text: &mut Vec<u8>,
@@ -44,7 +44,7 @@ fn put_object<A: Allocator + Copy>(
     text.extend_from_slice(line.as_bytes())
 }
 
-/// Puts a line with a name of a directory.
+/// Appends a line with a name of a directory.
 fn put_name<A: Allocator + Copy>(
     alloc: Global,
     text: &mut Vec<u8>,
@@ -58,7 +58,7 @@ fn put_name<A: Allocator + Copy>(
     Ok(())
 }
 
-/// Puts a line for each name of a directory whose cookie is below a limit.
+/// Appends a line for each name of a directory whose cookie is below a limit.
 fn put_names<A: Allocator + Copy>(
     alloc: Global,
     text: &mut Vec<u8>,
@@ -77,7 +77,7 @@ fn put_names<A: Allocator + Copy>(
     Ok(())
 }
 
-/// The objects whose numbers are below a limit, and their names whose cookies are.
+/// The objects whose numbers are below a limit, and their names whose cookies are below it.
 pub fn tree_text<A: Allocator + Copy>(
     alloc: Global,
     tree: &Tree<A>,
@@ -102,7 +102,7 @@ fn entry_letter(kind: EntryKind) -> char {
     }
 }
 
-fn who_text(alloc: Global, who: Who) -> Result<String, AllocError> {
+fn ace_principal_text(alloc: Global, who: Who) -> Result<String, AllocError> {
     match who {
         Who::Owner => String::from_str(alloc, "OWNER@"),
         Who::Group => String::from_str(alloc, "GROUP@"),
@@ -111,16 +111,16 @@ fn who_text(alloc: Global, who: Who) -> Result<String, AllocError> {
     }
 }
 
-/// Puts a line with an entry.
+/// Appends a line with an access control entry (ACE).
 fn put_entry(alloc: Global, text: &mut Vec<u8>, entry: &Entry) -> Result<(), AllocError> {
     let kind = entry_letter(entry.kind);
-    let who = who_text(alloc, entry.who)?;
+    let who = ace_principal_text(alloc, entry.who)?;
     let (flags, mask) = (entry.flags, entry.mask);
     let line = format!(in alloc; "{kind}:{flags:02x}:{mask:08x}:{who}\n")?;
     text.extend_from_slice(line.as_bytes())
 }
 
-/// The entries of an object's list, each with a newline, and the high bits of its mode.
+/// The ACEs of an object's ACL, each with a newline, and the high bits of its mode.
 pub fn list_text<A: Allocator + Copy>(
     alloc: Global,
     tree: &Tree<A>,

@@ -1,4 +1,4 @@
-//! The calls of a hub without their contracts, so that no proof carries them along.
+//! The calls of a hub without their contracts, so that no proof carries them.
 
 use nfs_hub::{ConnId, Hub, HubFault};
 use nfs_types::Moment;
@@ -34,7 +34,7 @@ pub fn take_out<A: Allocator + Copy>(
     hub.take_out(conn, buf)
 }
 
-/// The bytes that are pending on a connection, or none where there is no connection.
+/// The bytes that are pending on a connection, or none if there is no connection.
 pub fn pending<A: Allocator + Copy>(hub: &Hub<A>, conn: ConnId) -> &[u8] {
     hub.pending(conn).unwrap_or(&[])
 }

@@ -1,21 +1,21 @@
-//! Memory of which one growth is refused.
+//! Memory in which one growth fails.
 
 use std::alloc::{AllocError, Allocator};
 use std::cell::Cell;
 
-/// Takes its memory of another, and refuses one growth.
+/// Takes its memory from another allocator, and fails one growth.
 pub struct Refusing<B: Allocator> {
     inner: B,
-    /// How many growths there were since one was chosen.
+    /// The number of growths since one was chosen.
     growths: Cell<u64>,
-    /// The number of the growth that is refused, from 1 on; 0 where none is.
+    /// The number of the growth that fails, from 1 on; 0: none fails.
     refused: Cell<u64>,
     /// The bytes that are in use.
     used: Cell<usize>,
 }
 
 impl<B: Allocator> Refusing<B> {
-    /// Memory of which no growth is refused yet.
+    /// Memory in which no growth fails yet.
     pub fn new(inner: B) -> Self {
         Refusing {
             inner,
@@ -25,13 +25,13 @@ impl<B: Allocator> Refusing<B> {
         }
     }
 
-    /// Chooses the growth that is refused, counted from here on.
+    /// Chooses the growth that fails, counted from now on.
     pub fn refuse(&self, number: u64) {
         self.growths.set(0);
         self.refused.set(number);
     }
 
-    /// Whether there was a growth that was refused.
+    /// Whether a growth failed.
     pub fn has_refused(&self) -> bool {
         (1..=self.growths.get()).contains(&self.refused.get())
     }
@@ -40,7 +40,7 @@ impl<B: Allocator> Refusing<B> {
         self.used.get()
     }
 
-    /// Counts a growth. Whether it is the one that is refused.
+    /// Counts a growth. Returns whether it is the one that fails.
     fn is_refused(&self) -> bool {
         let number = self.growths.get().saturating_add(1);
         self.growths.set(number);

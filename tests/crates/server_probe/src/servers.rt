@@ -8,7 +8,7 @@ use std::num::NonZeroUsize;
 use std::test::Fail;
 use who_book::Book;
 
-/// A server of this tree, and no names for numbers.
+/// A server of this tree, with a book without names.
 pub fn server_of<A: Allocator + Copy>(
     alloc: A,
     book: Book,
@@ -32,7 +32,7 @@ pub fn book_of(alloc: Global, text: &str) -> Result<Book, Fail> {
     Ok(Book::read(alloc, text)?)
 }
 
-/// Whether a server goes on with a book.
+/// Whether a server loads a book.
 pub fn reload<A: Allocator + Copy>(server: &mut Server<A>, book: Book) -> bool {
     server.reload(book).is_ok()
 }

@@ -1,4 +1,4 @@
-//! Serving over readers and writers in memory, which give and take pieces, and fail where they are to.
+//! Serving over readers and writers in memory, which give and take pieces, and fail at a chosen place.
 
 use crate::digits::bytes_in;
 use crate::split_word;
@@ -25,8 +25,8 @@ impl Read for Source<'_> {
         }
         self.reads -= 1;
         let n = self.bytes.len().min(buf.len()).min(self.piece);
-        let (front, rest) = self.bytes.split_at(n);
-        buf[..n].copy_from_slice(front);
+        let (prefix, rest) = self.bytes.split_at(n);
+        buf[..n].copy_from_slice(prefix);
         self.bytes = rest;
         Ok(n)
     }
@@ -60,7 +60,7 @@ impl Write for Paper<'_> {
     }
 }
 
-/// Is at a second, and at a later one each time.
+/// A clock that begins at a second, and advances by a step each time.
 #[derive(Drop)]
 struct Rising {
     second: Cell<i64>,
@@ -78,8 +78,8 @@ impl Clock for Rising {
     }
 }
 
-/// How a stream is served: the first second and the step of the clock, the most turns, the bytes that are read at a time and the reads, the bytes that
-/// are written at a time and the writes, and whether the writer fails then.
+/// How a stream is served: the first second and the step of the clock, the most turns, the bytes of a read and the
+/// number of reads, the bytes of a write and the number of writes, and whether the writer fails then.
 #[derive(Clone, Copy)]
 struct Way {
     second: i64,

@@ -24,7 +24,7 @@ fn drain<A: Allocator + Copy>(
     Ok(())
 }
 
-/// Feeds a stream up to the first fault, and takes out the pending bytes after each piece: the number of the fault.
+/// Feeds a stream up to the first fault, and takes the pending bytes after each piece. Returns the number of the fault.
 fn feed_all<A: Allocator + Copy>(
     hub: &mut Hub<A>,
     conn: ConnId,
@@ -41,7 +41,8 @@ fn feed_all<A: Allocator + Copy>(
     Ok(0)
 }
 
-/// Feeds a stream to a new connection, then nothing, and closes it: the faults of both. Where no connection is opened, its fault twice.
+/// Feeds a stream to a new connection, then nothing, and closes it. Returns the faults of both. If no connection is
+/// opened, it returns its fault twice.
 fn feed_new<A: Allocator + Copy>(
     hub: &mut Hub<A>,
     stream: (usize, &[u8]),

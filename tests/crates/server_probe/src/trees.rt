@@ -1,4 +1,4 @@
-//! Trees, line by line. Names stand there in hexadecimal digits.
+//! Trees, line by line. Names are hexadecimal digits.
 
 use crate::digits::bytes_in;
 use crate::objects::{add, link, set_list};
@@ -36,13 +36,13 @@ fn name_line(alloc: Global, tree: &mut Tree, words: &str) -> Result<(), Fail> {
     link(tree, &bytes_in(alloc, name)?, number.parse()?)
 }
 
-/// `set NAME LIST`: the list of the object that has a name in the root.
+/// `set NAME LIST`: the ACL (access control list) of the object that has a name in the root.
 fn set_line(alloc: Global, tree: &mut Tree, words: &str) -> Result<(), Fail> {
     let (name, list) = split_word(words);
     set_list(alloc, tree, &bytes_in(alloc, name)?, list)
 }
 
-/// Whether a line grows a tree.
+/// Whether a line adds to a tree.
 pub fn grows(line: &str) -> bool {
     matches!(split_word(line).0, "add" | "name" | "set")
 }
@@ -57,7 +57,7 @@ fn grow_line(alloc: Global, tree: &mut Tree, line: &str) -> Result<(), Fail> {
     }
 }
 
-/// Grows a tree by those of the lines that do.
+/// Adds to a tree by those of the lines that do.
 pub fn grow(alloc: Global, tree: &mut Tree, lines: &str) -> Result<(), Fail> {
     for line in lines.lines() {
         grow_line(alloc, tree, line)?;

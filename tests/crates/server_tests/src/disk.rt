@@ -1,9 +1,9 @@
-//! A writer of little room.
+//! A writer of limited size.
 
 use std::io;
 use std::io::{ErrorKind, Write};
 
-/// A disk with so much room, at most 256 bytes, which takes at most so many bytes at once; full, it fails.
+/// A disk with room for at most 256 bytes, which takes a limited number of bytes at once; full, it fails.
 #[derive(Clone, Copy)]
 pub struct Disk {
     held: [u8; 256],
@@ -29,7 +29,7 @@ impl Disk {
         self.held.get(..self.len).unwrap_or(&[])
     }
 
-    /// Adds the front of some bytes, and says how many.
+    /// Appends a prefix of some bytes, and returns its length.
     fn add(&mut self, buf: &[u8]) -> usize {
         let left = self.room.saturating_sub(self.len);
         let Some(place) = self.held.get_mut(self.len..) else {

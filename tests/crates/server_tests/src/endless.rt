@@ -8,7 +8,7 @@ use std::io::{Read, Write};
 use std::process::Abort;
 use std::test::Fail;
 
-/// Zeros, as many as a read has room for.
+/// Gives zeros, as many as a read has room for.
 #[derive(Drop)]
 struct Zeros {
     /// How many times `read` was called.
@@ -40,7 +40,7 @@ impl Write for Counted {
     }
 }
 
-/// A clock that stands.
+/// A clock that doesn't advance.
 struct Still;
 
 impl Clock for Still {

@@ -1,4 +1,6 @@
-//! Tests of a server that no script sees from outside: the trail on disks of every size, an endless reader, what is remembered, numbers, silent clients, a restart, calls that are run again, and the last epoch of a book.
+//! Tests of a server whose state no script sees from outside: the trail on disks of every size, an endless reader, what
+//! is remembered, numbers, silent clients, a restart, the log of a hub, calls that are run again, and the last epoch of
+//! a book.
 #![tactic(auto)]
 
 #[cfg(test)]
@@ -7,6 +9,8 @@ mod disk;
 mod endless;
 #[cfg(test)]
 mod kept;
+#[cfg(test)]
+mod logs;
 #[cfg(test)]
 mod numbers;
 #[cfg(test)]

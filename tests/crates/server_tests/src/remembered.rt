@@ -6,13 +6,14 @@ use std::hash::RandomState;
 use std::process::Abort;
 use std::test::Fail;
 
-/// PUTROOTFH and GETATTR of change (3), by bob, user 1002, as a record in hexadecimal digits: one look at the root's list.
+/// PUTROOTFH and GETATTR of change (3), by bob, user 1002, as a record in hexadecimal digits. The call examines the
+/// root's ACL (access control list) once.
 const BOB_LOOKS: &str =
     "8000005c000000010000000000000002000186a3000000040000000100000001000000180000000000000000000003ea\
      00000007000000010000000700000000000000000000000000000001000000020000001800000009000000010000\
      0008";
 
-/// How many pairs a server remembers, and how many entries it has looked at.
+/// How many pairs a server remembers, and how many ACEs it has examined.
 fn seen(hub: &Hub) -> (usize, u64) {
     let guard = hub.server().guard();
     (guard.remembered().count(), guard.examined())
@@ -26,7 +27,7 @@ fn call(hub: &mut Hub, conn: ConnId, record: &[u8]) -> bool {
     hub.feed(conn, record, now).is_ok()
 }
 
-/// The second of two equal calls finds what the first one left, and looks at no entry.
+/// The second of two equal calls finds what the first one left, and examines no ACE.
 #[test]
 fn an_equal_call_looks_at_no_entry(rt: HostRuntime) -> Result<(), Fail> {
     let record = hex::decode(rt.alloc(), BOB_LOOKS)?;

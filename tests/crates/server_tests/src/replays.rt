@@ -1,4 +1,4 @@
-//! A call that is run again, with memory refused to an operation of it.
+//! A call that is run again, with an allocation of one operation that fails.
 
 use compound_run::{Args, MAX_RESULTS, Ran, Server};
 use nfs_types::Moment;
@@ -11,7 +11,7 @@ use std::test::Fail;
 use who_book::Book;
 use xdr_wire::Writer;
 
-/// EXCHANGE_ID of the owner `alice`, and CREATE_SESSION of client 1, each alone in its COMPOUND.
+/// EXCHANGE_ID of the owner `alice`, and CREATE_SESSION of client 1, each as the only operation of its COMPOUND.
 const EXCHANGE_ID: [u32; 12] = [0, 1, 1, 42, 0, 7, 5, 0x616c_6963, 0x6500_0000, 0, 0, 0];
 
 const CREATE_SESSION: [u32; 24] = [
@@ -53,7 +53,8 @@ const OK: u32 = 0;
 
 const DELAY: u32 = 10_008;
 
-/// The end of a call that was run again: the facts of its record, its status, how many results it has, and whether `a` and `b` are there.
+/// The end of a call that was run again: the facts of its record, its status, the number of its results, and whether
+/// `a` and `b` exist.
 type End = (Option<Ran>, u32, u32, [bool; 2]);
 
 fn bytes_of(alloc: Global, words: &[u32]) -> Result<Vec<u8>, AllocError> {
@@ -78,7 +79,7 @@ fn args(bytes: &[u8]) -> Args<'_> {
     }
 }
 
-/// A server to which a client with a session is known, which the user 0 has made.
+/// A server that has a client with a session, of user 0.
 fn with_session(alloc: Global, hasher: RandomState, caller: &Caller) -> Result<Server, Fail> {
     let Some(capacity) = NonZeroUsize::new(8) else {
         return Err(Fail::new("0 is no capacity"));
@@ -104,7 +105,7 @@ fn has(server: &Server, name: &[u8]) -> bool {
     server.tree().find(server.tree().root(), name).is_some()
 }
 
-/// Runs `MAKE` again, with memory refused at a place.
+/// Runs `MAKE` again, with an allocation that fails at a place.
 fn made_again(alloc: Global, hasher: RandomState, delayed: Option<u32>) -> Result<End, Fail> {
     let caller = Caller::new(0, 0, &[]);
     let mut server = with_session(alloc, hasher, &caller)?;
@@ -116,21 +117,25 @@ fn made_again(alloc: Global, hasher: RandomState, delayed: Option<u32>) -> Resul
     Ok((ran, word(results, 0), word(results, 8), names))
 }
 
-fn told(kept: bool, delayed: Option<u32>) -> Option<Ran> {
+fn replayed(kept: bool, delayed: Option<u32>) -> Option<Ran> {
     Some(Ran { kept, delayed })
 }
 
-/// The operation at the place is answered DELAY, where it takes memory, and isn't run. A place without such an operation changes nothing.
+/// The operation at the place is answered DELAY, if it allocates, and isn't run. A place without such an operation
+/// changes nothing.
 #[test]
 fn memory_is_refused_at_the_place_of_the_record(rt: HostRuntime) -> Result<(), Fail> {
     let hasher = RandomState::new(&rt)?;
-    let whole: End = (told(true, None), OK, 5, [true, true]);
+    let whole: End = (replayed(true, None), OK, 5, [true, true]);
     let cases: [(Option<u32>, End); 6] = [
         (None, whole),
         (Some(0), whole),
-        (Some(1), (told(false, Some(1)), DELAY, 3, [false, false])),
+        (
+            Some(1),
+            (replayed(false, Some(1)), DELAY, 3, [false, false]),
+        ),
         (Some(2), whole),
-        (Some(3), (told(true, Some(3)), DELAY, 5, [true, false])),
+        (Some(3), (replayed(true, Some(3)), DELAY, 5, [true, false])),
         (Some(4), whole),
     ];
     for (delayed, end) in cases {

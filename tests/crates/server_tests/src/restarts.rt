@@ -1,6 +1,7 @@
-//! A server that goes on after a restart over what was kept (RFC 8881, section 2.10.6.5), and what CREATE_SESSION grants.
+//! A server that continues after a restart from a store (RFC 8881, section 2.10.6.5), and the flags that CREATE_SESSION
+//! grants.
 
-use compound_run::{Known, Open};
+use compound_run::{ClientState, Open};
 use nfs_hub::{ConnId, Hub};
 use nfs_types::Moment;
 use node_tree::Tree;
@@ -10,20 +11,21 @@ use std::hash::RandomState;
 use std::test::Fail;
 use who_book::Book;
 
-/// The call of a COMPOUND by user 1001, in group 100, up to the number of its operations.
+/// The call of a COMPOUND by user 1001, in group 100, up to the count of its operations.
 const CALL: [u32; 17] = [
     1, 0, 2, 100_003, 4, 1, 1, 20, 0, 0, 1001, 100, 0, 0, 0, 0, 1,
 ];
 
-/// EXCHANGE_ID of the owner `alice`, and CREATE_SESSION of client 1 that asks for CREATE_SESSION4_FLAG_PERSIST, each alone.
+/// EXCHANGE_ID of the owner `alice`, and CREATE_SESSION of client 1 that asks for CREATE_SESSION4_FLAG_PERSIST, each as
+/// the only operation.
 const EXCHANGE_ID: [u32; 10] = [1, 42, 0, 7, 5, 0x616c_6963, 0x6500_0000, 0, 0, 0];
 
 const PERSISTENT: [u32; 22] = [
     1, 43, 0, 1, 1, 1, 0, 65_536, 65_536, 0, 8, 8, 0, 0, 4_096, 4_096, 0, 2, 1, 0, 0, 0,
 ];
 
-/// The places in the record of a reply: the status of a COMPOUND, the flags of a CREATE_SESSION that is alone, and, behind
-/// SEQUENCE, PUTROOTFH and LOOKUP, the bytes of a READ.
+/// The places in the record of a reply: the status of a COMPOUND; the flags of a CREATE_SESSION that is the only
+/// operation; and the bytes of a READ after SEQUENCE, PUTROOTFH and LOOKUP.
 const STATUS: usize = 28;
 
 const FLAGS: usize = 68;
@@ -80,7 +82,7 @@ fn reply(alloc: Global, hub: &mut Hub, conn: ConnId, compound: &[u32]) -> Result
     Ok(bytes)
 }
 
-/// The flags that CREATE_SESSION answers where CREATE_SESSION4_FLAG_PERSIST is asked for.
+/// The flags that CREATE_SESSION answers if CREATE_SESSION4_FLAG_PERSIST is requested.
 fn granted(alloc: Global, mut hub: Hub) -> Result<Option<u32>, Fail> {
     let conn = hub.connect()?;
     reply(alloc, &mut hub, conn, &EXCHANGE_ID)?;
@@ -91,7 +93,7 @@ fn granted(alloc: Global, mut hub: Hub) -> Result<Option<u32>, Fail> {
     Ok(word(&bytes, FLAGS))
 }
 
-/// CREATE_SESSION4_FLAG_PERSIST is granted where sessions outlive a restart, and not where they don't.
+/// CREATE_SESSION4_FLAG_PERSIST is granted if and only if sessions are persistent.
 #[test]
 fn persistence_is_granted_where_sessions_outlive_a_restart(rt: HostRuntime) -> Result<(), Fail> {
     let alloc = rt.alloc();
@@ -100,7 +102,7 @@ fn persistence_is_granted_where_sessions_outlive_a_restart(rt: HostRuntime) -> R
     assert_eq!(rt; granted(alloc, lasting)?, Some(1));
     let plain = Hub::new(alloc, Book::default(alloc), hasher)?;
     assert_eq!(rt; granted(alloc, plain)?, Some(0));
-    let nothing = Known::nothing(alloc);
+    let nothing = ClientState::nothing(alloc);
     let restored = Hub::restored(
         alloc,
         Tree::sample(alloc)?,
@@ -112,8 +114,8 @@ fn persistence_is_granted_where_sessions_outlive_a_restart(rt: HostRuntime) -> R
     Ok(())
 }
 
-/// The statuses of a call of PUTROOTFH, and of the same call sent again: as it was, with another sa_highest_slotid, with
-/// another sa_cachethis, and with both.
+/// The statuses of a call of PUTROOTFH, and of the same call sent again: unchanged, with another sa_highest_slotid,
+/// with another sa_cachethis, and with both.
 fn sent_again(alloc: Global, mut hub: Hub) -> Result<[Option<u32>; 5], Fail> {
     let conn = hub.connect()?;
     reply(alloc, &mut hub, conn, &EXCHANGE_ID)?;
@@ -127,8 +129,8 @@ fn sent_again(alloc: Global, mut hub: Hub) -> Result<[Option<u32>; 5], Fail> {
     Ok(statuses)
 }
 
-/// A client may send a call again with another sa_highest_slotid, as Linux does. That is a repeat where sessions outlive
-/// a restart. Else a repeat has all bytes of the call.
+/// A client may send a call again with another sa_highest_slotid, as Linux does. That is a retry if sessions are
+/// persistent. Else a retry has all bytes of the call.
 #[test]
 fn the_highest_slot_of_a_call_sent_again(rt: HostRuntime) -> Result<(), Fail> {
     let alloc = rt.alloc();
@@ -161,7 +163,7 @@ fn the_highest_slot_of_a_call_sent_again(rt: HostRuntime) -> Result<(), Fail> {
 }
 
 /// Client 5 with its session 9, and its open 3 of the file `notes`, which is object 2.
-fn known(alloc: Global) -> Result<Known, Fail> {
+fn client_state(alloc: Global) -> Result<ClientState, Fail> {
     let mut clients = Clients::new(alloc);
     if !clients.restore_numbers(6, 10) {
         return Err(Fail::new("the next numbers don't fit"));
@@ -192,7 +194,7 @@ fn known(alloc: Global) -> Result<Known, Fail> {
         access: 1,
         seqid: 2,
     })?;
-    Ok(Known {
+    Ok(ClientState {
         clients,
         opens,
         next_open: 4,
@@ -201,11 +203,11 @@ fn known(alloc: Global) -> Result<Known, Fail> {
 
 fn restored(
     alloc: Global,
-    known: Known,
+    client_state: ClientState,
     hasher: RandomState,
 ) -> Result<Result<Hub, RestoreFault>, Fail> {
     let tree = Tree::sample(alloc)?;
-    Ok(Hub::restored(alloc, tree, known, Book::default(alloc), hasher))
+    Ok(Hub::restored(alloc, tree, client_state, Book::default(alloc), hasher))
 }
 
 /// SEQUENCE of a session, PUTROOTFH, LOOKUP of `notes`, and READ by an open with seqid 2, as one COMPOUND.
@@ -217,14 +219,14 @@ fn reading(session: u32, number: u32, open: u32) -> [u32; 22] {
     ]
 }
 
-/// A session and an open of before a restart serve after it, and no other does.
+/// A session and an open from before a restart can be used after it, and no other.
 #[test]
 fn a_session_and_an_open_go_on_after_a_restart(rt: HostRuntime) -> Result<(), Fail> {
     let alloc = rt.alloc();
     let hasher = RandomState::new(&rt)?;
-    let mut hub = restored(alloc, known(alloc)?, hasher)??;
+    let mut hub = restored(alloc, client_state(alloc)?, hasher)??;
     let conn = hub.connect()?;
-    // the session, the number of the call, the open, and the status
+    // the session, the sequence ID of the call, the open, and the status
     let table: [(u32, u32, u32, u32); 4] = [
         (9, 7, 3, OK),
         (9, 8, 4, BAD_STATEID),
@@ -247,9 +249,9 @@ fn a_session_and_an_open_go_on_after_a_restart(rt: HostRuntime) -> Result<(), Fa
     Ok(())
 }
 
-/// Opens that can't stand aren't restored.
+/// Opens that don't fit aren't restored.
 #[test]
-fn an_open_that_cannot_stand_is_a_misfit(rt: HostRuntime) -> Result<(), Fail> {
+fn an_open_that_cannot_be_is_a_misfit(rt: HostRuntime) -> Result<(), Fail> {
     let alloc = rt.alloc();
     let hasher = RandomState::new(&rt)?;
     // the number of the open, its client, its object, its access, its seqid, and the number of the next one
@@ -269,7 +271,7 @@ fn an_open_that_cannot_stand_is_a_misfit(rt: HostRuntime) -> Result<(), Fail> {
         (3, 5, 2, 1, 2, (1 << 63) + 1, false),
     ];
     for (number, client, object, access, seqid, next_open, fits) in table {
-        let mut all = known(alloc)?;
+        let mut all = client_state(alloc)?;
         for open in all.opens.iter_mut() {
             open.number = number;
             open.client = client;
@@ -278,13 +280,13 @@ fn an_open_that_cannot_stand_is_a_misfit(rt: HostRuntime) -> Result<(), Fail> {
             open.seqid = seqid;
         }
         all.next_open = next_open;
-        let told = match restored(alloc, all, hasher)? {
+        let replayed = match restored(alloc, all, hasher)? {
             Ok(_) => true,
             Err(RestoreFault::Misfit) => false,
             Err(RestoreFault::Memory) => return Err(Fail::new("there is no memory")),
         };
         assert_eq!(rt;
-            told,
+            replayed,
             fits,
             "{number} {client} {object} {access} {seqid} {next_open}"
         );

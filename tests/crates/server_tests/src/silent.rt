@@ -1,4 +1,4 @@
-//! Clients of which nothing is heard any more, and who is let go of them.
+//! Clients that are silent, and which of them expire.
 
 use nfs_hub::{ConnId, Hub};
 use nfs_types::Moment;
@@ -68,50 +68,51 @@ fn exchange(
     Ok(Some(u32::from_be_bytes([*a, *b, *c, *d])))
 }
 
-/// A hub that so many clients are known to, the first of them heard in second 1,000 and each a second after the one before.
+/// A hub with `count` clients. The lease of the first is renewed in second 1,000, and that of each other one a second
+/// after the one before.
 fn known(alloc: Global, hasher: RandomState, count: u32) -> Result<(Hub, ConnId), Fail> {
     let mut hub = Hub::new(alloc, Book::default(alloc), hasher)?;
     let conn = hub.connect()?;
     for owner in 0..count {
-        let told = exchange(alloc, &mut hub, conn, owner, 1_000 + i64::from(owner))?;
-        if told != Some(OK) {
+        let replayed = exchange(alloc, &mut hub, conn, owner, 1_000 + i64::from(owner))?;
+        if replayed != Some(OK) {
             return Err(Fail::new("a client isn't known"));
         }
     }
     Ok((hub, conn))
 }
 
-/// The most silent client goes, more than 90 seconds after it was heard, and one at a time.
+/// The most silent client expires more than 90 seconds after its lease was renewed, and one client at a time.
 #[test]
-fn the_most_silent_one_is_let_go(rt: HostRuntime) -> Result<(), Fail> {
+fn the_most_silent_one_expires(rt: HostRuntime) -> Result<(), Fail> {
     let (mut hub, conn) = known(rt.alloc(), RandomState::new(&rt)?, MOST)?;
     assert_eq!(rt;
         exchange(rt.alloc(), &mut hub, conn, 99, 1_090)?,
         Some(NOSPC)
     );
-    assert_eq!(rt; hub.let_go(at(1_090)), None);
-    assert_eq!(rt; hub.let_go(at(1_091)), Some(1));
-    assert_eq!(rt; hub.let_go(at(1_091)), None);
+    assert_eq!(rt; hub.expire_client(at(1_090)), None);
+    assert_eq!(rt; hub.expire_client(at(1_091)), Some(1));
+    assert_eq!(rt; hub.expire_client(at(1_091)), None);
     assert_eq!(rt; exchange(rt.alloc(), &mut hub, conn, 99, 1_091)?, Some(OK));
-    assert_eq!(rt; hub.let_go(at(1_092)), Some(2));
+    assert_eq!(rt; hub.expire_client(at(1_092)), Some(2));
     Ok(())
 }
 
-/// Who was heard again isn't the most silent one.
+/// A client whose lease was renewed again isn't the most silent one.
 #[test]
-fn one_that_is_heard_stays(rt: HostRuntime) -> Result<(), Fail> {
+fn one_whose_lease_is_renewed_stays(rt: HostRuntime) -> Result<(), Fail> {
     let (mut hub, conn) = known(rt.alloc(), RandomState::new(&rt)?, 40)?;
     assert_eq!(rt; exchange(rt.alloc(), &mut hub, conn, 0, 1_080)?, Some(OK));
-    assert_eq!(rt; hub.let_go(at(1_091)), None);
-    assert_eq!(rt; hub.let_go(at(1_092)), Some(2));
+    assert_eq!(rt; hub.expire_client(at(1_091)), None);
+    assert_eq!(rt; hub.expire_client(at(1_092)), Some(2));
     Ok(())
 }
 
-/// While there is room, a silent client keeps everything.
+/// While there is room, no silent client expires.
 #[test]
-fn nobody_is_let_go_while_there_is_room(rt: HostRuntime) -> Result<(), Fail> {
+fn nobody_expires_while_there_is_room(rt: HostRuntime) -> Result<(), Fail> {
     let (mut hub, _conn) = known(rt.alloc(), RandomState::new(&rt)?, 33)?;
-    assert_eq!(rt; hub.let_go(at(1_000_000)), Some(1));
-    assert_eq!(rt; hub.let_go(at(1_000_000)), None);
+    assert_eq!(rt; hub.expire_client(at(1_000_000)), Some(1));
+    assert_eq!(rt; hub.expire_client(at(1_000_000)), None);
     Ok(())
 }

@@ -1,4 +1,4 @@
-//! Calls that are refused, and what they leave.
+//! Calls that are refused, and the state after them.
 
 use crate::memory::Memory;
 use crate::script::{IDENTITY, checkpoint, nothing, run};
@@ -26,7 +26,7 @@ fn a_call_out_of_turn_is_refused(rt: HostRuntime) -> Result<(), Fail> {
         ),
         (1, 1, 5)
     );
-    // A record gives up the checkpoint that was begun.
+    // A record abandons the checkpoint that was begun.
     assert!(rt; journal.begin(&mut disk, alloc).is_ok());
     assert!(rt; journal.append(&mut disk, alloc, &[1]).is_ok());
     assert!(rt; journal.part(&mut disk, alloc, b"late") == refused);

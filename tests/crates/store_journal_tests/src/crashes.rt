@@ -8,8 +8,8 @@ use std::process::Abort;
 use std::test::Fail;
 use store_journal::JournalFault;
 
-/// The first place at which a write changes what is on the disk. Up to it a crash leaves the bytes,
-/// since old and new agree.
+/// The first place at which a write changes the bytes on the disk. A crash leaves the bytes before it, since old and
+/// new agree.
 fn first_change(file: &[u8], at: usize, bytes: &[u8]) -> usize {
     for (place, byte) in bytes.iter().enumerate() {
         if file.get(at.saturating_add(place)) != Some(byte) {
@@ -19,7 +19,7 @@ fn first_change(file: &[u8], at: usize, bytes: &[u8]) -> usize {
     at.saturating_add(bytes.len())
 }
 
-/// What a crash leaves: of each sixth of a loose write the new bytes, the old ones, or others.
+/// What a crash leaves: of each sixth of an unsynced write the new bytes, the old ones, or others.
 pub(crate) fn spoiled(
     alloc: Global,
     left: &Left,
@@ -32,13 +32,13 @@ pub(crate) fn spoiled(
         let sixth = write.bytes.len() / 6 + 1;
         for (place, byte) in write.bytes.iter().enumerate() {
             let at = write.at.saturating_add(place);
-            let stands = (mask >> (place / sixth).min(31) as u32) & 1 == 1;
+            let holds = (mask >> (place / sixth).min(31) as u32) & 1 == 1;
             let file = image.file_mut(write.slot);
             while file.len() <= at {
                 file.push(0)?;
             }
             if let Some(old) = file.get_mut(at) {
-                if stands {
+                if holds {
                     *old = *byte;
                 } else if at >= first
                     && let Some(other) = other
@@ -51,8 +51,8 @@ pub(crate) fn spoiled(
     Ok(image)
 }
 
-/// The number of crashes after some events that leave less than was answered, more than was appended, or a refusal.
-/// The next event may be under way.
+/// The number of crashes after some events that leave less than was answered, more than was appended, or a refusal. The
+/// next event may be in progress.
 pub(crate) fn bad_after(
     alloc: Global,
     disk: &Memory,
@@ -103,8 +103,8 @@ pub(crate) fn bad_in(alloc: Global, disk: &Memory, most: u32) -> Result<u32, All
     Ok(bad)
 }
 
-/// Three checkpoints of a turn, three frames, a sync and a turn are 18 calls. Seven records are 14, a mark two, and a
-/// checkpoint that is given up five.
+/// Three checkpoints of a turn, three frames, a sync and a turn are 18 calls. Seven records are 14, a mark two, and an
+/// abandoned checkpoint five.
 const CALLS: u32 = 39;
 
 #[test]

@@ -1,4 +1,4 @@
-//! Memory refused.
+//! Allocations that fail.
 
 use crate::memory::Memory;
 use crate::script::{after_run, nothing, number_of, run};

@@ -11,7 +11,7 @@ pub(crate) struct Image {
 }
 
 impl Image {
-    /// A copy of it.
+    /// A copy of the image.
     pub(crate) fn copy(&self, alloc: Global) -> Result<Image, AllocError> {
         let current = match &self.current {
             Some(bytes) => Some(bytes.to_vec(alloc)?),
@@ -39,7 +39,7 @@ impl Image {
     }
 }
 
-/// The bytes, or that there is no memory.
+/// The bytes, or `Memory`.
 pub(crate) fn lent<A: Allocator>(alloc: A, bytes: &[u8]) -> Result<Vec<u8, A>, LoadFault> {
     match bytes.to_vec(alloc) {
         Ok(bytes) => Ok(bytes),
@@ -47,7 +47,7 @@ pub(crate) fn lent<A: Allocator>(alloc: A, bytes: &[u8]) -> Result<Vec<u8, A>, L
     }
 }
 
-/// Nothing can be written to it.
+/// The image can't be written.
 impl Disk for Image {
     fn load_current<A: Allocator>(&mut self, alloc: A) -> Result<Option<Vec<u8, A>>, LoadFault> {
         match &self.current {
@@ -60,7 +60,7 @@ impl Disk for Image {
         lent(alloc, self.file(slot))
     }
 
-    fn write(&mut self, _slot: Slot, _at: u64, _front: &[u8], _body: &[u8], _back: &[u8]) -> bool {
+    fn write(&mut self, _slot: Slot, _at: u64, _prefix: &[u8], _body: &[u8], _back: &[u8]) -> bool {
         false
     }
 

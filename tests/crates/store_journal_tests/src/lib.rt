@@ -1,4 +1,5 @@
-//! Tests of `store_journal`: a disk in memory that drops, cuts, reorders and spoils what wasn't synced, and rot.
+//! Tests of `store_journal`: a disk in memory that loses, cuts, reorders and corrupts unsynced bytes, and corrupt
+//! durable bytes.
 #![tactic(auto)]
 
 #[cfg(test)]

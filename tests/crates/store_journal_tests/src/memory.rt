@@ -1,20 +1,20 @@
-//! CURRENT and two files in memory that keep all that was done, so that each crash can be played.
+//! CURRENT and two files in memory, with all events, so that each crash can be played.
 
 use crate::image::{Image, lent};
 use std::alloc::{AllocError, Allocator, Global};
 use store_journal::{Disk, LoadFault, Slot};
 
-/// What was done.
+/// An event.
 #[derive(Drop)]
 pub(crate) enum Done {
     Wrote(Slot, u64, Vec<u8>),
     Synced(Slot),
     Turned(Vec<u8>),
-    /// The program ended. What it hadn't synced by then stays in memory, and no later sync keeps it.
+    /// The program ended. What it hadn't synced by then stays in memory, and no later sync makes it durable.
     Ended,
 }
 
-/// What was done, and what had been answered and appended before it.
+/// An event, and the last records that had been answered and appended before it.
 #[derive(Drop)]
 pub(crate) struct Event {
     pub done: Done,
@@ -22,19 +22,20 @@ pub(crate) struct Event {
     pub all: u8,
 }
 
-/// A disk of which a number of calls succeed. No memory for an event counts as a call that came too late.
+/// A disk on which the first `good` calls succeed. An allocation for an event that fails counts as a call after a
+/// failed one.
 #[derive(Drop)]
 pub(crate) struct Memory {
     alloc: Global,
-    /// What stood there before.
+    /// The image before the first event.
     pub before: Image,
     pub events: Vec<Event>,
-    /// The number of calls that succeed yet.
+    /// The number of further calls that succeed.
     pub good: u32,
     pub has_failed: bool,
-    /// The number of calls that came after one that failed.
+    /// The number of calls after one that failed.
     pub late: u32,
-    /// The last record that was answered for.
+    /// The last record whose append was answered.
     pub kept: u8,
     /// The last record that was appended.
     pub all: u8,
@@ -85,7 +86,7 @@ impl Memory {
         true
     }
 
-    /// What a read returns now.
+    /// The image that a read returns now.
     fn seen(&self) -> Result<Image, AllocError> {
         let left = left_of(self.alloc, &self.before, &self.events)?;
         let mut image = left.safe;
@@ -120,9 +121,9 @@ impl Disk for Memory {
         lent(alloc, image.file(slot))
     }
 
-    fn write(&mut self, slot: Slot, at: u64, front: &[u8], body: &[u8], back: &[u8]) -> bool {
+    fn write(&mut self, slot: Slot, at: u64, prefix: &[u8], body: &[u8], back: &[u8]) -> bool {
         let is_good = self.is_good();
-        match joined(self.alloc, front, body, back) {
+        match joined(self.alloc, prefix, body, back) {
             Ok(bytes) => self.note(Done::Wrote(slot, at, bytes)),
             Err(AllocError) => self.late = self.late.saturating_add(1),
         }
@@ -149,14 +150,14 @@ impl Disk for Memory {
     }
 }
 
-fn joined(alloc: Global, front: &[u8], body: &[u8], back: &[u8]) -> Result<Vec<u8>, AllocError> {
-    let mut bytes = front.to_vec(alloc)?;
+fn joined(alloc: Global, prefix: &[u8], body: &[u8], back: &[u8]) -> Result<Vec<u8>, AllocError> {
+    let mut bytes = prefix.to_vec(alloc)?;
     bytes.extend_from_slice(body)?;
     bytes.extend_from_slice(back)?;
     Ok(bytes)
 }
 
-/// Bytes over those of a file, which is made longer where it is too short.
+/// Puts bytes over those of a file, which is extended if it is too short.
 pub(crate) fn put(file: &mut Vec<u8>, at: usize, bytes: &[u8]) -> Result<(), AllocError> {
     while file.len() < at.saturating_add(bytes.len()) {
         file.push(0)?;
@@ -169,7 +170,7 @@ pub(crate) fn put(file: &mut Vec<u8>, at: usize, bytes: &[u8]) -> Result<(), All
     Ok(())
 }
 
-/// A write that wasn't synced.
+/// An unsynced write.
 #[derive(Drop)]
 pub(crate) struct Loose {
     pub slot: Slot,
@@ -179,14 +180,14 @@ pub(crate) struct Loose {
     pub is_old: bool,
 }
 
-/// What is on the disk, and what may be.
+/// The durable bytes, and the unsynced writes.
 #[derive(Drop)]
 pub(crate) struct Left {
     pub safe: Image,
     pub loose: Vec<Loose>,
 }
 
-/// What is on the disk after these events.
+/// The state of the disk after these events.
 pub(crate) fn left_of(alloc: Global, before: &Image, events: &[Event]) -> Result<Left, AllocError> {
     let mut left = Left {
         safe: before.copy(alloc)?,
@@ -198,7 +199,7 @@ pub(crate) fn left_of(alloc: Global, before: &Image, events: &[Event]) -> Result
     Ok(left)
 }
 
-/// One event more.
+/// Applies one more event.
 pub(crate) fn apply(alloc: Global, left: &mut Left, done: &Done) -> Result<(), AllocError> {
     match done {
         Done::Wrote(slot, at, bytes) => {

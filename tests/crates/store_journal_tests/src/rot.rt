@@ -1,4 +1,4 @@
-//! Bits turned, ends cut off, and files of elsewhere.
+//! Flipped bits, files that are cut, and files of another store.
 
 use crate::image::Image;
 use crate::memory::{Memory, left_of};
@@ -8,16 +8,16 @@ use std::process::Abort;
 use std::test::Fail;
 use store_journal::{Current, Identity, Journal, OpenFault, Slot};
 
-/// What was read over all bits of some bytes: as often it was refused, all was read, a front was, and something else.
+/// The counts of what was read over all bits of some bytes: refused, all records, a prefix of them, and something else.
 #[derive(Drop, Debug, PartialEq)]
 struct Seen {
     refused: u32,
     all: u32,
-    fronts: u32,
+    prefixes: u32,
     wrong: u32,
 }
 
-/// Turns each bit of some bytes of a file.
+/// Flips each bit of some bytes of a file.
 fn turn_each(
     alloc: Global,
     image: &Image,
@@ -28,7 +28,7 @@ fn turn_each(
     let mut seen = Seen {
         refused: 0,
         all: 0,
-        fronts: 0,
+        prefixes: 0,
         wrong: 0,
     };
     for place in from..to {
@@ -41,20 +41,21 @@ fn turn_each(
                 REFUSED => seen.refused = seen.refused.saturating_add(1),
                 7 => seen.all = seen.all.saturating_add(1),
                 WRONG => seen.wrong = seen.wrong.saturating_add(1),
-                _ => seen.fronts = seen.fronts.saturating_add(1),
+                _ => seen.prefixes = seen.prefixes.saturating_add(1),
             }
         }
     }
     Ok(seen)
 }
 
-/// The checkpoint's frames have 72, 96 and 68 bytes, and each record's frame 72: the first file counts after three.
+/// The checkpoint's frames have 72, 96 and 68 bytes, and each record's frame 72. After three checkpoints the first file
+/// is active.
 const CHECKPOINT: usize = 236;
 
 const RECORD: usize = 72;
 
 #[test]
-fn each_bit_of_what_was_safe_is_told(rt: HostRuntime) -> Result<(), Fail> {
+fn each_bit_of_what_was_safe_is_reported(rt: HostRuntime) -> Result<(), Fail> {
     let alloc = rt.alloc();
     let image = after_run(alloc)?;
     assert_eq!(rt; number_in(alloc, &mut image.copy(alloc)?), 7);
@@ -65,7 +66,7 @@ fn each_bit_of_what_was_safe_is_told(rt: HostRuntime) -> Result<(), Fail> {
         Seen {
             refused: safe as u32 * 8,
             all: 0,
-            fronts: 0,
+            prefixes: 0,
             wrong: 0
         }
     );
@@ -76,20 +77,20 @@ fn each_bit_of_what_was_safe_is_told(rt: HostRuntime) -> Result<(), Fail> {
         Seen {
             refused: 0,
             all: 0,
-            fronts: RECORD as u32 * 8,
+            prefixes: RECORD as u32 * 8,
             wrong: 0
         }
     );
-    // Nothing behind it, and nothing of the other file, is looked at.
-    let behind = turn_each(alloc, &image, Slot::A, safe + RECORD, image.a.len())?;
-    assert_eq!(rt; (behind.refused, behind.fronts, behind.wrong), (0, 0, 0));
+    // No byte after it, and no byte of the inactive file, is examined.
+    let rest = turn_each(alloc, &image, Slot::A, safe + RECORD, image.a.len())?;
+    assert_eq!(rt; (rest.refused, rest.prefixes, rest.wrong), (0, 0, 0));
     let other = turn_each(alloc, &image, Slot::B, 0, image.b.len())?;
-    assert_eq!(rt; (other.refused, other.fronts, other.wrong), (0, 0, 0));
+    assert_eq!(rt; (other.refused, other.prefixes, other.wrong), (0, 0, 0));
     Ok(())
 }
 
 #[test]
-fn a_mark_tells_the_last_record_too(rt: HostRuntime) -> Result<(), Fail> {
+fn a_mark_covers_the_last_record_too(rt: HostRuntime) -> Result<(), Fail> {
     let alloc = rt.alloc();
     let mut disk = Memory::new(alloc, nothing(alloc), 1000);
     let Ok(mut journal) = run(alloc, &mut disk) else {
@@ -104,7 +105,7 @@ fn a_mark_tells_the_last_record_too(rt: HostRuntime) -> Result<(), Fail> {
         Seen {
             refused: safe as u32 * 8,
             all: 0,
-            fronts: 0,
+            prefixes: 0,
             wrong: 0
         }
     );
@@ -112,7 +113,7 @@ fn a_mark_tells_the_last_record_too(rt: HostRuntime) -> Result<(), Fail> {
 }
 
 #[test]
-fn each_cut_of_the_checkpoint_is_told(rt: HostRuntime) -> Result<(), Fail> {
+fn each_cut_of_the_checkpoint_is_reported(rt: HostRuntime) -> Result<(), Fail> {
     let alloc = rt.alloc();
     let image = after_run(alloc)?;
     for len in 0..image.a.len() {
@@ -129,7 +130,7 @@ fn each_cut_of_the_checkpoint_is_told(rt: HostRuntime) -> Result<(), Fail> {
 }
 
 #[test]
-fn each_bit_and_length_of_current_is_told(rt: HostRuntime) -> Result<(), Fail> {
+fn each_bit_and_length_of_current_is_reported(rt: HostRuntime) -> Result<(), Fail> {
     let alloc = rt.alloc();
     let image = after_run(alloc)?;
     let Some(current) = &image.current else {
@@ -144,23 +145,23 @@ fn each_bit_and_length_of_current_is_told(rt: HostRuntime) -> Result<(), Fail> {
                 *byte ^= 1 << bit;
             }
             turned.current = Some(bytes);
-            assert_eq!(rt; fault_in(alloc, &mut turned), Some(OpenFault::Damaged));
+            assert_eq!(rt; fault_in(alloc, &mut turned), Some(OpenFault::Corrupt));
         }
         let mut cut = image.copy(alloc)?;
         let mut bytes = current.to_vec(alloc)?;
         bytes.truncate(place);
         cut.current = Some(bytes);
-        assert_eq!(rt; fault_in(alloc, &mut cut), Some(OpenFault::Damaged));
+        assert_eq!(rt; fault_in(alloc, &mut cut), Some(OpenFault::Corrupt));
     }
     let mut longer = image.copy(alloc)?;
     let mut bytes = current.to_vec(alloc)?;
     bytes.push(0)?;
     longer.current = Some(bytes);
-    assert_eq!(rt; fault_in(alloc, &mut longer), Some(OpenFault::Damaged));
+    assert_eq!(rt; fault_in(alloc, &mut longer), Some(OpenFault::Corrupt));
     Ok(())
 }
 
-/// What another store has, whose identity is another one.
+/// The image of another store, with another identity.
 fn elsewhere(alloc: Global) -> Result<Image, AllocError> {
     let mut disk = Memory::new(alloc, nothing(alloc), 1000);
     let identity = Identity { high: 1, low: 2 };
@@ -170,39 +171,39 @@ fn elsewhere(alloc: Global) -> Result<Image, AllocError> {
 }
 
 #[test]
-fn what_is_missing_or_of_elsewhere_is_told(rt: HostRuntime) -> Result<(), Fail> {
+fn what_is_missing_or_of_elsewhere_is_reported(rt: HostRuntime) -> Result<(), Fail> {
     let alloc = rt.alloc();
     let image = after_run(alloc)?;
-    let damaged = Some(OpenFault::Damaged);
-    // CURRENT is gone, and with it one of the files.
+    let corrupt = Some(OpenFault::Corrupt);
+    // CURRENT is missing, and with it one of the files.
     let mut lost = image.copy(alloc)?;
     lost.current = None;
-    assert_eq!(rt; fault_in(alloc, &mut lost), damaged);
+    assert_eq!(rt; fault_in(alloc, &mut lost), corrupt);
     lost.a.clear();
-    assert_eq!(rt; fault_in(alloc, &mut lost), damaged);
+    assert_eq!(rt; fault_in(alloc, &mut lost), corrupt);
     // Without both of them the store is new.
     lost.b.clear();
     assert_eq!(rt; fault_in(alloc, &mut lost), None);
-    // The file that counts is gone, or zeroed.
-    let mut gone = image.copy(alloc)?;
-    gone.a.clear();
-    assert_eq!(rt; fault_in(alloc, &mut gone), damaged);
+    // The active file is missing, or zeroed.
+    let mut removed = image.copy(alloc)?;
+    removed.a.clear();
+    assert_eq!(rt; fault_in(alloc, &mut removed), corrupt);
     let mut zeroed = image.copy(alloc)?;
     for byte in zeroed.a.iter_mut() {
         *byte = 0;
     }
-    assert_eq!(rt; fault_in(alloc, &mut zeroed), damaged);
+    assert_eq!(rt; fault_in(alloc, &mut zeroed), corrupt);
     // Both files are the same one.
     let mut linked = image.copy(alloc)?;
     linked.a = image.b.to_vec(alloc)?;
-    assert_eq!(rt; fault_in(alloc, &mut linked), damaged);
+    assert_eq!(rt; fault_in(alloc, &mut linked), corrupt);
     // CURRENT is that of another store, or the file is.
     let other = elsewhere(alloc)?;
     let mut foreign = other.copy(alloc)?;
     foreign.a = image.a.to_vec(alloc)?;
-    assert_eq!(rt; fault_in(alloc, &mut foreign), damaged);
+    assert_eq!(rt; fault_in(alloc, &mut foreign), corrupt);
     let mut foreign = image.copy(alloc)?;
     foreign.a = other.a.to_vec(alloc)?;
-    assert_eq!(rt; fault_in(alloc, &mut foreign), damaged);
+    assert_eq!(rt; fault_in(alloc, &mut foreign), corrupt);
     Ok(())
 }

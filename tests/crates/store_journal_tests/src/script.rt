@@ -12,13 +12,13 @@ pub(crate) const IDENTITY: Identity = Identity {
     low: 0xfedc_ba98_7654_3210,
 };
 
-/// What is read of a journal that is refused.
+/// The reading of a journal that is refused.
 pub(crate) const REFUSED: u8 = 254;
 
-/// What is read of one whose records aren't the next numbers.
+/// The reading of a journal whose records aren't the next numbers.
 pub(crate) const WRONG: u8 = 255;
 
-/// Nothing stands there; or each file has bytes of something else.
+/// An empty image; or an image with other bytes in each file.
 pub(crate) fn nothing(alloc: Global) -> Image {
     Image {
         current: None,
@@ -27,7 +27,7 @@ pub(crate) fn nothing(alloc: Global) -> Image {
     }
 }
 
-/// A checkpoint of a number in the other file.
+/// A checkpoint of a number in the inactive file.
 pub(crate) fn checkpoint<D: Disk>(
     alloc: Global,
     disk: &mut D,
@@ -40,7 +40,7 @@ pub(crate) fn checkpoint<D: Disk>(
     journal.finish(disk, alloc, 5)
 }
 
-/// A record of the next number, which is answered for once it is kept.
+/// A record of the next number, whose append is answered once it is durable.
 pub(crate) fn append(
     alloc: Global,
     disk: &mut Memory,
@@ -53,7 +53,7 @@ pub(crate) fn append(
     Ok(())
 }
 
-/// Three checkpoints, with records and a mark after them, and one that is given up.
+/// Three checkpoints, with records and a mark after them, and an abandoned one.
 pub(crate) fn run(alloc: Global, disk: &mut Memory) -> Result<Journal, JournalFault> {
     let mut journal = Journal::new(Current::new(IDENTITY, 4));
     checkpoint(alloc, disk, &mut journal, 0)?;
@@ -103,7 +103,7 @@ pub(crate) fn number_of<A: Allocator>(chosen: &Chosen<A>) -> u8 {
     number
 }
 
-/// The number that a disk has, and 0 where it is new or no checkpoint was finished.
+/// The number that a disk has, and 0 if it is new or no checkpoint was finished.
 pub(crate) fn number_in<D: Disk>(alloc: Global, disk: &mut D) -> u8 {
     let Ok(found) = load(disk, alloc) else {
         return REFUSED;
@@ -133,7 +133,7 @@ pub(crate) fn fault_in<D: Disk>(alloc: Global, disk: &mut D) -> Option<OpenFault
     }
 }
 
-/// Goes on after what stands there.
+/// Starts from the content of a disk.
 pub(crate) fn start<D: Disk>(alloc: Global, disk: &mut D) -> Option<Journal> {
     let Ok(found) = load(disk, alloc) else {
         return None;
@@ -150,7 +150,7 @@ pub(crate) fn start<D: Disk>(alloc: Global, disk: &mut D) -> Option<Journal> {
     Journal::resume(disk, alloc, &chosen).ok()
 }
 
-/// What stands after a whole run.
+/// The image after a complete run.
 pub(crate) fn after_run(alloc: Global) -> Result<Image, AllocError> {
     let mut disk = Memory::new(alloc, nothing(alloc), 1000);
     let _ = run(alloc, &mut disk);

@@ -8,8 +8,8 @@ use std::alloc::{AllocError, Global};
 use std::process::Abort;
 use std::test::Fail;
 
-/// A start over what a crash left, two records and a checkpoint more, and a crash at each moment of it. What was read
-/// stays.
+/// A start over what a crash left, two further records and a checkpoint, and a crash at each moment of it. The records
+/// that were read are kept.
 fn bad_starts(alloc: Global, image: &Image, most: u32) -> Result<u32, AllocError> {
     let number = number_in(alloc, &mut image.copy(alloc)?);
     let mut disk = Memory::new(alloc, image.copy(alloc)?, 1000);
@@ -58,8 +58,8 @@ fn a_start_after_each_crash_keeps_what_it_read(rt: HostRuntime) -> Result<(), Fa
     Ok(())
 }
 
-/// The program ends where a call fails. What it wrote is read by the next one, as if it were on the disk, and no sync
-/// keeps it. Then the power goes, at each moment.
+/// The program ends when a call fails. The next one reads what it wrote as if it were durable, and no sync makes it so.
+/// Then the power fails, at each moment.
 #[test]
 fn a_start_keeps_what_it_reads_of_memory(rt: HostRuntime) -> Result<(), Fail> {
     let alloc = rt.alloc();

@@ -1,4 +1,4 @@
-//! Tests of the tree and of who may do what in it: `node_tree`, `access_rows`, `access_guard` and `trail_keeper`.
+//! Tests of the tree and of its permissions: `node_tree`, `access_rows`, `access_guard` and `trail_keeper`.
 #![tactic(auto)]
 
 #[cfg(test)]

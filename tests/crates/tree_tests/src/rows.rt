@@ -23,7 +23,7 @@ const ATTIC: Object = Object {
     kind: Kind::Directory,
 };
 
-/// One demand on an object, written down as text.
+/// One demand on an object, as numbers.
 fn asked(demand: Option<Demand>) -> (u64, u64, u32) {
     match demand {
         None => (0, 0, 0),
@@ -32,7 +32,7 @@ fn asked(demand: Option<Demand>) -> (u64, u64, u32) {
     }
 }
 
-/// A WRITE of so many bytes at an offset of a file of a size, and the bits that it takes.
+/// A WRITE of a number of bytes at an offset of a file of a size, and the bits that it requires.
 static WRITES: [(u64, u64, usize, u32); 12] = [
     (0, 0, 0, 0x2),
     (0, 9, 0, 0x2),
@@ -52,7 +52,7 @@ fn writes() -> &'static [(u64, u64, usize, u32)] {
     &WRITES
 }
 
-/// What a WRITE of so many bytes, of which there are at most four, asks for.
+/// The demand of a WRITE of `count` bytes, at most four.
 fn write_asks(size: u64, offset: u64, count: usize) -> Option<(u64, u64, u32)> {
     let bytes = [7; 4];
     let op = Op::Write(WriteArgs {
@@ -88,7 +88,7 @@ fn first(op: &Op<'_>, current: Object, saved: Object) -> [(u64, u64, u32); 2] {
     first_demands(op, &First::of(Some(current), Some(saved))).map(asked)
 }
 
-/// The demands of the second row, where a child of the saved directory takes a name of the current one.
+/// The demands of the second row, for a child of the saved directory that takes a name of the current one.
 fn second(
     op: &Op<'_>,
     (current, saved): (Object, Object),
@@ -158,8 +158,8 @@ fn listing_asks(numbers: &[u32]) -> [(u64, u64, u32); 2] {
     entry_demands(&set_of(numbers), Some(FILE)).map(asked)
 }
 
-/// An entry of READDIR for which mode and acl are requested takes READ_ATTRIBUTES and then READ_ACL, sacl READ_ACL alone; fileid
-/// takes nothing.
+/// An entry of READDIR requires READ_ATTRIBUTES and then READ_ACL if mode and acl are requested. For sacl it requires
+/// READ_ACL alone, and for fileid nothing.
 #[test]
 fn listing(rt: HostRuntime) {
     for (numbers, demands) in listed() {
@@ -167,7 +167,7 @@ fn listing(rt: HostRuntime) {
     }
 }
 
-/// An attribute, and the bits that GETATTR and SETATTR of it alone take.
+/// An attribute, and the bits that GETATTR and SETATTR of it alone require.
 static ATTRIBUTES: [(u32, u32, u32); 8] = [
     (12, 0x2_0000, 0x4_0000),
     (20, 0, 0),
@@ -183,14 +183,14 @@ fn attributes() -> &'static [(u32, u32, u32)] {
     &ATTRIBUTES
 }
 
-/// The bits that an operation takes of the file.
+/// The bits that an operation requires of the file.
 fn bits_of(op: &Op<'_>) -> u32 {
     let facts = First::of(Some(FILE), None);
     let (_, _, mask) = asked(first_demands(op, &facts)[0]);
     mask
 }
 
-/// The bits that GETATTR and SETATTR of an attribute alone take.
+/// The bits that GETATTR and SETATTR of an attribute alone require.
 fn reading_and_setting_asks(number: u32) -> Option<(u32, u32)> {
     let set = Bitmap::empty().with(number.min(255));
     let get = Op::GetAttr(GetAttrArgs { asked: set });
@@ -204,7 +204,7 @@ fn reading_and_setting_asks(number: u32) -> Option<(u32, u32)> {
     Some((bits_of(&get), bits_of(&put)))
 }
 
-/// A list and its parts are read by READ_ACL, and set, as a mode is, by WRITE_ACL.
+/// An ACL (access control list) and its parts are read by READ_ACL. They are set, as a mode is, by WRITE_ACL.
 #[test]
 fn reading_and_setting(rt: HostRuntime) {
     for (number, reading, setting) in attributes() {
@@ -213,7 +213,7 @@ fn reading_and_setting(rt: HostRuntime) {
     }
 }
 
-/// A kind, the rights requested, the bits granted, and the two words of ACCESS.
+/// An object type, the requested permissions, the granted bits, and the two words of ACCESS.
 static RIGHTS: [(Kind, u32, u32, u32, u32); 6] = [
     (Kind::File, 0xffff_ffff, 0xffff_ffff, 0x2d, 0x2d),
     (Kind::Directory, 0xffff_ffff, 0xffff_ffff, 0x1f, 0x1f),
@@ -228,12 +228,12 @@ fn rights() -> &'static [(Kind, u32, u32, u32, u32)] {
 }
 
 fn words_of(kind: Kind, asks: u32, grants: u32) -> (u32, u32) {
-    let told = rights_of(kind, asks, grants);
-    (told.supported, told.granted)
+    let outcome = rights_of(kind, asks, grants);
+    (outcome.supported, outcome.granted)
 }
 
 #[test]
-fn telling(rt: HostRuntime) {
+fn reporting(rt: HostRuntime) {
     for (kind, asks, grants, supported, granted) in rights() {
         assert_eq!(rt;
             words_of(*kind, *asks, *grants),

@@ -1,5 +1,5 @@
-//! Functions that the tests call. They have no contract, so that the prover doesn't compute on a test's bytes, and they
-//! give back plain values, so that a test has nothing to drop.
+//! Functions that the tests call. They have no contract, so that the prover doesn't compute on a test's bytes. They
+//! return plain values, so that a test has nothing to drop.
 use std::alloc::{AllocError, Global};
 use xdr_wire::{Reader, Spell, Wire, Writer, XdrFault};
 
@@ -7,7 +7,7 @@ fn add_word(bytes: &mut Vec<u8>, word: u32) -> Result<(), AllocError> {
     bytes.extend_from_slice(&word.to_be_bytes())
 }
 
-/// Adds the bytes of words.
+/// Appends the bytes of words.
 pub fn add_words(bytes: &mut Vec<u8>, words: &[u32]) -> Result<(), AllocError> {
     for word in words {
         add_word(bytes, *word)?;
@@ -29,7 +29,7 @@ pub fn read<'a, T: Wire<'a>>(bytes: &'a [u8]) -> (Result<T, XdrFault>, usize) {
     (read, reader.len())
 }
 
-/// Whether a buffer of this room takes a value, and holds these bytes then.
+/// Whether a buffer of this room takes a value, and has these bytes then.
 pub fn is_written<T: Spell>(alloc: Global, room: usize, value: T, want: &[u8]) -> bool {
     match Writer::new(alloc, room) {
         Ok(mut writer) => {
@@ -40,7 +40,7 @@ pub fn is_written<T: Spell>(alloc: Global, room: usize, value: T, want: &[u8]) -
     }
 }
 
-/// Whether a buffer of this room takes a value, and holds the bytes of these words then.
+/// Whether a buffer of this room takes a value, and has the bytes of these words then.
 pub fn is_written_as<T: Spell>(alloc: Global, room: usize, value: T, words: &[u32]) -> bool {
     match bytes_of(alloc, words) {
         Ok(want) => is_written(alloc, room, value, &want),
@@ -59,10 +59,10 @@ pub fn is_refused<T: Spell>(alloc: Global, room: usize, value: T) -> bool {
     }
 }
 
-/// Whether a value is shown as this text, where there is memory for it.
-pub fn is_text(shown: Result<String, AllocError>, text: &str) -> bool {
-    match shown {
-        Ok(shown) => shown.as_str() == text,
+/// Whether a value is printed as this text, if the allocation succeeds.
+pub fn is_text(printed: Result<String, AllocError>, text: &str) -> bool {
+    match printed {
+        Ok(printed) => printed.as_str() == text,
         Err(_) => false,
     }
 }

@@ -1,4 +1,4 @@
-//! Tests of what goes over the wire: `xdr_wire`, `rpc_record`, `nfs_types` and `nfs_ops`.
+//! Tests of the bytes on the wire: `xdr_wire`, `rpc_record`, `nfs_types` and `nfs_ops`.
 #![tactic(auto)]
 
 #[cfg(test)]

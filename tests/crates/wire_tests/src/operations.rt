@@ -1,4 +1,4 @@
-//! Tests of `nfs_ops`, from outside: operations and results by hand, and their borders.
+//! Tests of `nfs_ops`, from outside: operations and results by hand, and their limits.
 
 mod lent;
 mod listings;

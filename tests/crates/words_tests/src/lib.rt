@@ -1,4 +1,4 @@
-//! Tests of lists in words, and of reasons: `acl_words` and `acl_reasons`.
+//! Tests of access control lists in words, and of reasons: `acl_words` and `acl_reasons`.
 #![tactic(auto)]
 
 #[cfg(test)]

@@ -1,22 +1,23 @@
 //! Reasons, counted by hand from RFC 8881, sections 6.2.1 and 6.2.1.3.2.
 
+use Applicability::{AnotherUser, Applies, InheritOnly, NoMember, Watches};
 use EntryKind::{Alarm, Allow, Deny};
 use Reason::{Denied, Granted, Missing};
 use RemovalReason::{
     AddFileDenied, AddFileMissing, ByAddFile, ByDelete, ByDeleteChild, DeleteChildDenied,
     DeleteDenied,
 };
-use Standing::{AnotherUser, Applies, InheritOnly, NoMember, Watches};
 use Who::{Everyone, Group, GroupOf, Owner, User};
 use acl_list::{AclList, Entry, EntryKind, Who};
 use acl_reasons::{
-    Governed, Reason, RemovalReason, Share, Standing, share_of, standing_of, why, why_removal,
+    Applicability, Governed, Reason, RemovalReason, Share, applicability_of, share_of, why,
+    why_removal,
 };
 use rpc_record::Caller;
 use std::alloc::{AllocError, Global};
 use std::process::Abort;
 
-/// A type, a mask and a who.
+/// A type, a mask and a principal.
 type Short = (EntryKind, u32, Who);
 
 /// The owner of each object, and its group.
@@ -42,7 +43,7 @@ fn list_of(alloc: Global, shorts: &[Short]) -> Result<AclList, AllocError> {
     Ok(list)
 }
 
-/// A list, the uid and the gid of a caller, a mask, and the reason.
+/// An ACL (access control list), the uid and the gid of a caller, a mask, and the reason.
 type Case = (&'static [Short], u32, u32, u32, Reason);
 
 static CASES: [Case; 9] = [
@@ -117,7 +118,7 @@ fn masks(rt: HostRuntime) -> Result<(), AllocError> {
     Ok(())
 }
 
-/// The lists of the parent and of the target, and the reason.
+/// The ACLs of the parent and of the target, and the reason.
 type Removed = (&'static [Short], &'static [Short], RemovalReason);
 
 static REMOVALS: [Removed; 9] = [
@@ -185,10 +186,10 @@ fn removed_names(rt: HostRuntime) -> Result<(), AllocError> {
     Ok(())
 }
 
-/// A type, flags and a who, the uid and the gid of a caller, and how the entry stands.
-type Stands = (EntryKind, u32, Who, u32, u32, Standing);
+/// A type, flags and a principal, the uid and the gid of a caller, and whether the ACE applies.
+type Applying = (EntryKind, u32, Who, u32, u32, Applicability);
 
-static STANDINGS: [Stands; 12] = [
+static STANDINGS: [Applying; 12] = [
     (Allow, 0, Everyone, 1002, 7, Applies),
     (Deny, 3, Owner, 1001, 7, Applies),
     (Allow, 0, Owner, 1002, 100, AnotherUser),
@@ -203,29 +204,29 @@ static STANDINGS: [Stands; 12] = [
     (Alarm, 0x38, User(1), 1002, 7, Watches),
 ];
 
-fn standings() -> &'static [Stands] {
+fn standings() -> &'static [Applying] {
     &STANDINGS
 }
 
-fn stands(case: &Stands) -> bool {
+fn is_held(case: &Applying) -> bool {
     let entry = Entry {
         kind: case.0,
         flags: case.1,
         mask: 1,
         who: case.2,
     };
-    standing_of(&entry, OWNER, GROUP, &caller(case.3, case.4)) == case.5
+    applicability_of(&entry, OWNER, GROUP, &caller(case.3, case.4)) == case.5
 }
 
 #[test]
 fn entries(rt: HostRuntime) {
     for case in standings() {
-        let held = stands(case);
+        let held = is_held(case);
         assert!(rt; held);
     }
 }
 
-/// The uid and the gid of a caller, a mask, the index of an entry, the bits that it decides, and those that are decided
+/// The uid and the gid of a caller, a mask, the index of an ACE, the bits that it decides, and those that are decided
 /// before it.
 type Shared = (u32, u32, u32, usize, u32, u32);
 

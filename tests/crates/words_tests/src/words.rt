@@ -1,15 +1,16 @@
-//! Entries in words: the letters of nfs4_acl(5), the aliases of nfs4_setfacl(1), the bits of RFC 8881, section 6.2.1.
+//! ACEs (access control entries) in words: the letters of nfs4_acl(5), the aliases of nfs4_setfacl(1), the bits of RFC
+//! 8881, section 6.2.1.
 
 use EntryKind::{Alarm, Allow, Audit, Deny};
 use Field::{EntryType, Flags, Form, Permissions, Principal};
 use Who::{Everyone, Group, GroupOf, Owner, User};
 use acl_list::{AclList, Entry, EntryKind, Kind, Who};
-use acl_words::{Field, ListFault, Words, read_entry, read_list, write_entry};
+use acl_words::{AclFault, Field, Words, read_acl, read_entry, write_entry};
 use std::alloc::{AllocError, Global};
 use std::process::Abort;
 use who_book::{Book, BookFault};
 
-/// The book that the tests ask.
+/// The book of the tests.
 fn book(alloc: Global) -> Result<Book, BookFault> {
     Book::read(
         alloc,
@@ -17,10 +18,10 @@ fn book(alloc: Global) -> Result<Book, BookFault> {
     )
 }
 
-/// A text and its entry: type, flags, mask and who.
+/// A text and its ACE: type, flags, mask and principal.
 type Row = (&'static str, (EntryKind, u32, u32, Who));
 
-/// Texts that are written of their entries.
+/// Texts as which their ACEs are written.
 static WRITTEN: [Row; 24] = [
     ("A::OWNER@:rwatTnNcCy", (Allow, 0, 0x0016_019f, Owner)),
     (
@@ -63,7 +64,7 @@ static WRITTEN: [Row; 24] = [
     ("A:00:80000800:EVERYONE@", (Allow, 0, 0x8000_0800, Everyone)),
 ];
 
-/// Texts that are read as entries on a file, and written otherwise.
+/// Texts that are read as ACEs on a file, and written in another form.
 static READ: [Row; 14] = [
     ("A::alice:RX", (Allow, 0, 0x0012_00a9, User(1001))),
     ("A::bob:RW", (Allow, 0, 0x0016_019f, User(1002))),
@@ -131,12 +132,12 @@ fn entry_of(row: &Row) -> Entry {
     }
 }
 
-/// Whether the text is read as the entry on objects of this kind.
+/// Whether the text is read as the ACE on objects of this type.
 fn is_read(book: &Book, object: Kind, row: &Row) -> bool {
     read_entry(book, object, row.0.as_bytes()) == Ok(entry_of(row))
 }
 
-/// Whether the text is written of the entry.
+/// Whether the ACE is written as the text.
 fn is_written(book: &Book, row: &Row) -> bool {
     let entry = entry_of(row);
     entry.flags < 256 && write_entry(book, &entry).as_bytes() == row.0.as_bytes()
@@ -196,20 +197,20 @@ fn other_texts_are_refused(rt: HostRuntime) -> Result<(), BookFault> {
     Ok(())
 }
 
-/// The number and the field of a list's fault.
+/// The number and the field of an ACL's fault.
 fn fault_of(alloc: Global, book: &Book, texts: &[&[u8]]) -> Option<(usize, Field)> {
-    match read_list(alloc, book, Kind::File, texts) {
-        Err(ListFault::Entry { index, field }) => Some((index, field)),
+    match read_acl(alloc, book, Kind::File, texts) {
+        Err(AclFault::Entry { index, field }) => Some((index, field)),
         _ => None,
     }
 }
 
-/// The entries of a list.
+/// The ACL of texts.
 fn list_of(alloc: Global, book: &Book, texts: &[&[u8]]) -> Option<AclList> {
-    read_list(alloc, book, Kind::File, texts).ok()
+    read_acl(alloc, book, Kind::File, texts).ok()
 }
 
-/// Whether a text of two entries is read.
+/// Whether an ACL has two ACEs.
 fn has_two(list: &Option<AclList>) -> bool {
     match list {
         Some(list) => list.len() == 2,
@@ -228,7 +229,7 @@ fn lists_are_read(rt: HostRuntime) -> Result<(), BookFault> {
     Ok(())
 }
 
-/// The words of an entry with this principal.
+/// The words of an ACE with this principal.
 fn words_of(alloc: Global, who: &[u8]) -> Result<Vec<u8>, AllocError> {
     let mut out = Vec::new(alloc);
     out.push(b'>')?;
@@ -242,7 +243,7 @@ fn words_of(alloc: Global, who: &[u8]) -> Result<Vec<u8>, AllocError> {
     Ok(out)
 }
 
-/// A principal is all between the second and the last colon.
+/// A principal is the text between the second and the last colon.
 #[test]
 fn principals_may_have_colons(rt: HostRuntime) -> Result<(), AllocError> {
     let out = words_of(rt.alloc(), b"a:b@c:d")?;

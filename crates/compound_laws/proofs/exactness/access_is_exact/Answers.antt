@@ -4,21 +4,21 @@ use Rattle.nfs_types.specs.declared.status.Status.{Status}
 use Rattle.nfs_types.specs.declared.status.Status.TheVariants as statuses
 use Rattle.nfs_ops.specs.Results.{Outcome}
 use Rattle.compound_run.specs.Sight.{whole}
-use Rattle.compound_run.specs.Questions.{told}
+use Rattle.compound_run.specs.Questions.{result_unless}
 use Rattle.compound_run.proofs.Exactly.{refused_by_row, by_row, ends_in_refusal}
 use Rattle.compound_laws.proofs.exactness.access_is_exact.Goals as goal
 
 -- the status of the answer is the failure
-told_failure : (f : Option Status) (o : Outcome) → told f o ≡ Err statuses.Access → f ≡ Some statuses.Access
-told_failure None o h = cc
-told_failure (Some status) o h = cc
+result_failure : (f : Option Status) (o : Outcome) → result_unless f o ≡ Err statuses.Access → f ≡ Some statuses.Access
+result_failure None o h = cc
+result_failure (Some status) o h = cc
 
 pub returns-clause-exact : goal.returns-clause-exact
 returns-clause-exact c m r = (
-  λ told. refused_by_row m.caller (whole r) m.questions (told_failure _ _ told),
-  λ row. ap (λ f. told f (m.answer (whole r))) (by_row m.caller (whole r) m.questions row.demands row.first),
+  λ result_unless. refused_by_row m.caller (whole r) m.questions (result_failure _ _ result_unless),
+  λ row. ap (λ f. result_unless f (m.answer (whole r))) (by_row m.caller (whole r) m.questions row.demands row.first),
 )
 
-pub returns-clause-told : goal.returns-clause-told
-returns-clause-told c m r told =
-    let e = ends_in_refusal m.caller m.number (whole r) m.questions (told_failure _ _ told) in (e.row, e.ends)
+pub returns-clause-access : goal.returns-clause-access
+returns-clause-access c m r result_unless =
+    let e = ends_in_refusal m.caller m.number (whole r) m.questions (result_failure _ _ result_unless) in (e.row, e.ends)

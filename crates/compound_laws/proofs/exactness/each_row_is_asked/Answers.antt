@@ -1,4 +1,4 @@
-use Rattle.compound_laws.proofs.RowsStand.{first_is_asked, second_is_asked}
+use Rattle.compound_laws.proofs.RowsHold.{first_is_asked, second_is_asked}
 use Rattle.compound_laws.proofs.exactness.each_row_is_asked.Goals as goal
 
 pub returns-clause-first : goal.returns-clause-first

@@ -1,4 +1,4 @@
-use Rattle.compound_laws.proofs.RowsStand.{first_is_granted, second_is_granted}
+use Rattle.compound_laws.proofs.RowsHold.{first_is_granted, second_is_granted}
 use Rattle.compound_laws.proofs.exactness.ok_is_granted.Goals as goal
 
 pub returns-clause-first : goal.returns-clause-first

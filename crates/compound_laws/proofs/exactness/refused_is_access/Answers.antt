@@ -1,4 +1,4 @@
-use Rattle.compound_laws.proofs.RowsStand.{is_refused}
+use Rattle.compound_laws.proofs.RowsHold.{is_refused}
 use Rattle.compound_laws.proofs.exactness.refused_is_access.Goals as goal
 
 pub returns : goal.returns

@@ -1,4 +1,4 @@
-use Rattle.compound_laws.proofs.RowsStand.{rows_are_exact, lines_are_exact}
+use Rattle.compound_laws.proofs.RowsHold.{rows_are_exact, lines_are_exact}
 use Rattle.compound_laws.proofs.exactness.rows_are_asked_exactly.Goals as goal
 
 pub returns-clause-rows : goal.returns-clause-rows

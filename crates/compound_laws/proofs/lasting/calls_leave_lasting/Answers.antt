@@ -9,6 +9,5 @@ returns c = record {
   bare = λ old call results new answers. calls_keep (Lasts old.realm.lasting) (lasting_keeps old.realm.lasting) old call results new refl answers;
   in_session = λ old call reply new answers. session_calls_keep (Lasts old.realm.lasting) (lasting_keeps old.realm.lasting) old call reply new refl answers;
   book = λ book old. loads_keep (Lasts old.realm.lasting) book old refl;
-  gone = λ client old. refl;
-  notes = λ notes old. refl;
+  expired = λ client old. refl;
 }

@@ -1,6 +1,6 @@
 use Rattle.std.proofs.Common.{◌≡◌, ◌<◌, ◌+◌, ◌∙◌, suc, ap, length, arith, get_or}
 use Rattle.std.specs.Prelude.{◌++◌, map, take, drop, slice_set}
-use Rattle.compound_run.specs.Opening.{reopened_by}
+use Rattle.compound_run.specs.internal.Opening.{reopened_by}
 use Rattle.compound_run.proofs.OpenFiles.{set_next}
 use Rattle.compound_run.proofs.opens.reopen.Goals as goal
 

@@ -4,7 +4,7 @@ use Rattle.nfs_types.specs.FactsView.{facts_value}
 use Rattle.nfs_types.specs.Given.{given_set, given_values}
 use Rattle.nfs_types.specs.Views.{bitmap_value}
 use Rattle.nfs_ops.specs.Forms.{entry}
-use Rattle.compound_run.specs.Listed.{PutsEntry, linked, written_entry}
+use Rattle.compound_run.specs.internal.Listed.{PutsEntry, linked, written_entry}
 use Rattle.compound_run.proofs.readdir.put_entry.Goals as goal
 
 pub invariant_of-bytes : goal.invariant_of-bytes

@@ -1,9 +1,9 @@
--- The text stands after number and status.
+-- The text is written after number and status.
 use Rattle.std.proofs.Common.{◌≡◌, length, ◌++◌, refl, ap, subst, arith}
 use Rattle.std.specs.Int.{w32, to_be_bytes}
 use Rattle.xdr_wire.specs.Buffer.{Appends}
 use Rattle.xdr_wire.specs.Xdr.{padded}
-use Rattle.xdr_wire.proofs.Filling.{then_behind}
+use Rattle.xdr_wire.proofs.Filling.{appends_both}
 use Rattle.nfs_ops.specs.Forms.{readlink_size}
 use Rattle.nfs_ops.specs.Results.{Done}
 use Rattle.nfs_ops.specs.declared.OpKind.TheVariants as kinds
@@ -19,7 +19,7 @@ returns g c =
     let w = c.args.tree.now.world in
     let item = bytes_at w c.args.link 0 c.args.len in
     let text = bytes_of w c.args.link in
-    let both = then_behind c.args.out.now c.put_head.new.out c.put_opaque_by.new.self (to_be_bytes w32 27 ++ to_be_bytes w32 0) (to_be_bytes w32 (length item) ++ padded item) c.put_head.ensures c.put_opaque_by.ensures in
+    let both = appends_both c.args.out.now c.put_head.new.out c.put_opaque_by.new.self (to_be_bytes w32 27 ++ to_be_bytes w32 0) (to_be_bytes w32 (length item) ++ padded item) c.put_head.ensures c.put_opaque_by.ensures in
     let written : Appends c.args.out.now c.put_opaque_by.new.self (spelled (Done kinds.ReadLink text)) =
     subst (λ text. Appends c.args.out.now c.put_opaque_by.new.self (spelled (Done kinds.ReadLink text))) (text_is_all w c.args.link c.args.len c.requires.all) both in
     let exact : length (spelled (Done kinds.ReadLink text)) ≡ readlink_size (length text) = c.sizes_of_carried_bytes_are_exact.ensures (Done kinds.ReadLink text) refl in

@@ -6,7 +6,7 @@ use Rattle.nfs_types.specs.Forms.{attributes, trimmed_set}
 use Rattle.nfs_types.specs.Given.{given_set}
 use Rattle.nfs_types.specs.Views.{bitmap_value}
 use Rattle.nfs_ops.specs.Forms.{getattr_size}
-use Rattle.compound_run.specs.GivenViews.{values_given, given_outcome}
+use Rattle.compound_run.specs.internal.GivenViews.{values_given, given_outcome}
 use Rattle.compound_run.proofs.Comparing.{too_long, on_ok, written_is, read_back, is_read}
 use Rattle.compound_run.proofs.verify.is_given.Goals as goal
 

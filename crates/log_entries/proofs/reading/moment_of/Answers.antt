@@ -5,4 +5,4 @@ use Rattle.log_entries.proofs.Moments.{moment_made}
 use Rattle.log_entries.proofs.reading.moment_of.Goals as goal
 
 pub returns : goal.returns
-returns c = moment_made _ _ _ _ (to_z-of_z w64 c.args.said.0 (search rules))
+returns c = moment_made _ _ _ _ (to_z-of_z w64 c.args.written.0 (search rules))

@@ -5,7 +5,7 @@ use Rattle.nfs_ops.specs.Results.{Outcome}
 use Rattle.nfs_ops.specs.ResultReading.{result_at}
 use Rattle.nfs_ops.specs.ResultViews.{read_view}
 use Rattle.nfs_client.specs.CompoundViews.{outcomes}
-use Rattle.nfs_client.proofs.Results.{behind, items_none, items_more, items_fail, items_end}
+use Rattle.nfs_client.proofs.Results.{prefixed, items_none, items_more, items_fail, items_end}
 use Rattle.nfs_client.proofs.answer.read_results.Goals as goal
 
 pub loop-i-init : goal.loop-i-init
@@ -17,7 +17,7 @@ returns-in-Err g c = items_fail result_at c.args.count c.loop-i._i c.args.reader
 pub loop-i-preserved : goal.loop-i-preserved
 loop-i-preserved g c =
     let pushed = ap outcomes c.in_ok-push-in-Ok.ensures.items ∙ map-append read_view c.loop-i.results.items (c.in-Ok.outcome ∷ []) in
-    subst (λ (front : List Outcome). items_at result_at c.args.count c.args.reader.now ≡ behind front (items_at result_at (c.args.count - (c.loop-i._i + 1)) c.read_result.new.reader)) (sym pushed)
+    subst (λ (prefix : List Outcome). items_at result_at c.args.count c.args.reader.now ≡ prefixed prefix (items_at result_at (c.args.count - (c.loop-i._i + 1)) c.read_result.new.reader)) (sym pushed)
     (items_more result_at c.args.count c.loop-i._i c.args.reader.now c.loop-i.reader c.read_result.new.reader (outcomes c.loop-i.results.items) (read_view c.in-Ok.outcome) c.loop-i-test.true c.in-Ok.ensures c.loop-i.invariant)
 
 pub returns : goal.returns

@@ -10,18 +10,18 @@ use Rattle.nfs_client.proofs.setacl.read_entries.Goals as goal
 
 read_more : (texts : List (Bor (List ℕ))) (i : ℕ) (d : Bor (List ℕ)) (lines : List EntryLine) (e : EntryLine) → i < length texts → entry_in (get_or texts i d).now ≡ Some e
     → map entry_in (map (λ t. t.now) (take i texts)) ≡ map (λ e. Some e) lines → map entry_in (map (λ t. t.now) (take (i + 1) texts)) ≡ map (λ e. Some e) (lines ++ e ∷ [])
-read_more texts i d lines e below is so =
+read_more texts i d lines e below is holds =
     ap (λ (t : List (Bor (List ℕ))). map entry_in (map (λ t. t.now) t)) (take_more texts i d below)
     ∙ ap (λ (t : List (List ℕ)). map entry_in t) (map-append (λ t. t.now) (take i texts) (get_or texts i d ∷ []))
     ∙ map-append entry_in (map (λ t. t.now) (take i texts)) ((get_or texts i d).now ∷ [])
-    ∙ ap (λ (t : List (Option EntryLine)). t ++ entry_in (get_or texts i d).now ∷ []) so
+    ∙ ap (λ (t : List (Option EntryLine)). t ++ entry_in (get_or texts i d).now ∷ []) holds
     ∙ ap (λ (o : Option EntryLine). map (λ e. Some e) lines ++ o ∷ []) is
     ∙ sym (map-append (λ e. Some e) lines (e ∷ []))
 
 pushed_more : (items new : List Ace) (a : Ace) (lines : List EntryLine) (e : EntryLine) → new ≡ items ++ a ∷ [] → ace_value a ≡ ace_of e → map ace_value items ≡ map ace_of lines
     → map ace_value new ≡ map ace_of (lines ++ e ∷ [])
-pushed_more items new a lines e is sent so =
-    ap (map ace_value) is ∙ map-append ace_value items (a ∷ []) ∙ ap (λ t. t ++ ace_value a ∷ []) so ∙ ap (λ v. map ace_of lines ++ v ∷ []) sent ∙ sym (map-append ace_of lines (e ∷ []))
+pushed_more items new a lines e is sent holds =
+    ap (map ace_value) is ∙ map-append ace_value items (a ∷ []) ∙ ap (λ t. t ++ ace_value a ∷ []) holds ∙ ap (λ v. map ace_of lines ++ v ∷ []) sent ∙ sym (map-append ace_of lines (e ∷ []))
 
 pub loop-text-preserved : goal.loop-text-preserved
 loop-text-preserved g c =

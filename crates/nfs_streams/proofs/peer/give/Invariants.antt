@@ -1,6 +1,6 @@
 use Rattle.std.proofs.Common.{ℕ, Some, length}
 use Rattle.nfs_streams.specs.declared.serving.Limits.{Limits}
-use Rattle.nfs_streams.specs.Standing.{Giving, Piecing, Changes}
+use Rattle.nfs_streams.specs.Stages.{Giving, Piecing, Changes}
 use Rattle.nfs_streams.proofs.peer.give.Given as goal
 
 abbrev pub invariant-loop-peer : goal.invariant-loop-peer

@@ -1,6 +1,6 @@
 use Rattle.std.proofs.Common.{◌≡◌, ℕ, length}
 use Rattle.nfs_streams.specs.declared.serving.Limits.{Limits}
-use Rattle.nfs_streams.specs.Standing.{Left, Giving, Moves}
+use Rattle.nfs_streams.specs.Stages.{Left, Giving, Moves}
 use Rattle.nfs_streams.proofs.places.give_all.Given as goal
 
 abbrev pub invariant-loop-index : goal.invariant-loop-index

@@ -1,5 +1,5 @@
 use Rattle.std.proofs.Common.{Some}
-use Rattle.nfs_streams.specs.Standing.{Giving, kept_stage}
+use Rattle.nfs_streams.specs.Stages.{Giving, kept_stage}
 use Rattle.nfs_streams.proofs.Lists.{read_at}
 use Rattle.nfs_streams.proofs.Steps.{at_place}
 use Rattle.nfs_streams.proofs.places.give_at.Goals as goal

@@ -1,5 +1,5 @@
 use Rattle.std.proofs.Common.{◌∙◌, refl, arith}
-use Rattle.nfs_streams.specs.Standing.{Ending}
+use Rattle.nfs_streams.specs.Stages.{Ending}
 use Rattle.nfs_streams.proofs.Lists.{all_freed, none_past, set_len}
 use Rattle.nfs_streams.proofs.places.shut_all.Goals as goal
 

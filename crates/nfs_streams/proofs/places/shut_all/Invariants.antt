@@ -3,7 +3,7 @@ use Rattle.nfs_hub.specs.Machine.{State}
 use Rattle.nfs_streams.specs.declared.serving.Limits.{Limits}
 use Rattle.nfs_streams.specs.Acts.{Act}
 use Rattle.nfs_streams.specs.Seats.{place_at}
-use Rattle.nfs_streams.specs.Standing.{Left, Ending, Moves}
+use Rattle.nfs_streams.specs.Stages.{Left, Ending, Moves}
 use Rattle.nfs_streams.proofs.places.shut_all.Given as goal
 
 abbrev pub invariant-loop-index : goal.invariant-loop-index

@@ -1,4 +1,4 @@
-use Rattle.nfs_types.proofs.Showing.{written_seen}
+use Rattle.nfs_types.proofs.ClientWritten.{written_seen}
 use Rattle.nfs_types.proofs.laws.written_is_seen.Goals as goal
 
 pub returns : goal.returns

@@ -14,4 +14,5 @@ returns c =
     let fifth = c.in_ok-arg-5.ensures.shape c.timeout.ensures.1 ∙ ap₂ with_rule fourth c.timeout.ensures.0 in
     let sixth = c.in_ok-arg-6.ensures.shape c.groups.ensures.1 ∙ ap₂ with_rule fifth c.groups.ensures.0 in
     let seventh = c.in_ok-arg-7.ensures.shape c.person.ensures.1 ∙ ap₂ with_rule sixth c.person.ensures.0 in
-    c.in_ok-command.ensures.shape c.book.ensures.1 ∙ ap₂ with_rule seventh c.book.ensures.0
+    let eighth = c.in_ok-arg-8.ensures.shape c.book.ensures.1 ∙ ap₂ with_rule seventh c.book.ensures.0 in
+    c.in_ok-command.ensures.shape c.host.ensures.1 ∙ ap₂ with_rule eighth c.host.ensures.0

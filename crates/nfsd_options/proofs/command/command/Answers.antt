@@ -17,4 +17,7 @@ returns c =
     let eighth = c.in_ok-arg-8.ensures.shape c.privileged_ports.ensures.1 ∙ ap₂ with_rule seventh c.privileged_ports.ensures.0 in
     let ninth = c.in_ok-arg-9.ensures.shape c.store.ensures.1 ∙ ap₂ with_rule eighth c.store.ensures.0 in
     let tenth = c.in_ok-arg-10.ensures.shape c.leases.ensures.1 ∙ ap₂ with_rule ninth c.leases.ensures.0 in
-    c.in_ok-command.ensures.shape c.home.ensures.1 ∙ ap₂ with_rule tenth c.home.ensures.0
+    let eleventh = c.in_ok-arg-11.ensures.shape c.home.ensures.1 ∙ ap₂ with_rule tenth c.home.ensures.0 in
+    let twelfth = c.in_ok-arg-12.ensures.shape c.listen.ensures.1 ∙ ap₂ with_rule eleventh c.listen.ensures.0 in
+    let thirteenth = c.in_ok-arg-13.ensures.shape c.allow.ensures.1 ∙ ap₂ with_rule twelfth c.allow.ensures.0 in
+    c.in_ok-command.ensures.shape c.any_port.ensures.1 ∙ ap₂ with_rule thirteenth c.any_port.ensures.0

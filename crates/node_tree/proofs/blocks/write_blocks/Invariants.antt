@@ -1,4 +1,4 @@
-use Rattle.std.proofs.Common.{◌≡◌, ◌+◌, ◌-◌, ◌/◌, ◌<◌, ◌≤◌, ◌&&◌, ℕ, nat_le, nat_lt, if◌then◌else◌, slice_index, length}
+use Rattle.std.proofs.Common.{◌≡◌, ◌+◌, ◌-◌, ◌/◌, ◌&&◌, ℕ, nat_le, nat_lt, if◌then◌else◌, slice_index, length}
 use Rattle.node_tree.specs.Blocks.{byte_at, is_held}
 use Rattle.node_tree.proofs.blocks.write_blocks.Given as goal
 

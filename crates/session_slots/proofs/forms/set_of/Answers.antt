@@ -2,7 +2,8 @@ use Rattle.std.proofs.Common.{◌≡◌, ◌≤◌, ◌++◌, ℕ, true, false, 
 use Rattle.std.proofs.lemmas.List.{append_assoc}
 use Rattle.xdr_wire.specs.Xdr.{uint}
 use Rattle.xdr_wire.proofs.Arrays.{length_values}
-use Rattle.session_slots.specs.FormViews.{groups_in, is_above}
+use Rattle.session_slots.specs.FormViews.{groups_in}
+use Rattle.session_slots.specs.internal.FormViews.{is_above}
 use Rattle.session_slots.proofs.Groups.{pushed, none_rises}
 use Rattle.session_slots.proofs.Rebuilt.{shorter}
 use Rattle.session_slots.proofs.forms.set_of.Goals as goal

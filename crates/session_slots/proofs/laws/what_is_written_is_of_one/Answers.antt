@@ -1,4 +1,4 @@
-use Rattle.session_slots.proofs.Told.{one_client, one_session, one_call}
+use Rattle.session_slots.proofs.WrittenOnce.{one_client, one_session, one_call}
 use Rattle.session_slots.proofs.laws.what_is_written_is_of_one.Goals as goal
 
 pub returns-clause-clients : goal.returns-clause-clients

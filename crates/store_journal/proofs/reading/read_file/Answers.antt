@@ -1,5 +1,5 @@
 use Rattle.std.proofs.Common.{◌≡◌, ◌∙◌, None, map, refl, sym, ap, subst, arith}
-use Rattle.store_journal.specs.declared.digest.Identity.{Identity}
+use Rattle.store_journal.specs.declared.checksum.Identity.{Identity}
 use Rattle.store_journal.specs.declared.frames.Place.{Place}
 use Rattle.store_journal.specs.Disk.{Bytes}
 use Rattle.store_journal.specs.Frames.{lent, frame_at, next_place}

@@ -1,4 +1,4 @@
-use Rattle.store_journal.proofs.Fronts.{zeros_are}
+use Rattle.store_journal.proofs.Prefixes.{zeros_are}
 use Rattle.store_journal.proofs.writing.zeros.Goals as goal
 
 pub returns : goal.returns

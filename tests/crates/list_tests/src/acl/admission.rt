@@ -1,4 +1,4 @@
-//! Lists that clients ask for.
+//! Access control lists (ACLs) that clients send.
 
 use crate::acl::entries::{allow, audit, deny, entry};
 use AdmitFault::{AttrNotSupp, BadOwner, Inval};
@@ -40,7 +40,8 @@ const ON_A_FILE: &[Entry] = &[
 
 static ONE_ASKED: [Raw; 1] = [raw!(1, 0x0b, 0x01, Some(GroupOf(7)))];
 
-/// Kinds, the list that is set on an object of each, and how many entries a list of one INHERIT_ONLY entry has there.
+/// Object types, the ACL that is set on an object of each type, and the number of ACEs that an ACL of one INHERIT_ONLY
+/// ACE has then.
 static TAKEN: [(Kind, &[Entry], usize); 3] = [
     (Kind::Directory, ON_A_DIRECTORY, 1),
     (Kind::File, ON_A_FILE, 0),
@@ -51,12 +52,12 @@ fn taken() -> &'static [(Kind, &'static [Entry], usize)] {
     &TAKEN
 }
 
-/// The two lists that are asked for.
+/// The two ACLs that are sent.
 fn asked() -> (&'static [Raw], &'static [Raw]) {
     (&ASKED, &ONE_ASKED)
 }
 
-/// The list, without the contract of what makes it.
+/// The ACL, without the contract of the function that makes it.
 fn admitted(alloc: Global, raws: &[Raw], kind: Kind) -> Result<AclList, AdmitFault> {
     admit(alloc, raws, kind)
 }
@@ -75,7 +76,7 @@ fn length_of(alloc: Global, raws: &[Raw], kind: Kind) -> Option<usize> {
     }
 }
 
-/// A directory gets the list as it was sent, a file or a link without INHERIT_ONLY entries and inheritance flags.
+/// A directory gets the ACL as sent, a file or a link without INHERIT_ONLY ACEs and inheritance flags.
 #[test]
 fn lists_that_are_taken(rt: HostRuntime) {
     let (four, one) = asked();
@@ -148,7 +149,8 @@ fn many() -> &'static [Raw] {
     &MANY
 }
 
-/// The first fault is returned: of the count, then of the first entry that has one, there of its type, its flags and mask, its who.
+/// The first fault is returned: of the count, then of the first ACE that has one. Of an ACE the fault of its type comes
+/// first, then of its flags and mask, then of its principal.
 #[test]
 fn lists_that_are_refused(rt: HostRuntime) {
     for (name, raws, fault) in refused() {

@@ -1,11 +1,11 @@
-//! How many entries there may be.
+//! How many access control entries (ACEs) an access control list (ACL) may have.
 
 use crate::acl::entries::{allow, deny, entry};
 use acl_list::{AclList, Entry, Kind, Who};
 use acl_shape::{AdmitFault, Raw, admit, is_bounded, set_mode};
 use std::alloc::{AllocError, Global};
 
-/// The lists, without the contracts of what makes them.
+/// The ACLs, without the contracts of the functions that make them.
 fn with_mode(alloc: Global, list: &AclList, mode: u32) -> Result<AclList, AllocError> {
     set_mode(alloc, list, Kind::File, mode)
 }
@@ -14,19 +14,19 @@ fn admitted(alloc: Global, raws: &[Raw]) -> Result<AclList, AdmitFault> {
     admit(alloc, raws, Kind::File)
 }
 
-/// How many entries a list has, and whether it may have them.
+/// The number of ACEs of an ACL, and whether it may have them.
 fn size_of(list: &AclList) -> (usize, bool) {
     (list.len(), is_bounded(list))
 }
 
-/// The sizes of a list after one mode, and after another.
+/// The sizes of an ACL after one mode, and after another.
 fn sizes_after(alloc: Global, list: &AclList) -> Result<[(usize, bool); 2], AllocError> {
     let new = with_mode(alloc, list, 0o640)?;
     let again = with_mode(alloc, &new, 0)?;
     Ok([size_of(&new), size_of(&again)])
 }
 
-/// The size of the list of these entries, and its sizes after the modes.
+/// The size of the ACL of these ACEs, and its sizes after the modes.
 fn sizes(alloc: Global, raws: &[Raw]) -> Option<(usize, [(usize, bool); 2])> {
     match admitted(alloc, raws) {
         Ok(list) => match sizes_after(alloc, &list) {
@@ -37,7 +37,7 @@ fn sizes(alloc: Global, raws: &[Raw]) -> Option<(usize, [(usize, bool); 2])> {
     }
 }
 
-/// As many named entries as may be, one of which gives WRITE_ACL.
+/// The largest number of named ACEs, one of which gives WRITE_ACL.
 static LONGEST: [Raw; 59] = [Raw {
     kind: 0,
     flags: 0,
@@ -49,13 +49,13 @@ fn longest() -> &'static [Raw] {
     &LONGEST
 }
 
-/// The longest list, and then a mode, and another.
+/// The longest ACL, then a mode, and then another.
 #[test]
 fn a_mode_on_the_longest_list(rt: HostRuntime) {
     assert!(rt; sizes(rt.alloc(), longest()) == Some((59, [(64, true), (64, true)])));
 }
 
-/// Plain entries, entries that a mode keeps, and whether a list may have them.
+/// Numbers of plain ACEs and of ACEs that a mode keeps, and whether an ACL may have them.
 static COUNTS: [(u32, u32, bool); 6] = [
     (0, 0, true),
     (5, 59, true),
@@ -81,7 +81,7 @@ fn add_both(list: &mut AclList, plain: u32, kept: u32) -> Result<(), AllocError>
     add(list, deny!(0, 1, Who::User(5)), kept)
 }
 
-/// Whether a list may have so many plain entries and entries that are kept.
+/// Whether an ACL may have `plain` plain ACEs and `kept` ACEs that a mode keeps.
 fn may_have(alloc: Global, plain: u32, kept: u32) -> Option<bool> {
     let mut list = AclList::new(alloc);
     match add_both(&mut list, plain, kept) {

@@ -1,4 +1,4 @@
-//! How entries are written.
+//! How access control entries (ACEs) are written.
 
 macro_rules! entry {
     ($kind:ident, $flags:expr, $mask:expr, $who:expr) => {
@@ -29,7 +29,8 @@ macro_rules! audit {
     };
 }
 
-/// The list of an object that has had a mode set on the empty list: the owner's two entries, the group's two, everyone's.
+/// The access control list of an object after a mode was set on an empty one: the owner's two ACEs, the group's two,
+/// everyone's.
 macro_rules! five {
     ($owner:expr, $others_of_owner:expr, $group:expr, $others_of_group:expr, $everyone:expr) => {
         [

@@ -1,4 +1,4 @@
-//! Inherited lists, worked out by hand from RFC 8881, sections 6.2.1.4.1 and 6.4.3.1.
+//! Inherited access control lists (ACLs), worked out by hand from RFC 8881, sections 6.2.1.4.1 and 6.4.3.1.
 
 use crate::acl::entries::{allow, audit, deny, entry};
 use Kind::{Directory, File, Link};
@@ -7,7 +7,7 @@ use acl_list::{AclList, Entry, Kind, Who};
 use acl_shape::inherit;
 use std::alloc::{AllocError, Global};
 
-/// A parent's flags; those of its child, for a directory, and for a file or a link.
+/// A parent's flags, and those of its child: for a directory, and for a file or a link.
 static FLAGS: [(u32, Option<u32>, Option<u32>); 18] = [
     (0x00, None, None),
     (0x01, Some(0x09), Some(0x00)),
@@ -33,7 +33,7 @@ fn flags_table() -> &'static [(u32, Option<u32>, Option<u32>)] {
     &FLAGS
 }
 
-/// The list that a child inherits, without the contract of what makes it.
+/// The ACL that a child inherits, without the contract of the function that makes it.
 fn inherited(alloc: Global, list: &AclList, kind: Kind) -> Result<AclList, AllocError> {
     inherit(alloc, list, kind)
 }
@@ -42,14 +42,14 @@ fn first_of(list: &AclList) -> Option<Entry> {
     list.as_slice().first().copied()
 }
 
-/// The first entry that a child inherits of a list of one entry.
+/// The first ACE that a child inherits of an ACL of one ACE.
 fn first_of_child(alloc: Global, entry: Entry, kind: Kind) -> Result<Option<Entry>, AllocError> {
     let list = AclList::from_slice(alloc, &[entry])?;
     let child = inherited(alloc, &list, kind)?;
     Ok(first_of(&child))
 }
 
-/// Whether a child of this kind gets these flags of its parent's.
+/// Whether a child of this type gets these flags of its parent's.
 fn gets(alloc: Global, flags: u32, kind: Kind, want: Option<u32>) -> bool {
     let want = match want {
         Some(flags) => Some(deny!(flags, 0x27, User(5))),
@@ -92,7 +92,7 @@ static CHILD_DIRECTORY: [Entry; 3] = [
 
 static CHILD_FILE: [Entry; 2] = [allow!(0, 0x27, User(1002)), audit!(0x20, 0x02, Group)];
 
-/// The entries of a parent, of a directory in it, and of a file.
+/// The ACEs of a parent, of a directory in it, and of a file.
 fn families() -> (&'static [Entry], &'static [Entry], &'static [Entry]) {
     (&PARENT, &CHILD_DIRECTORY, &CHILD_FILE)
 }
@@ -101,7 +101,7 @@ fn has(list: &AclList, entries: &[Entry]) -> bool {
     list.as_slice() == entries
 }
 
-/// Whether a child of this kind inherits these entries.
+/// Whether a child of this type inherits these ACEs.
 fn is_child(
     alloc: Global,
     parent: &[Entry],
@@ -113,7 +113,7 @@ fn is_child(
     Ok(has(&child, want))
 }
 
-/// Entries are inherited in their order, and those that no child gets leave no gap.
+/// ACEs are inherited in their order. An ACE that no child gets leaves no gap.
 #[test]
 fn children_keep_the_order(rt: HostRuntime) {
     let (parent, directory, file) = families();

@@ -1,4 +1,4 @@
-//! The entries of a list, with ample memory and where it is refused.
+//! The ACEs of an ACL (access control list), with ample memory and with allocations that fail.
 
 use crate::acl::entries::{allow, deny, entry};
 use acl_list::{AclList, Entry, Who};
@@ -18,12 +18,12 @@ fn five() -> &'static [Entry] {
     &FIVE
 }
 
-/// Whether a list has just these entries, in their order.
+/// Whether an ACL has exactly these ACEs, in their order.
 fn has<A: Allocator>(list: &AclList<A>, entries: &[Entry]) -> bool {
     list.as_slice() == entries
 }
 
-/// Whether the copy of a list on this heap has these entries, where there is memory for it.
+/// Whether the copy of an ACL on this heap has these ACEs, if its allocation succeeds.
 fn copied<A: Allocator + Copy>(alloc: A, list: &AclList, entries: &[Entry]) -> Option<bool> {
     match list.clone_in(alloc) {
         Ok(copy) => Some(has(&copy, entries)),
@@ -31,14 +31,14 @@ fn copied<A: Allocator + Copy>(alloc: A, list: &AclList, entries: &[Entry]) -> O
     }
 }
 
-/// Whether a list keeps its entries where it is made into a `Vec`, and that into a list.
+/// Whether an ACL keeps its ACEs when it is made into a `Vec`, and that into an ACL.
 fn is_moved(list: AclList, entries: &[Entry]) -> bool {
     let row = list.into_vec();
     let is_row = row.as_slice() == entries;
     is_row & has(&AclList::from(row), entries)
 }
 
-/// Whether a list has the entries that it is made of, and so its copy, and the lists that it is made into and from.
+/// Whether an ACL has the ACEs that it is made of, and so have its copy and the ACLs that it is made into and from.
 fn is_held_all_ways(alloc: Global, entries: &[Entry]) -> bool {
     match AclList::from_slice(alloc, entries) {
         Ok(list) => {
@@ -50,12 +50,12 @@ fn is_held_all_ways(alloc: Global, entries: &[Entry]) -> bool {
     }
 }
 
-/// Adds an entry to a list, where there is memory for it.
+/// Adds an ACE to an ACL, if the allocation succeeds.
 fn push<A: Allocator + Copy>(list: &mut AclList<A>, entry: Entry) -> bool {
     list.push(entry).is_ok()
 }
 
-/// Adds entries to a list until one is refused, and says how many were added.
+/// Adds ACEs to an ACL until an allocation fails. Returns the number of added ACEs.
 fn add<A: Allocator + Copy>(list: &mut AclList<A>, entries: &[Entry]) -> usize {
     let mut held = 0usize;
     for entry in entries {
@@ -67,7 +67,7 @@ fn add<A: Allocator + Copy>(list: &mut AclList<A>, entries: &[Entry]) -> usize {
     held
 }
 
-/// Whether a list is empty, how many entries it takes, and whether it is empty then.
+/// Whether an ACL is empty, how many ACEs it takes, and whether it is empty then.
 fn grown(alloc: Global, entries: &[Entry]) -> (bool, usize, bool) {
     let mut list = AclList::new(alloc);
     let was_empty = list.is_empty();
@@ -82,7 +82,7 @@ fn holds_its_entries_in_order(rt: HostRuntime) {
     assert!(rt; is_held_all_ways(rt.alloc(), five()));
 }
 
-/// Whether a copy over a heap of this size has the entries, where there is one, and how many bytes are left behind.
+/// Whether a copy over a heap of this size has the ACEs, if there is one, and how many bytes stay allocated.
 fn copied_at(alloc: Global, list: &AclList, size: usize) -> (Option<bool>, usize) {
     match LocalHeap::new(alloc, size) {
         Ok(heap) => {
@@ -111,21 +111,21 @@ fn see_copies_of(rt: &impl Abort, alloc: Global, entries: &[Entry]) -> Result<()
     Ok(())
 }
 
-/// Over each size of a heap a copy is whole, or there is none and nothing is left behind.
+/// Over each size of a heap a copy is complete, or there is none and no byte stays allocated.
 #[test]
 fn copies_are_whole_or_refused(rt: HostRuntime) {
     assert!(rt; see_copies_of(&rt, rt.alloc(), five()).is_ok());
 }
 
-/// How many entries a list takes until memory is refused, and whether it has just these then.
+/// How many ACEs an ACL takes until an allocation fails, and whether it has exactly these then.
 fn grows<A: Allocator + Copy>(alloc: A, entries: &[Entry]) -> (usize, bool) {
     let mut list = AclList::new(alloc);
     let held = add(&mut list, entries);
-    let (front, _) = entries.split_at(held.min(entries.len()));
-    (held, has(&list, front))
+    let (prefix, _) = entries.split_at(held.min(entries.len()));
+    (held, has(&list, prefix))
 }
 
-/// How a list grows over a heap of this size, and how many bytes are left behind.
+/// How an ACL grows over a heap of this size, and how many bytes stay allocated.
 fn grows_at(alloc: Global, entries: &[Entry], size: usize) -> ((usize, bool), usize) {
     match LocalHeap::new(alloc, size) {
         Ok(heap) => {
@@ -136,7 +136,7 @@ fn grows_at(alloc: Global, entries: &[Entry], size: usize) -> ((usize, bool), us
     }
 }
 
-/// Over each size of a heap a list grows until memory is refused, and then keeps its entries.
+/// Over each size of a heap an ACL grows until an allocation fails, and then keeps its ACEs.
 #[test]
 fn a_refused_push_leaves_the_list(rt: HostRuntime) {
     let mut whole = 0u32;

@@ -1,4 +1,5 @@
-//! Each call that takes memory, over each size of a heap: it is whole or refused, and then nothing is left behind.
+//! Each call that allocates, over each size of a heap: its ACL (access control list) is complete, or it fails and no
+//! byte stays allocated.
 
 use crate::acl::entries::{allow, entry};
 use acl_list::{AclList, Entry, Kind, Who};
@@ -16,7 +17,7 @@ enum Call {
     Change(Option<u32>),
 }
 
-/// How long the list is that a mode makes.
+/// The length of the ACL that a mode makes.
 fn with_mode(heap: &LocalHeap, list: &AclList, mode: u32) -> Option<usize> {
     match set_mode(heap, list, Kind::File, mode) {
         Ok(new) => Some(new.len()),
@@ -24,7 +25,7 @@ fn with_mode(heap: &LocalHeap, list: &AclList, mode: u32) -> Option<usize> {
     }
 }
 
-/// How long the list is that a child inherits.
+/// The length of the ACL that a child inherits.
 fn inherited(heap: &LocalHeap, list: &AclList) -> Option<usize> {
     match inherit(heap, list, Kind::Directory) {
         Ok(new) => Some(new.len()),
@@ -32,7 +33,7 @@ fn inherited(heap: &LocalHeap, list: &AclList) -> Option<usize> {
     }
 }
 
-/// How long the list is that is asked for.
+/// The length of the ACL that a client sends.
 fn admitted(heap: &LocalHeap, raws: &[Raw]) -> Option<usize> {
     match admit(heap, raws, Kind::Directory) {
         Ok(new) => Some(new.len()),
@@ -40,7 +41,7 @@ fn admitted(heap: &LocalHeap, raws: &[Raw]) -> Option<usize> {
     }
 }
 
-/// How long the list is that a new object gets.
+/// The length of the ACL of a new object.
 fn created(heap: &LocalHeap, parent: &AclList, mode: Option<u32>) -> Option<usize> {
     let given = Given { mode, list: None };
     match created_permissions(heap, parent, Kind::File, given) {
@@ -49,7 +50,7 @@ fn created(heap: &LocalHeap, parent: &AclList, mode: Option<u32>) -> Option<usiz
     }
 }
 
-/// How long the list is that an object has.
+/// The length of the ACL of an object.
 fn changed(heap: &LocalHeap, list: &AclList, mode: Option<u32>) -> Option<usize> {
     let given = Given { mode, list: None };
     match changed_permissions(heap, list, 0, Kind::File, given) {
@@ -58,7 +59,7 @@ fn changed(heap: &LocalHeap, list: &AclList, mode: Option<u32>) -> Option<usize>
     }
 }
 
-/// How long the list is that a call makes over the heap, if there is memory for it.
+/// The length of the ACL that a call makes over the heap, if the allocation succeeds.
 fn made(call: Call, heap: &LocalHeap, list: &AclList, raws: &[Raw]) -> Option<usize> {
     match call {
         Call::SetMode => with_mode(heap, list, 0o640),
@@ -76,7 +77,7 @@ static RAWS: [Raw; 20] = [Raw {
     who: Some(Who::User(5)),
 }; 20];
 
-/// How long the list of each call is over a list of 20 entries, and over an empty one.
+/// The length of the ACL of each call over an ACL of 20 ACEs, and over an empty one.
 static CALLS: [(Call, usize, usize); 7] = [
     (Call::SetMode, 25, 5),
     (Call::Inherit, 20, 0),
@@ -95,7 +96,8 @@ fn calls() -> &'static [(Call, usize, usize)] {
     &CALLS
 }
 
-/// How long the list of a call is over a heap of this size, if there is memory for it, and how many bytes are left behind.
+/// The length of the ACL of a call over a heap of this size, if the allocation succeeds, and how many bytes stay
+/// allocated.
 fn made_at(alloc: Global, size: usize, call: Call, list: &AclList) -> (Option<usize>, usize) {
     match LocalHeap::new(alloc, size) {
         Ok(heap) => {
@@ -106,7 +108,7 @@ fn made_at(alloc: Global, size: usize, call: Call, list: &AclList) -> (Option<us
     }
 }
 
-/// How often a call is refused over each size of a heap. Else its list is as long as this; nothing is left behind.
+/// How often a call fails, over each size of a heap. Else its ACL has this length. No byte stays allocated.
 fn refusals(rt: &impl Abort, alloc: Global, call: Call, list: &AclList, want: usize) -> u32 {
     let mut refused = 0u32;
     for size in 0..3072usize {
@@ -150,7 +152,7 @@ fn see_empty(rt: &impl Abort, alloc: Global, empty: &AclList) {
     }
 }
 
-/// With ample memory none is refused.
+/// With ample memory no call fails.
 #[test]
 fn whole_over_an_empty_list(rt: HostRuntime) {
     let empty = AclList::new(rt.alloc());

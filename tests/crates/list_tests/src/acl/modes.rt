@@ -1,4 +1,5 @@
-//! Modes of lists, and lists for modes, worked out by hand from RFC 8881, sections 6.3.2 and 6.4.1.1.
+//! Modes of access control lists (ACLs), and ACLs for modes, worked out by hand from RFC 8881, sections 6.3.2 and
+//! 6.4.1.1.
 
 use crate::acl::entries::{allow, audit, deny, entry, five};
 use Kind::{Directory, File, Link};
@@ -22,7 +23,7 @@ fn lists() -> &'static [(Kind, u32, &'static [Entry])] {
     &LISTS
 }
 
-/// The list and the mode, without the contracts of what makes them.
+/// The ACL and the mode, without the contracts of the functions that make them.
 fn with_mode(alloc: Global, list: &AclList, kind: Kind, mode: u32) -> Result<AclList, AllocError> {
     set_mode(alloc, list, kind, mode)
 }
@@ -31,19 +32,19 @@ fn mode_in(list: &AclList) -> u32 {
     mode_of(list)
 }
 
-/// Whether a list has these entries and this mode.
+/// Whether an ACL has these ACEs and this mode.
 fn is_list(list: &AclList, want: &[Entry], mode: u32) -> bool {
     (list.as_slice() == want) & (mode_in(list) == mode)
 }
 
-/// Whether the list for a mode, where there was none before, has these entries and the nine low bits.
+/// Whether the ACL for a mode, if there was none before, has these ACEs and the nine low bits.
 fn is_made(alloc: Global, kind: Kind, mode: u32, want: &[Entry]) -> Result<bool, AllocError> {
     let none = AclList::new(alloc);
     let list = with_mode(alloc, &none, kind, mode)?;
     Ok(is_list(&list, want, mode % 0o1000))
 }
 
-/// The high bits of a mode don't count.
+/// The high bits of a mode have no effect.
 #[test]
 fn lists_for_modes(rt: HostRuntime) {
     for (kind, mode, want) in lists() {
@@ -80,7 +81,7 @@ fn before_and_after() -> (&'static [Entry], &'static [Entry]) {
     (&BEFORE, &AFTER)
 }
 
-/// Whether a list of a directory has these entries after a mode, and after it again.
+/// Whether an ACL of a directory has these ACEs after a mode, and after the same mode again.
 fn is_after(alloc: Global, list: &AclList, after: &[Entry]) -> Result<bool, AllocError> {
     let new = with_mode(alloc, list, Directory, 0o640)?;
     let again = with_mode(alloc, &new, Directory, 0o640)?;
@@ -92,7 +93,7 @@ fn is_changed(alloc: Global, before: &[Entry], after: &[Entry]) -> Result<bool, 
     is_after(alloc, &list, after)
 }
 
-/// A mode that is set on the list of a directory, and set again.
+/// A mode that is set on the ACL of a directory, and set again.
 #[test]
 fn a_mode_on_the_list_of_a_directory(rt: HostRuntime) {
     let (before, after) = before_and_after();
@@ -112,7 +113,7 @@ static KEPT: [(Entry, Option<Entry>); 14] = [
     ),
     (allow!(0, 0x27, Owner), None),
     (deny!(0x04, 0x27, Group), None),
-    // the flag IDENTIFIER_GROUP says nothing of a special identifier
+    // the flag IDENTIFIER_GROUP has no effect on a special identifier
     (allow!(0x40, 0x27, Everyone), None),
     (
         allow!(0x01, 0x27, Everyone),
@@ -124,7 +125,7 @@ static KEPT: [(Entry, Option<Entry>); 14] = [
         allow!(0x40, 0x06, GroupOf(5)),
         Some(allow!(0x40, 0, GroupOf(5))),
     ),
-    // also where new objects get it, and with bits that the standard doesn't define
+    // also if new objects get it, and with bits that the standard doesn't define
     (
         allow!(0x03, 0x8000_00ff, GroupOf(5)),
         Some(allow!(0x03, 0x8000_00d9, GroupOf(5))),
@@ -140,12 +141,12 @@ fn kept() -> &'static [(Entry, Option<Entry>)] {
     &KEPT
 }
 
-/// The first entry and the last one of a list.
+/// The first ACE and the last one of an ACL.
 fn ends_of(entries: &[Entry]) -> (Option<Entry>, Option<Entry>) {
     (entries.first().copied(), entries.last().copied())
 }
 
-/// Whether a list of so many entries has just this one between its two first and its three last ones.
+/// Whether an ACL has exactly this ACE between its first two and its last three.
 fn keeps(entries: &[Entry], after: Option<Entry>) -> bool {
     match after {
         Some(entry) => (entries.len() == 6) & (entries.get(2).copied() == Some(entry)),
@@ -153,7 +154,7 @@ fn keeps(entries: &[Entry], after: Option<Entry>) -> bool {
     }
 }
 
-/// Whether a file's list has the ends of the list of a mode, and between them what that keeps of an entry.
+/// Whether a file's ACL has the ends of the ACL of a mode, and between them the rest that the mode keeps of an ACE.
 fn is_kept(alloc: Global, before: Entry, after: Option<Entry>) -> Result<bool, AllocError> {
     let list = AclList::from_slice(alloc, &[before])?;
     let new = with_mode(alloc, &list, File, 0o640)?;
@@ -162,12 +163,12 @@ fn is_kept(alloc: Global, before: Entry, after: Option<Entry>) -> Result<bool, A
 
 static ENDS: [Entry; 5] = five!(0x1e0187, 0x20, 0x01, 0x26, 0x120080);
 
-/// The list for the mode 0o640 of a file, where there was none before.
+/// The ACL for the mode 0o640 of a file, if there was none before.
 fn ends() -> &'static [Entry] {
     &ENDS
 }
 
-/// Each entry by itself, where the group may read alone and so lacks 0x26.
+/// Each ACE by itself, under a mode in which the group may only read and so lacks 0x26.
 #[test]
 fn what_a_mode_keeps(rt: HostRuntime) {
     for (before, after) in kept() {

@@ -12,13 +12,13 @@ pub const GROUP: u32 = 100;
 pub enum Person {
     /// The owner, and no member of the group.
     Alice,
-    /// The owner, and a member.
+    /// The owner, and a member of the group.
     AliceInside,
-    /// A member by the gid.
+    /// A member of the group by the gid.
     Bob,
-    /// A member by a further gid.
+    /// A member of the group by a further gid.
     Carol,
-    /// Neither.
+    /// Neither the owner nor a member.
     Dave,
 }
 

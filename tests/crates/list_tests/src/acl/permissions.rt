@@ -1,5 +1,5 @@
-//! The lists of new objects, and of objects whose mode, list or both were set: by hand from RFC 8881, sections 6.4.1
-//! and 6.4.3.
+//! The access control lists (ACLs) of new objects, and of objects whose mode, ACL or both were set: by hand from RFC
+//! 8881, sections 6.4.1 and 6.4.3.
 
 use crate::acl::entries::{allow, deny, entry, five};
 use Kind::{Directory, File, Link};
@@ -9,10 +9,10 @@ use acl_shape::{Given, Permissions, changed_permissions, created_permissions};
 use std::alloc::{AllocError, Global};
 use std::process::Abort;
 
-/// The list that is given.
+/// The ACL that is sent.
 const ASKED: &[Entry] = &[allow!(0, 0x1, Everyone)];
 
-/// A mode and whether `ASKED` is given.
+/// A mode, and `ASKED` if it is sent.
 fn given(alloc: Global, mode: Option<u32>, with_list: bool) -> Result<Given, AllocError> {
     let list = if with_list {
         Some(AclList::from_slice(alloc, ASKED)?)
@@ -22,7 +22,7 @@ fn given(alloc: Global, mode: Option<u32>, with_list: bool) -> Result<Given, All
     Ok(Given { mode, list })
 }
 
-/// A directory's list with an entry to be inherited, and one without.
+/// A directory's ACL with an ACE to be inherited, and one without.
 const PARENT: &[Entry] = &[allow!(0x0b, 0x27, User(1002)), allow!(0, 0x67, Everyone)];
 
 const BARREN: &[Entry] = &[allow!(0, 0x67, Everyone)];
@@ -36,7 +36,7 @@ const WITH_MODE: &[Entry] = &[
     allow!(0, 0x120080, Everyone),
 ];
 
-/// The directory's list, the kind, the mode, whether a list is given; the new object's list and high bits.
+/// The directory's ACL, the object type, the mode, whether an ACL is sent; the new object's ACL and high bits.
 #[derive(Clone, Copy)]
 struct Creation<'a> {
     name: &'a str,
@@ -77,7 +77,7 @@ fn creations() -> &'static [Creation<'static>] {
     &CREATIONS
 }
 
-/// The permissions, without the contracts of what makes them.
+/// The permissions, without the contracts of the functions that make them.
 fn created(
     alloc: Global,
     parent: &AclList,
@@ -96,7 +96,7 @@ fn changed(
     changed_permissions(alloc, list, high, File, given)
 }
 
-/// Whether the list has these entries, and the high bits.
+/// Whether the ACL has these ACEs, and the high bits.
 fn parts_of(permissions: &Permissions, list: &[Entry]) -> (bool, u32) {
     (permissions.list.as_slice() == list, permissions.high)
 }
@@ -123,7 +123,7 @@ fn new_objects(rt: HostRuntime) {
     }
 }
 
-/// A file's list with one entry of a user of its own.
+/// A file's ACL with one ACE for a named user.
 const NAMED: &[Entry] = &[allow!(0, 0x07, User(5))];
 
 const NAMED_WITH_MODE: &[Entry] = &[
@@ -135,7 +135,7 @@ const NAMED_WITH_MODE: &[Entry] = &[
     allow!(0, 0x120080, Everyone),
 ];
 
-/// The mode and whether a list is given; the list and the high bits after it, where they were 0o4000.
+/// The mode and whether an ACL is sent; the ACL and the high bits after it, if they were 0o4000.
 static CHANGES: [Change; 4] = [
     ("a mode", Some(0o1640), false, NAMED_WITH_MODE, 0o1000),
     ("a list", None, true, ASKED, 0o4000),

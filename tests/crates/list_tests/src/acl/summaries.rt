@@ -1,19 +1,19 @@
-//! Summaries, mentions and watched bits, worked out by hand.
+//! Summaries, first matching ACEs (access control entries) and watched bits, worked out by hand.
 
 use crate::acl::entries::{allow, audit, deny, entry};
 use crate::acl::people::{GROUP, OWNER, Person};
 use EntryKind::{Alarm, Allow, Audit, Deny};
-use Mention::{AllowedBy, DeniedBy, Unmentioned};
+use FirstMatch::{AllowedBy, DeniedBy, Unmatched};
 use Person::{Alice, AliceInside, Bob, Carol, Dave};
 use Who::{Everyone, Group, Owner, User};
 use acl_list::{
-    AclList, Entry, EntryKind, Mention, Summary, Who, class_grant, mask, mention, summary,
+    AclList, Entry, EntryKind, FirstMatch, Summary, Who, class_grant, first_match, mask, summary,
     watched_bits,
 };
 use std::alloc::{AllocError, Global};
 use std::process::Abort;
 
-/// A list with every type of entry.
+/// An access control list (ACL) with every type of ACE.
 static MIXED: [Entry; 7] = [
     allow!(0, 0x7, Owner),
     deny!(0, 0x3, Group),
@@ -24,7 +24,7 @@ static MIXED: [Entry; 7] = [
     audit!(0x20, 0x4, User(1002)),
 ];
 
-/// The bits of a summary: granted, watched where they are granted, and where they are refused.
+/// The bits of a summary: granted, watched when granted, and watched when denied.
 fn sum(list: &AclList, person: Person) -> (u32, u32, u32) {
     let Summary {
         granted,
@@ -34,7 +34,7 @@ fn sum(list: &AclList, person: Person) -> (u32, u32, u32) {
     (granted, watch_ok, watch_fail)
 }
 
-/// The bits that the mixed list grants to callers, and those that it watches where they are refused.
+/// The bits that the mixed ACL grants to callers, and those that it watches when they are denied.
 static SUMS: [(Person, u32, u32); 5] = [
     (Alice, 0x27, 0x8000_0002),
     (AliceInside, 0x27, 0x8000_0002),
@@ -43,7 +43,7 @@ static SUMS: [(Person, u32, u32); 5] = [
     (Dave, 0x23, 0x8000_0002),
 ];
 
-/// The bits that the mixed list grants to classes.
+/// The bits that the mixed ACL grants to classes.
 static CLASSES: [(Who, u32); 4] = [
     (Owner, 0x27),
     (Group, 0x20),
@@ -51,17 +51,17 @@ static CLASSES: [(Who, u32); 4] = [
     (User(1002), 0x23),
 ];
 
-/// The entry of the mixed list that mentions a bit first.
-static MENTIONS: [(Person, u32, Mention); 9] = [
+/// The first ACE of the mixed ACL that matches a bit.
+static FIRST_MATCHES: [(Person, u32, FirstMatch); 9] = [
     (Alice, mask::READ_DATA, AllowedBy(0)),
     (Bob, mask::READ_DATA, DeniedBy(1)),
     (Dave, mask::READ_DATA, AllowedBy(2)),
     (AliceInside, mask::EXECUTE, AllowedBy(2)),
-    (Bob, mask::APPEND_DATA, Unmentioned),
-    (Dave, mask::DELETE, Unmentioned),
-    (Dave, 0x8000_0000, Unmentioned),
+    (Bob, mask::APPEND_DATA, Unmatched),
+    (Dave, mask::DELETE, Unmatched),
+    (Dave, 0x8000_0000, Unmatched),
     (Bob, 0x24, AllowedBy(2)),
-    (Dave, 0, Unmentioned),
+    (Dave, 0, Unmatched),
 ];
 
 fn sums() -> &'static [(Person, u32, u32)] {
@@ -72,16 +72,16 @@ fn classes() -> &'static [(Who, u32)] {
     &CLASSES
 }
 
-fn mentions() -> &'static [(Person, u32, Mention)] {
-    &MENTIONS
+fn first_matches() -> &'static [(Person, u32, FirstMatch)] {
+    &FIRST_MATCHES
 }
 
 fn class_bits(list: &AclList, class: Who) -> u32 {
     class_grant(list, class)
 }
 
-fn mentioned(list: &AclList, person: Person, bit: u32) -> Mention {
-    mention(list, OWNER, GROUP, &person.caller(), bit)
+fn match_of(list: &AclList, person: Person, bit: u32) -> FirstMatch {
+    first_match(list, OWNER, GROUP, &person.caller(), bit)
 }
 
 fn see_sums(rt: &impl Abort, list: &AclList) {
@@ -97,10 +97,10 @@ fn see_classes(rt: &impl Abort, list: &AclList) {
     }
 }
 
-fn see_mentions(rt: &impl Abort, list: &AclList) {
-    for (person, bit, want) in mentions() {
+fn see_first_matches(rt: &impl Abort, list: &AclList) {
+    for (person, bit, want) in first_matches() {
         assert!(rt;
-            mentioned(list, *person, *bit) == *want,
+            match_of(list, *person, *bit) == *want,
             "{person:?} asks {bit:x}"
         );
     }
@@ -110,17 +110,17 @@ fn mixed(alloc: Global) -> Result<AclList, AllocError> {
     AclList::from_slice(alloc, &MIXED)
 }
 
-/// Sums, bits of the classes and mentions of the mixed list.
+/// Summaries, bits of the classes and first matching ACEs of the mixed ACL.
 #[test]
 fn sums_of_a_mixed_list(rt: HostRuntime) -> Result<(), AllocError> {
     let list = mixed(rt.alloc())?;
     see_sums(&rt, &list);
     see_classes(&rt, &list);
-    see_mentions(&rt, &list);
+    see_first_matches(&rt, &list);
     Ok(())
 }
 
-/// Lists, and what they grant to Dave.
+/// ACLs, and the bits that they grant to Dave.
 static SMALL: [(&str, &[Entry], u32); 3] = [
     ("no entry", &[], 0),
     (
@@ -154,7 +154,7 @@ fn sums_of_small_lists(rt: HostRuntime) {
     }
 }
 
-/// Entries, what is asked, and which bits of it they watch where it is granted to Dave, and where it is refused.
+/// ACEs, a requested mask, and the bits of it that they watch when it is granted to Dave, and when it is denied.
 static WATCHED: [(&str, Entry, u32, u32, u32); 10] = [
     ("both flags", audit!(0x30, 0x1, Everyone), 0x1, 0x1, 0x1),
     ("another bit", audit!(0x30, 0x1, Everyone), 0x2, 0, 0),
@@ -194,7 +194,7 @@ fn watched_by(entry: &Entry, granted: bool, asked: u32) -> u32 {
     watched_bits(entry, OWNER, GROUP, &Dave.caller(), granted, asked)
 }
 
-/// An entry watches bits by one flag where a mask is granted, and by the other where it is refused.
+/// An ACE watches bits by one flag if a mask is granted, and by the other if it is denied.
 #[test]
 fn watched(rt: HostRuntime) {
     for (name, entry, asked, granted, refused) in watched_table() {

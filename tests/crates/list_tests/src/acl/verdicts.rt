@@ -10,7 +10,7 @@ use rpc_record::Caller;
 use std::alloc::{AllocError, Global};
 use std::process::Abort;
 
-/// A list, and its verdict for each caller and mask.
+/// An access control list, and its verdict for each caller and mask.
 struct Case {
     name: &'static str,
     entries: &'static [Entry],
@@ -27,8 +27,8 @@ macro_rules! case {
     };
 }
 
-/// The who of an entry.
-static CASES_OF_WHOS: [Case; 17] = [
+/// The principal of an ACE (access control entry).
+static CASES_OF_PRINCIPALS: [Case; 17] = [
     case!(
         "owner, group, everyone",
         [allow!(0, 1, Owner), deny!(0, 3, Group), allow!(0, 3, Everyone)]
@@ -89,11 +89,11 @@ static CASES_OF_WHOS: [Case; 17] = [
     ),
 ];
 
-fn cases_of_whos() -> &'static [Case] {
-    &CASES_OF_WHOS
+fn cases_of_principals() -> &'static [Case] {
+    &CASES_OF_PRINCIPALS
 }
 
-/// Bits over several entries.
+/// Bits over several ACEs.
 static CASES_OF_BITS: [Case; 18] = [
     case!(
         "allowed first",
@@ -179,7 +179,7 @@ fn cases_of_bits() -> &'static [Case] {
     &CASES_OF_BITS
 }
 
-/// Flags, and entries that decide nothing.
+/// Flags, and ACEs that decide nothing.
 static CASES_OF_FLAGS: [Case; 14] = [
     case!(
         "an ALLOW to be inherited only",
@@ -279,7 +279,7 @@ fn see_cases(rt: &impl Abort, alloc: Global, cases: &[Case]) {
 
 #[test]
 fn counted_by_hand(rt: HostRuntime) {
-    see_cases(&rt, rt.alloc(), cases_of_whos());
+    see_cases(&rt, rt.alloc(), cases_of_principals());
     see_cases(&rt, rt.alloc(), cases_of_bits());
     see_cases(&rt, rt.alloc(), cases_of_flags());
 }

@@ -1,4 +1,4 @@
-//! The settings of books with their answers by the rules and the standard of TOML, worked out by hand.
+//! The settings of books with their results by the rules and the standard of TOML, worked out by hand.
 use crate::book::given::answer;
 use std::alloc::{AllocError, Global};
 use who_book::BookFault;
@@ -22,7 +22,7 @@ fn faults_are_numbered(rt: HostRuntime) {
     }
 }
 
-/// Settings with the answer of the text.
+/// Settings with the result of the text.
 static KEYS: [(&str, u8); 15] = [
     ("domain='d'\nroot_owner=0\nroot_group=0\nroot_mode=0\n", 0),
     ("root_owner=0\nroot_group=0\nroot_mode=0\n", 2),
@@ -63,7 +63,7 @@ fn keys_table() -> &'static [(&'static str, u8)] {
     &KEYS
 }
 
-/// Keys that are missing, unknown, written otherwise or given twice.
+/// Keys that are missing, unknown, written in another form or given twice.
 #[test]
 fn keys(rt: HostRuntime) {
     for (settings, want) in keys_table() {
@@ -72,7 +72,7 @@ fn keys(rt: HostRuntime) {
     }
 }
 
-/// Values of a number with the answer of the text.
+/// Values of a number with the result of the text.
 static OWNERS: [(&str, u8); 20] = [
     ("0", 0),
     ("4294967295", 0),
@@ -100,7 +100,7 @@ fn numbers_table() -> &'static [(&'static str, u8)] {
     &OWNERS
 }
 
-/// The answer of a text with a value of one key, and 0 for the other.
+/// The result of a text with a value of one key, and 0 for the other.
 fn number<'a>(
     alloc: Global,
     key: &'a str,
@@ -132,7 +132,7 @@ fn owners(rt: HostRuntime) {
     }
 }
 
-/// A mode and a domain with the answer of the text.
+/// A mode and a domain with the result of the text.
 static MODES: [(&str, u8); 13] = [
     ("root_mode=4095\ndomain='d'\n", 0),
     ("root_mode=4096\ndomain='d'\n", 3),
@@ -153,7 +153,7 @@ fn modes_table() -> &'static [(&'static str, u8)] {
     &MODES
 }
 
-/// The answer of a text with a mode and a domain.
+/// The result of a text with a mode and a domain.
 fn mode_and_domain(alloc: Global, value: &str) -> Result<u8, AllocError> {
     answer(
         alloc,

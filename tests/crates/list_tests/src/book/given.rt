@@ -1,8 +1,8 @@
-//! Texts and their answers. The functions have no contract, so that the prover doesn't compute on a test's text.
+//! Texts and their results. The functions have no contract, so that the prover doesn't compute on a test's text.
 use std::alloc::{AllocError, Global};
 use who_book::Book;
 
-/// Adds a text so many times.
+/// Appends a text `times` times.
 pub fn push_times(text: &mut String, piece: &str, times: u32) -> Result<(), AllocError> {
     for _ in 0..times {
         text.push_str(piece)?;
@@ -24,7 +24,7 @@ pub fn joined(alloc: Global, pieces: &[&str]) -> Result<String, AllocError> {
     Ok(text)
 }
 
-/// The number of a text's fault, or 0 where it is a book.
+/// The number of a text's fault, or 0 if it is a book.
 pub fn answer_of(alloc: Global, text: &str) -> u8 {
     match Book::read(alloc, text) {
         Ok(_) => 0,
@@ -32,7 +32,7 @@ pub fn answer_of(alloc: Global, text: &str) -> u8 {
     }
 }
 
-/// The number of the fault of a text of some pieces, or 0 where it is a book.
+/// The number of the fault of a text of some pieces, or 0 if it is a book.
 pub fn answer(alloc: Global, pieces: &[&str]) -> Result<u8, AllocError> {
     let text = joined(alloc, pieces)?;
     Ok(answer_of(alloc, text.as_str()))

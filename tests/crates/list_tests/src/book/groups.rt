@@ -14,7 +14,7 @@ fn caller(rt: &impl Abort, uid: u32, gid: u32, further: &[u32]) -> Caller {
 /// A caller's uid, gid and further groups, and the gid and the groups that a book gives it.
 type Given = (u32, u32, &'static [u32], u32, &'static [u32]);
 
-/// A caller as a book has it, without the contract of what gives it its groups.
+/// A caller as a book has it, without the contract of the function that gives it its groups.
 fn member_of(book: &Book, caller: &Caller) -> Caller {
     book.member(caller)
 }
@@ -129,7 +129,7 @@ fn without_members_callers_stay(rt: HostRuntime) {
     see_each(&rt, &none, as_sent());
 }
 
-/// Callers of the book where bob is in 17 groups.
+/// Callers of the book in which bob is in 17 groups.
 static SEVENTEEN: [Given; 4] = [
     (
         1002,

@@ -1,4 +1,4 @@
-//! The texts whose `members` is taken or refused.
+//! The texts whose `members` is accepted or refused.
 use crate::book::given::{answer, answer_of};
 use std::alloc::{AllocError, Global};
 use who_book::BookFault;
@@ -13,7 +13,7 @@ fn member_is_numbered(rt: HostRuntime) {
     assert!(rt; BookFault::Member as u8 == 6);
 }
 
-/// The lines behind the tables, with the answer of the text.
+/// The lines after the tables, with the result of the text.
 static MEMBERS: [(&str, u8); 43] = [
     ("", 0),
     ("members={}\n", 0),
@@ -64,7 +64,7 @@ static MEMBERS: [(&str, u8); 43] = [
     ("[members]\nstaff=['bob', 'alice', 'bob']\n", 6),
     // a key twice
     ("[members]\nstaff=['bob']\nstaff=['alice']\n", 1),
-    // a wrong type behind an unknown name
+    // a wrong type after an unknown name
     ("[members]\ncrew=['carol']\nstaff=5\n", 2),
 ];
 
@@ -108,7 +108,7 @@ fn first_table() -> &'static [(&'static str, u8)] {
     &FIRST
 }
 
-/// Member comes behind each other fault.
+/// Member comes after each other fault.
 #[test]
 fn member_comes_last(rt: HostRuntime) {
     for (tables, want) in first_table() {
@@ -117,20 +117,20 @@ fn member_comes_last(rt: HostRuntime) {
     }
 }
 
-/// Puts the number of a group into a text: 99 for g1, 98 for g2, and so on.
+/// Appends the number of a group to a text: 99 for g1, 98 for g2, and so on.
 fn push_number(alloc: Global, text: &mut String, group: u32) -> Result<(), AllocError> {
     let number = 100 - group.min(100);
     let line = format!(in alloc; "g{group} = {number}\n")?;
     text.push_str(line.as_str())
 }
 
-/// Puts bob among the members of a group.
+/// Appends bob to the members of a group.
 fn push_member(alloc: Global, text: &mut String, group: u32) -> Result<(), AllocError> {
     let line = format!(in alloc; "g{group} = ['bob']\n")?;
     text.push_str(line.as_str())
 }
 
-/// Puts so many groups with bob into a text.
+/// Appends `groups` groups with bob to a text.
 fn push_groups(alloc: Global, text: &mut String, groups: u32) -> Result<(), AllocError> {
     for group in 1..=groups {
         push_number(alloc, text, group)?;
@@ -142,7 +142,7 @@ fn push_groups(alloc: Global, text: &mut String, groups: u32) -> Result<(), Allo
     Ok(())
 }
 
-/// A book where bob is in so many groups: g1 has number 99, g2 has 98, and so on.
+/// A book in which bob is in `groups` groups: g1 has number 99, g2 has 98, and so on.
 pub fn in_groups(alloc: Global, groups: u32) -> Result<String, AllocError> {
     let mut text = String::from_str(
         alloc,

@@ -1,11 +1,11 @@
-//! The contents of books, and how users, groups and whos are spelled by them.
+//! The contents of books, and the text of users, groups and principals by them.
 use crate::book::given::{joined, push_times};
 use acl_list::Who;
 use std::alloc::{AllocError, Global};
 use std::process::Abort;
 use who_book::{Book, BookFault, IDENTIFIER_GROUP, NameKind};
 
-/// The book that the tests ask.
+/// The book of the tests.
 fn words() -> &'static str {
     "domain = 'example.org'\nroot_owner = 1001\nroot_group = 100\nroot_mode = 0o1750\n[users]\nalice = 1001\nbob = 1002\n[groups]\nstaff = 100\nbob = 7\n"
 }
@@ -35,7 +35,7 @@ fn settings(rt: HostRuntime) -> Result<(), BookFault> {
     Ok(())
 }
 
-/// The book where there is none.
+/// The book that is used if there is none.
 #[test]
 fn settings_where_there_is_no_book(rt: HostRuntime) {
     let local = Book::default(rt.alloc());
@@ -74,7 +74,7 @@ fn numbers() -> &'static [(NameKind, &'static str, Option<u32>)] {
     &NUMBERS
 }
 
-/// Asks for a name, and back for its number.
+/// Looks up a name, and then the name of its number.
 fn is_numbered(book: &Book, kind: NameKind, name: &str, number: Option<u32>) -> bool {
     let is_found = number_of(book, kind, name) == number;
     match number {
@@ -98,7 +98,7 @@ fn look_ups(rt: HostRuntime) -> Result<(), BookFault> {
     Ok(())
 }
 
-/// Texts with the user and the group that they spell.
+/// Texts with the user and the group that they name.
 static READ: [(&str, Option<u32>, Option<u32>); 24] = [
     ("alice@example.org", Some(1001), None),
     ("bob@example.org", Some(1002), Some(7)),
@@ -169,7 +169,7 @@ fn written_table() -> &'static [(NameKind, u32, &'static str)] {
     &WRITTEN
 }
 
-/// Whether a number is spelled as this text.
+/// Whether a number has this text.
 fn is_spelled(book: &Book, kind: NameKind, number: u32, text: &str) -> bool {
     let spelling = book.spell_principal(kind, number);
     (spelling.as_bytes() == text.as_bytes()) & (spelling.len() == text.len()) & !spelling.is_empty()
@@ -188,8 +188,8 @@ fn principals_are_written(rt: HostRuntime) -> Result<(), BookFault> {
     Ok(())
 }
 
-/// Texts with the who without and with IDENTIFIER_GROUP.
-static WHOS: [(&str, Option<Who>, Option<Who>); 10] = [
+/// Texts with the principal without and with IDENTIFIER_GROUP.
+static PRINCIPALS: [(&str, Option<Who>, Option<Who>); 10] = [
     ("OWNER@", Some(Who::Owner), Some(Who::Owner)),
     ("GROUP@", Some(Who::Group), Some(Who::Group)),
     ("EVERYONE@", Some(Who::Everyone), Some(Who::Everyone)),
@@ -206,11 +206,11 @@ static WHOS: [(&str, Option<Who>, Option<Who>); 10] = [
     ("7", Some(Who::User(7)), Some(Who::GroupOf(7))),
 ];
 
-fn whos_table() -> &'static [(&'static str, Option<Who>, Option<Who>)] {
-    &WHOS
+fn principals_table() -> &'static [(&'static str, Option<Who>, Option<Who>)] {
+    &PRINCIPALS
 }
 
-/// Whos with their texts.
+/// Principals with their texts.
 static SPELLED: [(Who, &str); 7] = [
     (Who::Owner, "OWNER@"),
     (Who::Group, "GROUP@"),
@@ -225,34 +225,34 @@ fn spelled_table() -> &'static [(Who, &'static str)] {
     &SPELLED
 }
 
-/// The who of a text under some flags.
+/// The principal of a text under some flags.
 fn who(book: &Book, flags: u32, text: &str) -> Option<Who> {
     book.who(flags, text.as_bytes())
 }
 
-fn read_whos(rt: &impl Abort, book: &Book) {
-    for (text, plain, group) in whos_table() {
+fn read_principals(rt: &impl Abort, book: &Book) {
+    for (text, plain, group) in principals_table() {
         assert!(rt; who(book, 0, text) == *plain, "{text}");
         assert!(rt; who(book, 0xbf, text) == *plain, "{text} under other flags");
         assert!(rt; who(book, IDENTIFIER_GROUP, text) == *group, "group {text}");
     }
 }
 
-fn is_who_spelled(book: &Book, who: Who, text: &str) -> bool {
-    book.spell_who(who).as_bytes() == text.as_bytes()
+fn is_principal_spelled(book: &Book, who: Who, text: &str) -> bool {
+    book.spell_ace_principal(who).as_bytes() == text.as_bytes()
 }
 
-fn write_whos(rt: &impl Abort, book: &Book) {
+fn write_principals(rt: &impl Abort, book: &Book) {
     for (who, text) in spelled_table() {
-        assert!(rt; is_who_spelled(book, *who, text), "{text}");
+        assert!(rt; is_principal_spelled(book, *who, text), "{text}");
     }
 }
 
 #[test]
-fn whos(rt: HostRuntime) -> Result<(), BookFault> {
+fn principals(rt: HostRuntime) -> Result<(), BookFault> {
     let book = book(rt.alloc())?;
-    read_whos(&rt, &book);
-    write_whos(&rt, &book);
+    read_principals(&rt, &book);
+    write_principals(&rt, &book);
     Ok(())
 }
 

@@ -1,4 +1,4 @@
-//! The tables of books with their answers by the rules and the standard of TOML, worked out by hand.
+//! The tables of books with their results by the rules and the standard of TOML, worked out by hand.
 use crate::book::given::{answer, answer_of, joined, push_times};
 use std::alloc::{AllocError, Global};
 
@@ -7,7 +7,7 @@ fn settings() -> &'static str {
     "domain = 'd'\nroot_owner = 0\nroot_group = 0\nroot_mode = 0\n"
 }
 
-/// Rows with the answer of the text.
+/// Rows with the result of the text.
 static ROWS: [(&str, u8); 26] = [
     ("", 0),
     ("alice = 1001\n", 0),
@@ -52,7 +52,7 @@ fn rows(rt: HostRuntime) {
     }
 }
 
-/// Tables with the answer of the text.
+/// Tables with the result of the text.
 static TABLES: [(&str, u8); 15] = [
     ("[users]\n[groups]\n", 0),
     ("[groups]\n[users]\n", 0),
@@ -88,7 +88,7 @@ fn no_tables() -> &'static [(&'static str, u8)] {
     &NO_TABLES
 }
 
-/// How the tables stand in the document.
+/// How the tables are written in the document.
 #[test]
 fn tables(rt: HostRuntime) {
     for (tables, want) in tables_table() {
@@ -100,16 +100,16 @@ fn tables(rt: HostRuntime) {
     }
 }
 
-/// A text of so many pieces.
-fn repeated(alloc: Global, piece: &str, times: u32) -> Result<String, AllocError> {
+/// A text of `times` pieces.
+fn retried(alloc: Global, piece: &str, times: u32) -> Result<String, AllocError> {
     let mut text = String::new(alloc);
     push_times(&mut text, piece, times)?;
     Ok(text)
 }
 
-/// The answer of a text whose domain is so many pieces.
+/// The result of a text whose domain is `times` pieces.
 fn long_domain(alloc: Global, piece: &str, times: u32) -> Result<u8, AllocError> {
-    let domain = repeated(alloc, piece, times)?;
+    let domain = retried(alloc, piece, times)?;
     answer(
         alloc,
         &[
@@ -120,16 +120,16 @@ fn long_domain(alloc: Global, piece: &str, times: u32) -> Result<u8, AllocError>
     )
 }
 
-/// The answer of a text with a user whose name is so many pieces.
+/// The result of a text with a user whose name is `times` pieces.
 fn long_name(alloc: Global, piece: &str, times: u32) -> Result<u8, AllocError> {
-    let name = repeated(alloc, piece, times)?;
+    let name = retried(alloc, piece, times)?;
     answer(
         alloc,
         &[settings(), "[users]\n'", name.as_str(), "' = 1\n[groups]\n"],
     )
 }
 
-/// Pieces, how often they stand in a domain, and in a name, and the answer of the text.
+/// Pieces, the number of them in a domain, and in a name, and the result of the text.
 static LENGTHS: [(&str, u32, u32, u8); 4] = [
     ("x", 128, 64, 0),
     ("x", 129, 65, 3),
@@ -165,7 +165,7 @@ fn push_rows(alloc: Global, text: &mut String, names: u32) -> Result<(), AllocEr
     text.push_str("[groups]\n")
 }
 
-/// The answer of a text with so many users.
+/// The result of a text with `names` users.
 fn many_names(alloc: Global, names: u32) -> Result<u8, AllocError> {
     let mut text = joined(alloc, &[settings(), "[users]\n"])?;
     push_rows(alloc, &mut text, names)?;

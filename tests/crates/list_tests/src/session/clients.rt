@@ -84,7 +84,7 @@ fn two_flags_are_refused(rt: HostRuntime) {
     see_two_flags_are_refused(&rt, &mut clients);
 }
 
-/// The session 2 is created, and the record of the client 1 goes.
+/// The session 2 is created, and the record of the client 1 is removed.
 const IN_ITS_PLACE: Outcome = Made(2, 1, SMALL, SMALL, Some(1));
 
 const A_NEW_VERIFIER: &[(Step<'_>, Outcome)] = &[
@@ -127,7 +127,7 @@ const KNOWN: &[(Step<'_>, Outcome)] = &[
     (Sequence(1, CALL, b""), New(1, 4096, 0)),
 ];
 
-/// The confirmed record is answered, and the owner's unconfirmed record goes.
+/// The confirmed record is answered, and the owner's unconfirmed record is removed.
 #[test]
 fn a_known_client_loses_its_unconfirmed_record(rt: HostRuntime) {
     let mut clients = alice(rt.alloc());
@@ -202,7 +202,7 @@ fn see_sixty_four_clients(rt: &impl Abort, clients: &mut Clients) {
     walk(rt, clients, WITH_SIXTY_FOUR);
 }
 
-/// 64 records, one of them by another user than its owner's confirmed record: it takes the place of that record.
+/// 64 records, one of them by another user than its owner's confirmed record: it replaces that record.
 #[test]
 fn sixty_four_clients(rt: HostRuntime) {
     let mut clients = alice(rt.alloc());

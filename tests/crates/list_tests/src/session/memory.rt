@@ -1,4 +1,4 @@
-//! Every growth refused.
+//! Each allocation fails.
 
 use crate::session::plain::{ALICE, BY_BOB, CALL, Call, SMALL, new};
 use crate::session::steps::Outcome::{
@@ -18,13 +18,13 @@ use std::test::Fail;
 
 const SIZE: usize = 32_768;
 
-/// Takes all of the heap but so many bytes.
+/// Allocates all of the heap but `left` bytes.
 fn fill<'a>(heap: &'a LocalHeap, left: usize) -> Result<Vec<u8, &'a LocalHeap>, AllocError> {
     let taken = heap.used().saturating_add(left);
     Vec::with_capacity(heap, SIZE.saturating_sub(taken))
 }
 
-/// So many bytes of the heap are taken, and the calls come to these outcomes.
+/// Exactly `used` bytes of the heap are allocated, and the calls have these outcomes.
 fn see_unchanged<'a>(
     rt: &impl Abort,
     clients: &mut Clients<&'a LocalHeap>,
@@ -36,7 +36,7 @@ fn see_unchanged<'a>(
     walk(rt, clients, rows);
 }
 
-/// A call on a slot that no session has, so that it begins nowhere.
+/// A call on a slot that no session has, which is refused.
 const ON_NO_SLOT: Call<'static> = Call {
     slot: 9,
     highest: 9,
@@ -52,14 +52,14 @@ const ALICE_COMES: &[(Step<'_>, Outcome)] = &[
     (CreateSmall(1, 1), Session(1)),
 ];
 
-/// The session and the confirmed record are there.
+/// The session and the confirmed record exist.
 const ALICE_STAYS: &[(Step<'_>, Outcome)] = &[
     (Sequence(1, ON_NO_SLOT, b""), Refused(BadSlot)),
     (ConfirmedOf(b"alice"), Record(Some(1))),
 ];
 
-/// The session and the confirmed record are gone.
-const ALICE_IS_GONE: &[(Step<'_>, Outcome)] = &[
+/// The session and the confirmed record are removed.
+const ALICE_IS_REMOVED: &[(Step<'_>, Outcome)] = &[
     (Sequence(1, ON_NO_SLOT, b""), Refused(BadSession)),
     (ConfirmedOf(b"alice"), Record(None)),
 ];
@@ -67,7 +67,7 @@ const ALICE_IS_GONE: &[(Step<'_>, Outcome)] = &[
 /// The owner `alice` gets the client 2, by another user.
 const BOB_ASKS: &[(Step<'_>, Outcome)] = &[(ExchangeId(BY_BOB), Unconfirmed(2, 1, 0x1_0000))];
 
-/// With so many bytes left, whether an EXCHANGE_ID by another user is refused for memory, with all as it was.
+/// With `left` bytes left, whether an EXCHANGE_ID by another user fails for an allocation, with the state unchanged.
 fn exchange_fails<'a>(
     rt: &impl Abort,
     clients: &mut Clients<&'a LocalHeap>,
@@ -83,7 +83,8 @@ fn exchange_fails<'a>(
     Ok(fails)
 }
 
-/// A new user's record in place of `alice`'s confirmed one, with so many bytes left, and where that fails with all the heap.
+/// A new user's record in place of `alice`'s confirmed one, with `left` bytes left, and if that fails with all the
+/// heap.
 fn exchange_within(rt: &impl Abort, heap: &LocalHeap, left: usize) -> Result<bool, AllocError> {
     let mut clients = new(heap);
     walk(rt, &mut clients, ALICE_COMES);
@@ -91,7 +92,7 @@ fn exchange_within(rt: &impl Abort, heap: &LocalHeap, left: usize) -> Result<boo
     if fails {
         walk(rt, &mut clients, BOB_ASKS);
     }
-    walk(rt, &mut clients, ALICE_IS_GONE);
+    walk(rt, &mut clients, ALICE_IS_REMOVED);
     Ok(fails)
 }
 
@@ -103,14 +104,15 @@ const CREATION: Step<'static> = Create(1, 1, 1001, THREE_SLOTS, SMALL);
 /// The session 1 is created.
 const MADE: Outcome = Made(1, 1, THREE_SLOTS, SMALL, None);
 
-/// There is no session, no record is confirmed, and the first number isn't accepted.
+/// There is no session, no record is confirmed, and the first sequence ID isn't accepted.
 const NOTHING_IS_CREATED: &[(Step<'_>, Outcome)] = &[
     (Sequence(1, ON_NO_SLOT, b""), Refused(BadSession)),
     (ConfirmedOf(b"alice"), Record(None)),
     (CreateSmall(1, 2), Refused(SeqMisordered)),
 ];
 
-/// With so many bytes left, whether a CREATE_SESSION is refused for memory, with all as it was and its number not accepted.
+/// With `left` bytes left, whether a CREATE_SESSION fails for an allocation, with the state unchanged and its sequence
+/// ID not accepted.
 fn create_fails<'a>(
     rt: &impl Abort,
     clients: &mut Clients<&'a LocalHeap>,
@@ -131,7 +133,7 @@ const CREATED: &[(Step<'_>, Outcome)] = &[
     (ConfirmedOf(b"alice"), Record(Some(1))),
 ];
 
-/// A session with so many bytes left, and where that fails with all the heap.
+/// A session with `left` bytes left, and if that fails with all the heap.
 fn create_within(rt: &impl Abort, heap: &LocalHeap, left: usize) -> Result<bool, AllocError> {
     let mut clients = new(heap);
     walk(rt, &mut clients, ALICE_ASKS);
@@ -152,7 +154,7 @@ const ENDING: &[(Step<'_>, Outcome)] = &[
     (ConfirmedOf(b"alice"), Record(None)),
 ];
 
-/// A call on a slot, its repeat and its results.
+/// A call on a slot, its retry and its results.
 fn see_slot<'a>(rt: &impl Abort, clients: &mut Clients<&'a LocalHeap>, slot: u32) {
     let call = Call {
         slot,
@@ -168,7 +170,7 @@ fn see_slot<'a>(rt: &impl Abort, clients: &mut Clients<&'a LocalHeap>, slot: u32
     walk(rt, clients, &rows);
 }
 
-/// The calls that take no memory, with none left.
+/// The calls that allocate nothing, with no byte left.
 fn without_memory<'a>(
     rt: &impl Abort,
     clients: &mut Clients<&'a LocalHeap>,

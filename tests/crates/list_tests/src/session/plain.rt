@@ -1,4 +1,4 @@
-//! The calls of `Clients` without their contracts, so that a test's proof doesn't carry them along.
+//! The calls of `Clients` without their contracts, so that a test's proof doesn't carry them.
 
 use nfs_types::Status;
 use rpc_record::{Caller, MOST_FURTHER};
@@ -43,7 +43,7 @@ pub fn creation(client: u64, sequence: u32) -> Create {
     }
 }
 
-/// A call on a slot: what SEQUENCE says of it, the bytes behind its header, and its caller.
+/// A call on a slot: the arguments of its SEQUENCE, the bytes after its header, and its caller.
 #[derive(Clone, Copy, Debug)]
 pub struct Call<'a> {
     pub slot: u32,
@@ -53,7 +53,7 @@ pub struct Call<'a> {
     pub record_len: usize,
     pub arguments: &'a [u8],
     pub uid: u32,
-    /// The groups of the caller, the group 100 apart.
+    /// The groups of the caller, without the group 100.
     pub groups: &'a [u32],
 }
 
@@ -110,14 +110,14 @@ pub fn reclaim_complete<A: Allocator + Copy>(
     clients.reclaim_complete(client)
 }
 
-/// Begins a call, and keeps these results where it is new.
+/// Begins a call, and caches these results if it is new.
 fn begin<A: Allocator + Copy>(
     clients: &mut Clients<A>,
     session: u64,
     asked: Sequence<'_>,
     results: &[u8],
 ) -> Begin {
-    if asked.arguments.front.len() + asked.arguments.back.len() > asked.record_len {
+    if asked.arguments.prefix.len() + asked.arguments.back.len() > asked.record_len {
         return Begin::Refused(Status::ServerFault);
     }
     match clients.begin(session, asked) {
@@ -131,7 +131,7 @@ fn begin<A: Allocator + Copy>(
     }
 }
 
-/// Makes a call, and keeps these results where it is new.
+/// Makes a call, and caches these results if it is new.
 pub fn run<A: Allocator + Copy>(
     clients: &mut Clients<A>,
     session: u64,
@@ -149,7 +149,7 @@ pub fn run<A: Allocator + Copy>(
         count: call.count,
         record_len: call.record_len,
         arguments: CallBytes {
-            front: call.arguments,
+            prefix: call.arguments,
             back: &[],
         },
         caller: &caller,
@@ -158,7 +158,7 @@ pub fn run<A: Allocator + Copy>(
     begin(clients, session, asked, results)
 }
 
-/// Whether a slot keeps these results.
+/// Whether a slot caches these results.
 pub fn keeps<A: Allocator + Copy>(
     clients: &Clients<A>,
     session: u64,

@@ -1,11 +1,11 @@
-//! Clients, sessions and slots of before a restart, and clients that are let go (RFC 8881, sections 2.10.6.5 and 8.3).
+//! Clients, sessions and slots from before a restart, and clients that expire (RFC 8881, sections 2.10.6.5 and 8.3).
 
 use crate::session::plain::{ALICE, SMALL, create, creation, exchange};
 use nfs_types::Status;
 use rpc_record::Caller;
 use session_slots::{
-    Begin, CallBytes, CallForm, Channel, Clients, Create, Created, Creation, Exchange, Held,
-    KeptCall, Record, RecordForm, RestoreFault, Sequence, SessionForm, write_call,
+    Begin, CachedCall, CallBytes, CallForm, Channel, Clients, Create, Created, Creation, Exchange,
+    Held, Record, RecordForm, RestoreFault, Sequence, SessionForm, write_call,
 };
 use std::alloc::Global;
 use std::process::Abort;
@@ -29,8 +29,8 @@ const RECORD: Record<'static> = Record {
     reclaimed: true,
 };
 
-fn kept<'a>(number: u32, caller: &'a Caller) -> KeptCall<'a> {
-    KeptCall {
+fn kept<'a>(number: u32, caller: &'a Caller) -> CachedCall<'a> {
+    CachedCall {
         number,
         caller,
         arguments: b"args",
@@ -38,7 +38,8 @@ fn kept<'a>(number: u32, caller: &'a Caller) -> KeptCall<'a> {
     }
 }
 
-/// Client 5, heard in second 100, with its session 9, whose slot 0 keeps this number.
+/// Client 5, whose lease was renewed in second 100, with its session 9, whose slot 0 caches the call of this sequence
+/// ID.
 fn restored(rt: &impl Abort, alloc: Global, caller: &Caller, number: u32) -> Clients {
     let mut clients = Clients::new(alloc);
     assert_eq!(rt; clients.restore_numbers(6, 10), true);
@@ -62,7 +63,7 @@ fn asked<'a>(slot: u32, number: u32, arguments: &'a [u8], caller: &'a Caller) ->
         count: 1,
         record_len: 64,
         arguments: CallBytes {
-            front: arguments,
+            prefix: arguments,
             back: &[],
         },
         caller,
@@ -94,7 +95,7 @@ fn next_numbers_of_before_a_restart(rt: HostRuntime) {
 #[test]
 fn numbers_after_a_restart(rt: HostRuntime) {
     let caller = Caller::new(1001, 100, &[]);
-    // the kept number, a number, and whether it is new
+    // the cached sequence ID, a sequence ID, and whether it is new
     let table: [(u32, u32, bool); 12] = [
         (7, 8, true),
         (7, 9, true),
@@ -119,7 +120,7 @@ fn numbers_after_a_restart(rt: HostRuntime) {
 }
 
 #[test]
-fn a_kept_call_is_answered_again(rt: HostRuntime) {
+fn a_cached_call_is_answered_again(rt: HostRuntime) {
     let caller = Caller::new(1001, 100, &[]);
     let other = Caller::new(1002, 100, &[]);
     let mut clients = restored(&rt, rt.alloc(), &caller, 7);
@@ -136,7 +137,7 @@ fn a_kept_call_is_answered_again(rt: HostRuntime) {
         clients.begin(9, asked(0, 7, b"arg", &caller)),
         Begin::Refused(Status::SeqFalseRetry)
     );
-    // it lags no more once a new call has come
+    // it lags no more once a new call has arrived
     assert_eq!(rt;
         is_new(clients.begin(9, asked(0, 12, b"args", &caller))),
         true
@@ -158,7 +159,7 @@ fn a_kept_call_is_answered_again(rt: HostRuntime) {
 }
 
 #[test]
-fn a_slot_that_kept_no_call(rt: HostRuntime) {
+fn a_slot_without_a_cached_call(rt: HostRuntime) {
     let caller = Caller::new(1001, 100, &[]);
     let mut clients = restored(&rt, rt.alloc(), &caller, 7);
     assert_eq!(rt;
@@ -211,11 +212,11 @@ fn all_is_read_out_in_order(rt: HostRuntime) {
 }
 
 /// A record with a CREATE_SESSION that had this result.
-fn with_result(came_to: Result<Created, Status>) -> Record<'static> {
+fn with_result(outcome_of: Result<Created, Status>) -> Record<'static> {
     Record {
         created: Some(Creation {
             number: 3,
-            result: came_to,
+            result: outcome_of,
         }),
         ..RECORD
     }
@@ -231,14 +232,14 @@ const CREATED: Created = Created {
 
 #[test]
 fn records_that_are_written_are_read_again(rt: HostRuntime) -> Result<(), Fail> {
-    for came_to in [
+    for outcome_of in [
         Ok(CREATED),
         Err(Status::NoSpc),
         Err(Status::TooSmall),
         Err(Status::ClidInUse),
     ] {
         let mut writer = Writer::new(rt.alloc(), 1024)?;
-        let Some(form) = RecordForm::new(with_result(came_to)) else {
+        let Some(form) = RecordForm::new(with_result(outcome_of)) else {
             assert_eq!(rt; true, false);
             return Ok(());
         };
@@ -249,7 +250,7 @@ fn records_that_are_written_are_read_again(rt: HostRuntime) -> Result<(), Fail> 
             return Ok(());
         };
         let record = read.record();
-        assert_eq!(rt; record.created, with_result(came_to).created);
+        assert_eq!(rt; record.created, with_result(outcome_of).created);
         assert_eq!(rt; record.owner == b"alice".as_slice(), true);
         assert_eq!(rt; reader.is_empty(), true);
     }
@@ -305,13 +306,13 @@ fn persist_is_granted_where_sessions_last(rt: HostRuntime) {
 }
 
 #[test]
-fn the_most_silent_client_is_let_go(rt: HostRuntime) {
+fn the_most_silent_client_expires(rt: HostRuntime) {
     let caller = Caller::new(1001, 100, &[]);
     let mut clients = restored(&rt, rt.alloc(), &caller, 7);
-    // a restored record counts as heard in the second in which it was restored
+    // the lease of a restored record begins in the second in which it was restored
     assert_eq!(rt; clients.silent(190, 90), None);
     assert_eq!(rt; clients.silent(191, 90), Some(5));
-    // and a new one in that of its EXCHANGE_ID
+    // and that of a new one in the second of its EXCHANGE_ID
     let bob = Exchange {
         owner: b"bob",
         now: 50,
@@ -319,10 +320,10 @@ fn the_most_silent_client_is_let_go(rt: HostRuntime) {
     };
     let _ = exchange(&mut clients, bob);
     assert_eq!(rt; clients.silent(191, 90), Some(6));
-    clients.hear(6, 1000);
+    clients.renew(6, 1000);
     assert_eq!(rt; clients.silent(1000, 90), Some(5));
-    assert_eq!(rt; clients.let_go(5), true);
-    assert_eq!(rt; clients.let_go(5), false);
+    assert_eq!(rt; clients.expire(5), true);
+    assert_eq!(rt; clients.expire(5), false);
     assert_eq!(rt; clients.counts(), (1, 0));
     assert_eq!(rt; clients.silent(1000, 90), None);
     assert_eq!(rt;

@@ -25,7 +25,7 @@ const WIDE: Channel = Channel {
     slots: 64,
 };
 
-/// What is granted of a wide channel.
+/// The attributes that are granted of a wide channel.
 const CUT: Channel = Channel {
     padding: 0,
     request_size: 65_536,
@@ -50,7 +50,7 @@ const SIZES: &[(Step<'_>, Outcome)] = &[
 ];
 
 #[test]
-fn sizes_are_cut_and_the_result_is_kept(rt: HostRuntime) {
+fn sizes_are_cut_and_the_result_is_cached(rt: HostRuntime) {
     let mut clients = alice(rt.alloc());
     walk(&rt, &mut clients, SIZES);
 }
@@ -118,7 +118,7 @@ const SHORT: Channel = Channel {
     ..SMALL
 };
 
-const KEPT_REFUSAL: &[(Step<'_>, Outcome)] = &[
+const CACHED_REFUSAL: &[(Step<'_>, Outcome)] = &[
     (Create(1, 1, 1001, SHORT, SMALL), Refused(TooSmall)),
     (CreateSmall(1, 1), Refused(TooSmall)),
     (ConfirmedOf(b"alice"), Record(None)),
@@ -127,9 +127,9 @@ const KEPT_REFUSAL: &[(Step<'_>, Outcome)] = &[
 ];
 
 #[test]
-fn a_refusal_is_kept_with_its_number(rt: HostRuntime) {
+fn a_refusal_is_cached_with_its_number(rt: HostRuntime) {
     let mut clients = alice(rt.alloc());
-    walk(&rt, &mut clients, KEPT_REFUSAL);
+    walk(&rt, &mut clients, CACHED_REFUSAL);
 }
 
 const WITHOUT_REPLY: Channel = Channel {

@@ -82,7 +82,7 @@ const UNUSED: &[(Step<'_>, Outcome)] = &[
 ];
 
 #[test]
-fn an_unused_slot_has_nothing_to_repeat(rt: HostRuntime) {
+fn an_unused_slot_has_nothing_cached(rt: HostRuntime) {
     let mut clients = eight_slots(rt.alloc());
     walk(&rt, &mut clients, UNUSED);
 }
@@ -109,7 +109,7 @@ fn groups_are_a_set(rt: HostRuntime) {
     walk(&rt, &mut clients, GROUPS);
 }
 
-/// Its record is too long, its operations are too many, there is no such slot, and its number isn't due.
+/// Its record is too long, it has too many operations, its slot doesn't exist, and its sequence ID isn't due.
 const WRONG: Call<'static> = Call {
     slot: 8,
     number: 5,
@@ -203,7 +203,7 @@ const ON_THE_FOURTH_SLOT: Call<'static> = Call {
     ..FIRST
 };
 
-const BEHIND_ANOTHER_SESSION: &[(Step<'_>, Outcome)] = &[
+const AFTER_ANOTHER_SESSION: &[(Step<'_>, Outcome)] = &[
     (Sequence(1, ON_THE_FOURTH_SLOT, b"done"), OPENED),
     (CreateSmall(1, 2), Session(2)),
     (Sequence(1, ON_THE_FOURTH_SLOT, b"other"), Repeat),
@@ -211,11 +211,11 @@ const BEHIND_ANOTHER_SESSION: &[(Step<'_>, Outcome)] = &[
     (Keeps(2, 0, b""), Kept(true)),
 ];
 
-/// A slot keeps its call while its client makes another session.
+/// A slot keeps its call while its client creates another session.
 #[test]
-fn a_repeat_behind_another_session(rt: HostRuntime) {
+fn a_retry_after_another_session(rt: HostRuntime) {
     let mut clients = eight_slots(rt.alloc());
-    walk(&rt, &mut clients, BEHIND_ANOTHER_SESSION);
+    walk(&rt, &mut clients, AFTER_ANOTHER_SESSION);
 }
 
 const LONGEST_RESULTS: &[u8] = &[5; 4072];
@@ -231,9 +231,9 @@ const LONGEST: &[(Step<'_>, Outcome)] = &[
     (Keeps(1, 0, LONGEST_RESULTS), Kept(true)),
 ];
 
-/// 4,096 bytes of results are kept, and 64 of arguments are compared.
+/// 4,096 bytes of results are cached, and 64 of arguments are compared.
 #[test]
-fn the_longest_results_are_kept(rt: HostRuntime) {
+fn the_longest_results_are_cached(rt: HostRuntime) {
     let mut clients = eight_slots(rt.alloc());
     walk(&rt, &mut clients, LONGEST);
 }

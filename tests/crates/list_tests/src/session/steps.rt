@@ -12,7 +12,7 @@ use std::process::Abort;
 /// A call.
 #[derive(Clone, Copy, Debug)]
 pub enum Step<'a> {
-    /// The number of an owner's confirmed record.
+    /// The client ID of an owner's confirmed record.
     ConfirmedOf(&'a [u8]),
     /// EXCHANGE_ID.
     ExchangeId(Exchange<'a>),
@@ -26,9 +26,9 @@ pub enum Step<'a> {
     DestroyClientId(u64, bool),
     /// RECLAIM_COMPLETE: the client.
     ReclaimComplete(u64),
-    /// SEQUENCE: the session, the call, and the results that are kept where it is new.
+    /// SEQUENCE: the session, the call, and the results that are cached if it is new.
     Sequence(u64, Call<'a>, &'a [u8]),
-    /// Whether a slot keeps these results: the session, the slot and the results.
+    /// Whether a slot caches these results: the session, the slot and the results.
     Keeps(u64, u32, &'a [u8]),
 }
 
@@ -39,25 +39,26 @@ pub enum Outcome {
     Done,
     /// The call was refused.
     Refused(Status),
-    /// The number of the confirmed record, where there is one.
+    /// The client ID of the confirmed record, if there is one.
     Record(Option<u64>),
-    /// A record that isn't confirmed: the client, the next sequence ID and the flags.
+    /// An unconfirmed record: the client, the next sequence ID and the flags.
     Unconfirmed(u64, u32, u32),
     /// A confirmed record: the client, the next sequence ID and the flags.
     Confirmed(u64, u32, u32),
-    /// The number of a session that was created.
+    /// The session ID of a session that was created.
     Session(u64),
-    /// A session that was created: its number, the sequence ID, the fore channel, the backchannel, and the client whose record went.
+    /// A session that was created: its session ID, the sequence ID, the fore channel, the backchannel, and the client
+    /// whose record was removed.
     Made(u64, u32, Channel, Channel, Option<u64>),
     /// A new call: the client, the most bytes of the reply and the highest slot.
     New(u64, u32, u32),
-    /// A repeat of a slot's last call.
+    /// A retry of a slot's last call.
     Repeat,
-    /// Whether the slot keeps the results.
+    /// Whether the slot caches the results.
     Kept(bool),
 }
 
-fn came_to(answer: Result<(), Status>) -> Outcome {
+fn outcome_of(answer: Result<(), Status>) -> Outcome {
     match answer {
         Ok(()) => Outcome::Done,
         Err(status) => Outcome::Refused(status),
@@ -77,9 +78,9 @@ fn exchange_id<A: Allocator + Copy>(clients: &mut Clients<A>, asked: Exchange<'_
 }
 
 fn create_session<A: Allocator + Copy>(clients: &mut Clients<A>, asked: Create) -> Outcome {
-    let Made { result, gone } = create(clients, asked);
+    let Made { result, removed } = create(clients, asked);
     match result {
-        Ok(made) => Outcome::Made(made.session, made.sequence, made.fore, made.back, gone),
+        Ok(made) => Outcome::Made(made.session, made.sequence, made.fore, made.back, removed),
         Err(status) => Outcome::Refused(status),
     }
 }
@@ -122,9 +123,9 @@ pub fn act<A: Allocator + Copy>(clients: &mut Clients<A>, step: Step<'_>) -> Out
                 back,
             },
         ),
-        Step::DestroySession(session) => came_to(destroy_session(clients, session)),
-        Step::DestroyClientId(client, opens) => came_to(destroy_client(clients, client, opens)),
-        Step::ReclaimComplete(client) => came_to(reclaim_complete(clients, client)),
+        Step::DestroySession(session) => outcome_of(destroy_session(clients, session)),
+        Step::DestroyClientId(client, opens) => outcome_of(destroy_client(clients, client, opens)),
+        Step::ReclaimComplete(client) => outcome_of(reclaim_complete(clients, client)),
         Step::Sequence(session, call, results) => sequence(clients, session, call, results),
         Step::Keeps(session, slot, results) => {
             Outcome::Kept(keeps(clients, session, slot, results))

@@ -21,8 +21,9 @@ fn lab_help(alloc: Global) -> Result<String, AllocError> {
     }
 }
 
-/// Texts of the help of `nfsc`: the command that is run, the address, the options with their ranges, and an example.
-static TEXTS: [&str; 16] = [
+/// Texts of the help of `nfsc`: the command that is run, the address, the options with their ranges and their variables,
+/// and an example.
+static TEXTS: [&str; 22] = [
     "NFS version 4.1",
     "127.0.0.1",
     "Usage: nfsc [OPTIONS] --port <N> --uid <N> --gid <N> <COMMAND>...\n",
@@ -39,6 +40,12 @@ static TEXTS: [&str; 16] = [
     "    nfsc --port 2049 --as carol --book book.toml ls /\n",
     "-h, --help",
     "    nfsc --port 2049 --uid 0 --gid 0 put /notes hi\n",
+    "NFSC_PORT for --port",
+    "NFSC_UID for --uid",
+    "NFSC_GID for --gid",
+    "NFSC_HOST for --host",
+    "NFSC_BOOK for --book",
+    "NFSC_AS for --as",
 ];
 
 /// Texts of the help of `nfslab`: the script that is run, the form of a line, the option, and an example.
@@ -61,21 +68,21 @@ fn lab_texts() -> &'static [&'static str] {
 }
 
 #[test]
-fn help_tells(rt: HostRuntime) -> Result<(), Fail> {
-    let told = help(rt.alloc())?;
+fn help_has(rt: HostRuntime) -> Result<(), Fail> {
+    let printed = help(rt.alloc())?;
     for text in texts() {
-        assert!(rt; told.contains(*text), "{text}");
+        assert!(rt; printed.contains(*text), "{text}");
     }
-    assert!(rt; told.contains(COMMANDS));
+    assert!(rt; printed.contains(COMMANDS));
     Ok(())
 }
 
 #[test]
-fn lab_help_tells(rt: HostRuntime) -> Result<(), Fail> {
-    let told = lab_help(rt.alloc())?;
+fn lab_help_has(rt: HostRuntime) -> Result<(), Fail> {
+    let printed = lab_help(rt.alloc())?;
     for text in lab_texts() {
-        assert!(rt; told.contains(*text), "{text}");
+        assert!(rt; printed.contains(*text), "{text}");
     }
-    assert!(rt; told.contains(COMMANDS));
+    assert!(rt; printed.contains(COMMANDS));
     Ok(())
 }

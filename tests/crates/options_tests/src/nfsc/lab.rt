@@ -1,4 +1,4 @@
-//! Lines for `nfslab`: lines that are taken, with their file, and lines that are refused, with the kind of `clap`'s error.
+//! Lines for `nfslab`: lines that are accepted, with their file, and lines that are refused, with `clap`'s `ErrorKind`.
 use clap::error::ErrorKind;
 use nfsc_options::LabOptions;
 use std::alloc::{AllocError, Global};
@@ -31,7 +31,7 @@ fn refused() -> &'static [(&'static str, ErrorKind)] {
 }
 
 /// Whether the words of a line, split at spaces, name this file.
-fn says(alloc: Global, line: &str, book: Option<&str>) -> Result<bool, AllocError> {
+fn reads(alloc: Global, line: &str, book: Option<&str>) -> Result<bool, AllocError> {
     let words: Vec<&str> = line.split(' ').collect(alloc)?;
     match LabOptions::read(alloc, words.as_slice()) {
         Ok(options) => Ok(options.book == book),
@@ -39,7 +39,7 @@ fn says(alloc: Global, line: &str, book: Option<&str>) -> Result<bool, AllocErro
     }
 }
 
-/// The kind of the error, where the words of a line, split at spaces, are refused.
+/// The `ErrorKind`, if the words of a line, split at spaces, are refused.
 fn refusal(alloc: Global, line: &str) -> Result<Option<ErrorKind>, AllocError> {
     let words: Vec<&str> = line.split(' ').collect(alloc)?;
     match LabOptions::read(alloc, words.as_slice()) {
@@ -52,8 +52,8 @@ fn refusal(alloc: Global, line: &str) -> Result<Option<ErrorKind>, AllocError> {
 fn lines_are_taken(rt: HostRuntime) -> Result<(), Fail> {
     for row in taken() {
         let (line, book) = *row;
-        let said = says(rt.alloc(), line, book)?;
-        assert!(rt; said, "{line}");
+        let printed = reads(rt.alloc(), line, book)?;
+        assert!(rt; printed, "{line}");
     }
     Ok(())
 }

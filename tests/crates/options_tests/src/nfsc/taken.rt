@@ -1,4 +1,4 @@
-//! Lines that are taken, with the options of their words.
+//! Lines that are accepted, with the options of their words.
 use nfsc_options::Options;
 use std::alloc::{AllocError, Global};
 use std::test::Fail;
@@ -154,7 +154,7 @@ fn rows() -> &'static [Row] {
 }
 
 /// Whether the words of a line, split at spaces, have these options.
-fn says(alloc: Global, row: &Row) -> Result<bool, AllocError> {
+fn reads(alloc: Global, row: &Row) -> Result<bool, AllocError> {
     let (line, port, uid, gid, command) = *row;
     let words: Vec<&str> = line.split(' ').collect(alloc)?;
     match Options::read(alloc, words.as_slice()) {
@@ -171,8 +171,8 @@ fn says(alloc: Global, row: &Row) -> Result<bool, AllocError> {
 #[test]
 fn lines_are_taken(rt: HostRuntime) -> Result<(), Fail> {
     for row in rows() {
-        let said = says(rt.alloc(), row)?;
-        assert!(rt; said, "{}", row.0);
+        let printed = reads(rt.alloc(), row)?;
+        assert!(rt; printed, "{}", row.0);
     }
     Ok(())
 }
@@ -219,8 +219,8 @@ fn names(alloc: Global, row: &Texts) -> Result<bool, AllocError> {
 #[test]
 fn lines_have_these_texts(rt: HostRuntime) -> Result<(), Fail> {
     for row in texts() {
-        let said = names(rt.alloc(), row)?;
-        assert!(rt; said, "{}", row.0);
+        let printed = names(rt.alloc(), row)?;
+        assert!(rt; printed, "{}", row.0);
     }
     Ok(())
 }

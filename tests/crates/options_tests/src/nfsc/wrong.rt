@@ -34,34 +34,36 @@ fn no_names() -> &'static [&'static str] {
     &NO_NAMES
 }
 
-/// Whether the error for words with this name in front tells this, and the usage of `nfsc`.
-fn tells(alloc: Global, name: &str, text: &str) -> Result<bool, Fail> {
+/// Whether the error for words that begin with this name has this text and the usage of `nfsc`.
+fn reports(alloc: Global, name: &str, text: &str) -> Result<bool, Fail> {
     let error = wrong_command(alloc, name)?;
-    let told = error.to_string(alloc)?;
+    let printed = error.to_string(alloc)?;
     Ok(
         error.kind() == ErrorKind::InvalidSubcommand
-            && told.contains(text)
-            && told.contains("Usage: nfsc [OPTIONS] --port <N> --uid <N> --gid <N> <COMMAND>...\n"),
+            && printed.contains(text)
+            && printed.contains(
+                "Usage: nfsc [OPTIONS] --port <N> --uid <N> --gid <N> <COMMAND>...\n",
+            ),
     )
 }
 
 #[test]
-fn a_command_says_which_words_it_wants(rt: HostRuntime) -> Result<(), Fail> {
+fn a_command_reports_which_words_it_wants(rt: HostRuntime) -> Result<(), Fail> {
     for row in usages() {
         let (name, usage) = *row;
         let text = format!(in rt.alloc(); "the command '{name}' wants these words: {usage}\n")?;
-        let told = tells(rt.alloc(), name, text.as_str())?;
-        assert!(rt; told, "{name}");
+        let printed = reports(rt.alloc(), name, text.as_str())?;
+        assert!(rt; printed, "{name}");
     }
     Ok(())
 }
 
 #[test]
-fn a_name_of_no_command_is_told(rt: HostRuntime) -> Result<(), Fail> {
+fn a_name_of_no_command_is_reported(rt: HostRuntime) -> Result<(), Fail> {
     for name in no_names() {
         let text = format!(in rt.alloc(); "there is no command '{name}'\n")?;
-        let told = tells(rt.alloc(), name, text.as_str())?;
-        assert!(rt; told, "{name}");
+        let printed = reports(rt.alloc(), name, text.as_str())?;
+        assert!(rt; printed, "{name}");
     }
     Ok(())
 }

@@ -4,8 +4,8 @@ use std::alloc::{AllocError, Global};
 use std::test::Fail;
 use who_book::Book;
 
-/// The text for the user where the words are refused, or help is asked for.
-fn told(alloc: Global, words: &[&str]) -> Result<String, AllocError> {
+/// The text for the user if the words are refused, or help is requested.
+fn printed(alloc: Global, words: &[&str]) -> Result<String, AllocError> {
     match Options::read(alloc, words) {
         Ok(_) => Ok(String::new(alloc)),
         Err(error) => error.to_string(alloc),
@@ -14,18 +14,18 @@ fn told(alloc: Global, words: &[&str]) -> Result<String, AllocError> {
 
 /// The text for `nfsd --help`.
 fn help(alloc: Global) -> Result<String, AllocError> {
-    told(alloc, ["nfsd", "--help"].as_slice())
+    printed(alloc, ["nfsd", "--help"].as_slice())
 }
 
-/// The part of a text between two other texts, where both are in it.
-fn between<'a>(text: &'a str, front: &str, back: &str) -> Option<&'a str> {
-    let (_, behind) = text.split_once(front)?;
-    let (found, _) = behind.split_once(back)?;
+/// The part of a text between two other texts, if both are in it.
+fn between<'a>(text: &'a str, prefix: &str, back: &str) -> Option<&'a str> {
+    let (_, rest) = text.split_once(prefix)?;
+    let (found, _) = rest.split_once(back)?;
     Some(found)
 }
 
 /// Texts of help: the files that are served, the address, the options with their ranges and defaults, and an example.
-static TEXTS: [&str; 33] = [
+static TEXTS: [&str; 37] = [
     "NFS version 4.1",
     "access control lists",
     "127.0.0.1",
@@ -59,6 +59,10 @@ static TEXTS: [&str; 33] = [
     "--leases ",
     "--home <FOLDER>",
     "nfsd --home office\n",
+    "--listen <ADDRESS>",
+    "--allow <NETWORK>",
+    "--any-port ",
+    "nfsd --home office --listen 192.0.2.7 --allow 192.0.2.0/24",
 ];
 
 fn texts() -> &'static [&'static str] {
@@ -66,10 +70,10 @@ fn texts() -> &'static [&'static str] {
 }
 
 #[test]
-fn help_tells(rt: HostRuntime) -> Result<(), Fail> {
-    let told = help(rt.alloc())?;
+fn help_has(rt: HostRuntime) -> Result<(), Fail> {
+    let printed = help(rt.alloc())?;
     for text in texts() {
-        assert!(rt; told.contains(*text), "{text}");
+        assert!(rt; printed.contains(*text), "{text}");
     }
     Ok(())
 }
@@ -77,8 +81,10 @@ fn help_tells(rt: HostRuntime) -> Result<(), Fail> {
 /// The example of a book is a book.
 #[test]
 fn help_has_a_book(rt: HostRuntime) -> Result<(), Fail> {
-    let told = help(rt.alloc())?;
-    let example = between(told.as_str(), "no others:\n\n", "\n\nWithout a book").ok_or("a book")?;
+    let printed = help(rt.alloc())?;
+    let example = between(printed.as_str(), "no others:\n\n", "\n\nWithout a book").ok_or(
+        "a book",
+    )?;
     assert!(rt; Book::read(rt.alloc(), example).is_ok());
     Ok(())
 }
@@ -93,26 +99,26 @@ For more information, try '--help'.
 
 /// A sample tree whose trail is to be kept is refused in `clap`'s form.
 #[test]
-fn conflict_is_told(rt: HostRuntime) -> Result<(), Fail> {
-    let text = told(rt.alloc(), ["nfsd", "--bare", "--trail", "t"].as_slice())?;
+fn conflict_is_reported(rt: HostRuntime) -> Result<(), Fail> {
+    let text = printed(rt.alloc(), ["nfsd", "--bare", "--trail", "t"].as_slice())?;
     assert_eq!(rt; text.as_str(), CONFLICT);
     Ok(())
 }
 
-/// So is a sample tree with a store.
+/// The same holds for a sample tree with a store.
 #[test]
-fn conflict_of_a_store_is_told(rt: HostRuntime) -> Result<(), Fail> {
-    let text = told(rt.alloc(), ["nfsd", "--bare", "--store", "s"].as_slice())?;
+fn conflict_of_a_store_is_reported(rt: HostRuntime) -> Result<(), Fail> {
+    let text = printed(rt.alloc(), ["nfsd", "--bare", "--store", "s"].as_slice())?;
     let wanted =
         "error: the argument '--store <FOLDER>' cannot be used with '--bare', whose tree is kept nowhere\n";
     assert!(rt; text.starts_with(wanted), "{text}");
     Ok(())
 }
 
-/// So are moments for a trail that no file has.
+/// The same holds for moments of a trail without a file.
 #[test]
-fn missing_trail_is_told(rt: HostRuntime) -> Result<(), Fail> {
-    let text = told(rt.alloc(), ["nfsd", "--stamped"].as_slice())?;
+fn missing_trail_is_reported(rt: HostRuntime) -> Result<(), Fail> {
+    let text = printed(rt.alloc(), ["nfsd", "--stamped"].as_slice())?;
     let wanted =
         "error: the argument '--stamped' is for the lines of a file, and '--trail <FILE>' names none\n";
     assert!(rt; text.starts_with(wanted), "{text}");

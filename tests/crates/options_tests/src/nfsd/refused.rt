@@ -1,10 +1,10 @@
-//! Lines whose words are refused, with the kind of `clap`'s error.
+//! Lines whose words are refused, with `clap`'s `ErrorKind`.
 use clap::error::ErrorKind;
 use nfsd_options::Options;
 use std::alloc::{AllocError, Global};
 use std::test::Fail;
 
-/// The kind of the error, where the words of a line, split at spaces, are refused.
+/// The `ErrorKind`, if the words of a line, split at spaces, are refused.
 fn refusal(alloc: Global, line: &str) -> Result<Option<ErrorKind>, AllocError> {
     let words: Vec<&str> = line.split(' ').collect(alloc)?;
     match Options::read(alloc, words.as_slice()) {

@@ -1,4 +1,4 @@
-//! Lines that are taken, with the options of their words.
+//! Lines that are accepted, with the options of their words.
 use nfsd_options::Options;
 use std::alloc::{AllocError, Global};
 use std::test::Fail;
@@ -54,7 +54,7 @@ fn rows() -> &'static [Row] {
 }
 
 /// Whether the words of a line, split at spaces, have these options.
-fn says(alloc: Global, line: &str, want: &Options) -> Result<bool, AllocError> {
+fn reads(alloc: Global, line: &str, want: &Options) -> Result<bool, AllocError> {
     let words: Vec<&str> = line.split(' ').collect(alloc)?;
     match Options::read(alloc, words.as_slice()) {
         Ok(options) => Ok(options == *want),
@@ -78,15 +78,18 @@ fn lines_are_taken(rt: HostRuntime) -> Result<(), Fail> {
             store: None,
             leases: false,
             home: None,
+            listen: Vec::new(rt.alloc()),
+            allow: Vec::new(rt.alloc()),
+            any_port: false,
         };
-        let said = says(rt.alloc(), line, &want)?;
-        assert!(rt; said, "{line}");
+        let printed = reads(rt.alloc(), line, &want)?;
+        assert!(rt; printed, "{line}");
     }
     Ok(())
 }
 
-/// A line of the later options, and the flag of the sample tree, the number of connections, whether several are served at the same time,
-/// and the trail's file of its words.
+/// A line of the later options, and the flag of the sample tree, the number of connections, whether several are served
+/// at the same time, and the trail's file of its words.
 type LaterRow = (&'static str, bool, u32, bool, Option<&'static str>);
 
 static LATER_ROWS: [LaterRow; 8] = [
@@ -126,9 +129,12 @@ fn lines_of_later_options_are_taken(rt: HostRuntime) -> Result<(), Fail> {
             store: None,
             leases: false,
             home: None,
+            listen: Vec::new(rt.alloc()),
+            allow: Vec::new(rt.alloc()),
+            any_port: false,
         };
-        let said = says(rt.alloc(), line, &want)?;
-        assert!(rt; said, "{line}");
+        let printed = reads(rt.alloc(), line, &want)?;
+        assert!(rt; printed, "{line}");
     }
     Ok(())
 }
@@ -153,7 +159,7 @@ fn flag_rows() -> &'static [FlagRow] {
     &FLAG_ROWS
 }
 
-/// The two flags of the words of a line, where they are taken.
+/// The two flags of the words of a line, if they are accepted.
 fn flags(alloc: Global, line: &str) -> Result<Option<(bool, bool)>, AllocError> {
     let words: Vec<&str> = line.split(' ').collect(alloc)?;
     match Options::read(alloc, words.as_slice()) {
@@ -204,17 +210,17 @@ fn names(
 fn stores_are_taken(rt: HostRuntime) -> Result<(), Fail> {
     for row in store_rows() {
         let (line, store, trail) = *row;
-        let said = names(rt.alloc(), line, store, trail)?;
-        assert!(rt; said, "{line}");
+        let printed = names(rt.alloc(), line, store, trail)?;
+        assert!(rt; printed, "{line}");
     }
     Ok(())
 }
 
-/// Where there is no word at all, not even a name, the defaults hold.
+/// If there is no word at all, not even a name, the defaults apply.
 #[test]
 fn no_word_is_needed(rt: HostRuntime) {
     let words: [&str; 0] = [];
-    let said = Options::read(rt.alloc(), words.as_slice()).is_ok_and(|options| {
+    let printed = Options::read(rt.alloc(), words.as_slice()).is_ok_and(|options| {
         options.book.is_none()
             && !options.bare
             && options.port == 2049
@@ -223,10 +229,10 @@ fn no_word_is_needed(rt: HostRuntime) {
             && options.trail.is_none()
             && options.store.is_none()
     });
-    assert!(rt; said);
+    assert!(rt; printed);
 }
 
-/// A line, and whether its words let silent clients go, the folder of all, and how many connections are served.
+/// A line, and whether silent clients expire by its words, the folder of all, and how many connections are served.
 type HomeRow = (&'static str, bool, Option<&'static str>, u32);
 
 static HOMES: [HomeRow; 5] = [

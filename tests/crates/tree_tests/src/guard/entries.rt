@@ -1,4 +1,4 @@
-//! How entries, demands and their answers are written.
+//! How ACEs (access control entries), demands and their answers are written.
 
 macro_rules! entry {
     ($kind:ident, $flags:expr, $mask:expr, $who:ident) => {
@@ -56,7 +56,7 @@ macro_rules! refused {
     };
 }
 
-/// The summary of a list that grants these bits, and watches none.
+/// The summary of an access control list that grants these bits, and watches none.
 macro_rules! sum {
     ($granted:expr) => {
         acl_list::Summary {

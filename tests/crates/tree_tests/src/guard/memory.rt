@@ -1,4 +1,4 @@
-//! The remembered summaries, and that they are those of the lists now.
+//! The remembered summaries, which are those of the current access control lists (ACLs).
 
 use crate::guard::entries::{allow, bits, entry, refused, removal, sum};
 use crate::guard::steps::Step::{
@@ -12,7 +12,7 @@ use access_guard::{Cause, Decision, next_epoch};
 use acl_list::{Entry, Kind};
 use std::test::Fail;
 
-/// Four decisions where two are remembered, one of them twice. Each list has five entries.
+/// Four decisions, one of them twice, by a guard that remembers two summaries. Each ACL has five ACEs.
 const ONE_ASKED_LAST: &[Step] = &[
     Decide(BOB, bits!(1, 0x20), LOOKUP, Granted),
     Decide(BOB, bits!(2, 1), LOOKUP, Granted),
@@ -24,12 +24,12 @@ const ONE_ASKED_LAST: &[Step] = &[
 ];
 
 #[test]
-fn the_one_asked_last_stands_first(rt: HostRuntime) -> Result<(), Fail> {
+fn the_one_asked_last_is_first(rt: HostRuntime) -> Result<(), Fail> {
     play(&rt, rt.alloc(), &SAMPLE, 2, ONE_ASKED_LAST)
 }
 
-/// The bits of `notes`, whose list has five entries, twice, and then a removal. Nothing mentions DELETE, DELETE_CHILD or ADD_FILE to
-/// those who are neither its owner nor in the group of the root.
+/// The bits of `notes`, whose ACL has five ACEs, twice, and then a removal. No ACE matches DELETE, DELETE_CHILD or
+/// ADD_FILE for callers who are neither its owner nor in the group of the root.
 const ASKED_AGAIN: &[Step] = &[
     Decide(BOB, bits!(2, 1), READ, Granted),
     Examined(5),
@@ -44,7 +44,7 @@ fn a_second_equal_call_walks_no_list(rt: HostRuntime) -> Result<(), Fail> {
     play(&rt, rt.alloc(), &SAMPLE, 1, ASKED_AGAIN)
 }
 
-/// The bits of `pub`, whose list has five entries.
+/// The bits of `pub`, whose ACL has five ACEs.
 const GRANTED: &[Step] = &[
     Grants(BOB, 3, 0x12_00e7),
     Examined(5),
@@ -57,7 +57,7 @@ fn grants_look_up_their_object_alone(rt: HostRuntime) -> Result<(), Fail> {
     play(&rt, rt.alloc(), &SAMPLE, 2, GRANTED)
 }
 
-/// The bits of `notes`, whose list has five entries, twice, and twice again under another book.
+/// The bits of `notes`, whose ACL has five ACEs, twice, and twice again under another book.
 const UNDER_TWO_BOOKS: &[Step] = &[
     Epoch(1),
     Decide(BOB, bits!(2, 1), READ, Granted),
@@ -90,7 +90,7 @@ staff = 100
 staff = ['bob']
 ";
 
-/// The bits of `notes`, whose group is 100, by users in groups that they send, and then in those that the book says.
+/// The bits of `notes`, whose group is 100, by users in groups that they send, and then in those of the book.
 const BY_THE_BOOK: &[Step] = &[
     Decide(BOB_IN_7, bits!(2, 1), READ, refused!(2, 1, Missing(1))),
     Decide(CAROL, bits!(2, 1), READ, Granted),
@@ -103,7 +103,7 @@ const BY_THE_BOOK: &[Step] = &[
 
 /// The groups of a caller are those of the book.
 #[test]
-fn callers_are_whom_the_book_says(rt: HostRuntime) -> Result<(), Fail> {
+fn callers_are_whom_the_book_names(rt: HostRuntime) -> Result<(), Fail> {
     play(&rt, rt.alloc(), &SAMPLE, 4, BY_THE_BOOK)
 }
 
@@ -129,7 +129,7 @@ const READABLE: Scene<'static> = Scene {
     }],
 };
 
-/// A file is read, loses a right, goes, and another is made directly after it.
+/// A file is read, loses a permission, is removed, and another is made directly after it.
 const CHANGES: &[Step] = &[
     Decide(BOB_IN_7, bits!(2, 1), READ, Granted),
     SetList(2, &[OWNER]),

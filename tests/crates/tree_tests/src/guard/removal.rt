@@ -13,7 +13,8 @@ use std::process::Abort;
 use std::random::RandomSource;
 use std::test::Fail;
 
-/// The removal of file 2 from directory 1, by user 1002 in group 7: their lists, the decision, and the line.
+/// The removal of file 2 from directory 1, by user 1002 in group 7: their access control lists, the decision, and the
+/// line.
 struct Case {
     name: &'static str,
     parent: &'static [Entry],

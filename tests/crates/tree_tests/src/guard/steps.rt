@@ -1,4 +1,4 @@
-//! Calls as data, so that a test is a table of them with what each gives.
+//! Calls as data, so that a test is a table of them with their results.
 
 use crate::guard::trees::{Scene, guarded, tree};
 use access_guard::{Decision, Demand, Guard, GuardedTree, write_line};
@@ -28,22 +28,22 @@ pub const BOB_IN_0: Sent = (1002, 0);
 /// The user 1003 in the group 100.
 pub const CAROL: Sent = (1003, 100);
 
-/// A call, and what it gives; or something to be looked at, and what is seen.
+/// A call, and its result; or a part of the state, and its value.
 #[derive(Clone, Copy, Debug)]
 pub enum Step {
     /// A decision, whose lines are kept: the caller, the demand, the operation and the decision.
     Decide(Sent, Demand, u32, Decision),
-    /// The bits that an object's list grants: the caller, the object and the bits.
+    /// The bits that an object's ACL (access control list) grants: the caller, the object and the bits.
     Grants(Sent, u64, u32),
     /// A reload: the text of the book. `None`: another book without names.
     Reload(Option<&'static str>),
-    /// Another list of an object.
+    /// Another ACL of an object.
     SetList(u64, &'static [Entry]),
-    /// A file of the root goes: its name.
+    /// A file of the root is removed: its name.
     Unlink(&'static [u8]),
-    /// A file is added to the root: its name, its list and its number.
+    /// A file is added to the root: its name, its ACL and its number.
     Add(&'static [u8], &'static [Entry], u64),
-    /// The number of the entries that were looked at so far.
+    /// The number of ACEs that were examined so far.
     Examined(u64),
     /// The number of the lines so far.
     Total(u64),
@@ -177,7 +177,7 @@ fn change(alloc: Global, guarded: &mut GuardedTree, step: Step) -> Result<bool, 
     Ok(true)
 }
 
-/// Whether what is looked at is as it should be.
+/// Whether the state has the expected value.
 fn is_seen(alloc: Global, guarded: &GuardedTree, step: Step) -> Result<bool, AllocError> {
     match step {
         Step::Examined(want) => Ok(guarded.guard().examined() == want),
@@ -189,7 +189,7 @@ fn is_seen(alloc: Global, guarded: &GuardedTree, step: Step) -> Result<bool, All
     }
 }
 
-/// Takes a step, and says whether it gives what it should.
+/// Makes a step. Returns whether it has the expected result.
 fn take(alloc: Global, guarded: &mut GuardedTree, step: Step) -> Result<bool, Fail> {
     match step {
         Step::Decide(sent, demand, op, want) => Ok(decide(guarded, sent, demand, op) == want),
@@ -201,7 +201,7 @@ fn take(alloc: Global, guarded: &mut GuardedTree, step: Step) -> Result<bool, Fa
     }
 }
 
-/// Takes the steps, and checks what each gives.
+/// Makes the steps, and checks the result of each.
 fn walk(
     rt: &impl Abort,
     alloc: Global,
@@ -216,7 +216,7 @@ fn walk(
     Ok(())
 }
 
-/// Takes the steps on the tree of a scene, beside a guard that remembers so many summaries, and checks what each gives.
+/// Makes the steps on the tree of a scene, with a guard of this capacity, and checks the result of each.
 pub fn play(
     rt: &(impl Abort + RandomSource),
     alloc: Global,

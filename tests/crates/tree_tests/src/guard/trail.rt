@@ -1,4 +1,4 @@
-//! Lines, and the trail that keeps the last.
+//! Lines, and the trail that keeps the last ones.
 
 use crate::guard::entries::{allow, bits, entry, refused};
 use crate::guard::steps::Step::{Decide, Lines, Total};
@@ -31,7 +31,7 @@ fn a_refusal_names_the_entry(rt: HostRuntime) -> Result<(), Fail> {
     play(&rt, rt.alloc(), &SAMPLE, 1, A_REFUSAL)
 }
 
-/// The file `f` of uid 1001, whose list audits and allows that it is read.
+/// The file `f` of uid 1001, whose access control list audits and allows reading it.
 const AUDITED: Scene<'static> = Scene {
     name: "audited",
     root: &MODE_755,
@@ -58,7 +58,7 @@ fn audited_reads(rt: HostRuntime) -> Result<(), Fail> {
     play(&rt, rt.alloc(), &AUDITED, 1, AUDITED_READS)
 }
 
-/// How far a guard came over a small heap: none could be made, or it decides and may have remembered nothing.
+/// The outcome of a guard over a small heap: it couldn't be made, or it decides and may have remembered nothing.
 #[derive(Clone, Copy, Debug, PartialEq, Eq)]
 enum Made {
     None,
@@ -66,7 +66,7 @@ enum Made {
     Kept,
 }
 
-/// The decisions on a look-up in the root and on a write of the file, and the number of the lines.
+/// The decisions on a lookup in the root and on a write of the file, and the number of the lines.
 fn answers<A: Allocator + Copy>(
     guard: &mut Guard<A>,
     tree: &Tree,
@@ -93,7 +93,7 @@ fn has_remembered<A: Allocator + Copy>(guard: &Guard<A>) -> bool {
     guard.remembered().next().is_some()
 }
 
-/// Asks a guard over a heap.
+/// The outcome of a guard over a heap.
 fn ask(rt: &impl Abort, heap: &LocalHeap, hasher: RandomState, tree: &Tree, book: &Book) -> Made {
     let Ok(mut guard) = guard(heap, hasher) else {
         return Made::None;
@@ -106,7 +106,7 @@ fn ask(rt: &impl Abort, heap: &LocalHeap, hasher: RandomState, tree: &Tree, book
     }
 }
 
-/// Asks a guard over a heap of this size.
+/// The outcome of a guard over a heap of this size.
 fn ask_at(
     rt: &(impl Abort + RandomSource),
     alloc: Global,
@@ -119,7 +119,7 @@ fn ask_at(
     Ok(ask(rt, &heap, hasher, tree, book))
 }
 
-/// Asks guards over heaps of each size, and checks that each comes as far as some do.
+/// Makes guards over heaps of each size, and checks that each outcome occurs.
 fn see_sizes(
     rt: &(impl Abort + RandomSource),
     alloc: Global,
@@ -138,7 +138,7 @@ fn see_sizes(
     Ok(())
 }
 
-/// Over each size of a heap the decisions and the lines are the same, whether or not there is memory to remember.
+/// Over each size of a heap the decisions and the lines are the same, whether or not the summaries can be remembered.
 #[test]
 fn a_refused_memory_changes_no_answer(rt: HostRuntime) -> Result<(), Fail> {
     let tree = tree(rt.alloc(), &SAMPLE)?;

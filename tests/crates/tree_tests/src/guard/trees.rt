@@ -1,4 +1,4 @@
-//! Trees to decide on, and the guards of their lists.
+//! Trees to decide on, and the guards of their access control lists (ACLs).
 
 use crate::guard::entries::entry;
 use access_guard::{Decision, Demand, FIRST_EPOCH, Guard, GuardedTree};
@@ -19,7 +19,7 @@ pub const REMOVE: u32 = 28;
 
 pub const WRITE: u32 = 38;
 
-/// The list that mode 0755 makes on a directory.
+/// The ACL that mode 0755 makes on a directory.
 pub const MODE_755: [Entry; 5] = [
     entry!(Allow, 0, 0x1e_01e7, Owner),
     entry!(Deny, 0, 0, Owner),
@@ -28,7 +28,7 @@ pub const MODE_755: [Entry; 5] = [
     entry!(Allow, 0, 0x12_00a1, Everyone),
 ];
 
-/// The list that mode 0640 makes on a file.
+/// The ACL that mode 0640 makes on a file.
 const MODE_640: [Entry; 5] = [
     entry!(Allow, 0, 0x1e_0187, Owner),
     entry!(Deny, 0, 0x20, Owner),
@@ -37,7 +37,7 @@ const MODE_640: [Entry; 5] = [
     entry!(Allow, 0, 0x12_0080, Everyone),
 ];
 
-/// The list that mode 0777 makes on a directory.
+/// The ACL that mode 0777 makes on a directory.
 const MODE_777: [Entry; 5] = [
     entry!(Allow, 0, 0x1e_01e7, Owner),
     entry!(Deny, 0, 0, Owner),
@@ -55,8 +55,8 @@ pub struct Child<'a> {
     pub list: &'a [Entry],
 }
 
-/// A tree to be made: the list of the root, which is of owner 0 and group 0, and its children. The root has the number 1, and
-/// they have the next ones, which are their stamps too.
+/// A tree to be made: the ACL of the root, which is of owner 0 and group 0, and its children. The root has the number
+/// 1, and they have the next ones, which are their stamps too.
 #[derive(Clone, Copy)]
 pub struct Scene<'a> {
     pub name: &'a str,
@@ -136,7 +136,7 @@ pub fn tree<A: Allocator + Copy>(alloc: A, scene: &Scene<'_>) -> Result<Tree<A>,
     Ok(tree)
 }
 
-/// The tree and a book without names, beside a guard that remembers so many summaries.
+/// The tree and a book without names, with a guard of this capacity.
 pub fn guarded(
     alloc: Global,
     tree: Tree,
@@ -152,7 +152,7 @@ pub fn guard<A: Allocator + Copy>(alloc: A, hasher: RandomState) -> Result<Guard
     Guard::new(alloc, NonZeroUsize::MIN, hasher)
 }
 
-/// Decides on the lists of a tree that the guard agrees with, under its first book, and keeps the lines.
+/// Decides on the ACLs of a tree that the guard agrees with, under its first book, and keeps the lines.
 pub fn decide_on<A: Allocator + Copy, B: Allocator + Copy>(
     guard: &mut Guard<A>,
     demand: Demand,

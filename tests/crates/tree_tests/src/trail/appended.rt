@@ -7,12 +7,12 @@ use std::process::Abort;
 use std::test::Fail;
 use trail_keeper::append_new;
 
-/// Appends the lines behind the first `seen`, and gives the total that is answered.
+/// Appends the lines after the first `seen`, and returns the total.
 fn append(guard: &Guard, seen: u64, file: &mut Vec<u8>) -> Option<u64> {
     append_new(guard, seen, file).ok()
 }
 
-/// The total that is answered, and whether the bytes are these that are appended for the lines behind the first `seen`.
+/// The returned total, and whether the bytes that are appended for the lines after the first `seen` are these.
 fn appended(alloc: Global, guard: &Guard, seen: u64, want: &[u8]) -> (Option<u64>, bool) {
     let mut file = Vec::new(alloc);
     let total = append(guard, seen, &mut file);
@@ -50,27 +50,27 @@ fn new_lines_are_appended(rt: HostRuntime) -> Result<(), Fail> {
     Ok(())
 }
 
-fn line_behind() -> &'static [u8] {
+fn line_after() -> &'static [u8] {
     b"before\nDENY uid=1 op=READ obj=1 mask=00000001 missing=00000001\n"
 }
 
-/// The total that is answered where the writer holds a line, and whether the new line stands behind it.
-fn appended_behind(alloc: Global, guard: &Guard) -> (Option<u64>, bool) {
+/// The returned total if the writer has a line, and whether the new line comes after it.
+fn appended_after(alloc: Global, guard: &Guard) -> (Option<u64>, bool) {
     let mut file = Vec::new(alloc);
     let is_begun = file.extend_from_slice(b"before\n").is_ok();
     let total = append(guard, 0, &mut file);
-    (total, is_begun & (file.as_slice() == line_behind()))
+    (total, is_begun & (file.as_slice() == line_after()))
 }
 
-fn see_behind(rt: &impl Abort, alloc: Global, guard: &Guard) {
-    assert!(rt; appended_behind(alloc, guard) == (Some(1), true));
+fn see_after(rt: &impl Abort, alloc: Global, guard: &Guard) {
+    assert!(rt; appended_after(alloc, guard) == (Some(1), true));
 }
 
-/// The bytes are appended behind those that the writer holds.
+/// The bytes are appended after those of the writer.
 #[test]
 fn a_writer_keeps_what_it_holds(rt: HostRuntime) -> Result<(), Fail> {
     let guard = refusing(rt.alloc(), RandomState::new(&rt)?, 1)?;
-    see_behind(&rt, rt.alloc(), &guard);
+    see_after(&rt, rt.alloc(), &guard);
     Ok(())
 }
 
@@ -83,25 +83,25 @@ fn last_line() -> &'static [u8] {
     b"DENY uid=4100 op=READ obj=1 mask=00000001 missing=00000001\n"
 }
 
-/// Whether a text has this front and the last line, and how many lines it has.
-fn shape_of(text: &[u8], front: &[u8]) -> (bool, usize) {
-    let has_ends = text.starts_with(front) & text.ends_with(last_line());
+/// Whether a text has this prefix and the last line, and how many lines it has.
+fn shape_of(text: &[u8], prefix: &[u8]) -> (bool, usize) {
+    let has_ends = text.starts_with(prefix) & text.ends_with(last_line());
     (has_ends, lines_in(text))
 }
 
-/// The total that is answered, and the shape of what is appended.
-fn shape_behind(
+/// The returned total, and the shape of the appended text.
+fn shape_after(
     alloc: Global,
     guard: &Guard,
     seen: u64,
-    front: &[u8],
+    prefix: &[u8],
 ) -> (Option<u64>, (bool, usize)) {
     let mut file = Vec::new(alloc);
     let total = append(guard, seen, &mut file);
-    (total, shape_of(file.as_slice(), front))
+    (total, shape_of(file.as_slice(), prefix))
 }
 
-/// How many lines were seen of 4,100, the front of what is appended then, and how many lines that has.
+/// How many lines were seen of 4,100, the prefix of the appended text, and its number of lines.
 static OF_MANY: [(u64, &[u8], usize); 4] = [
     (0, b"LOST lines=4\nDENY uid=5 op=", 4097),
     (1, b"LOST lines=3\nDENY uid=5 op=", 4097),
@@ -114,15 +114,15 @@ fn of_many() -> &'static [(u64, &'static [u8], usize)] {
 }
 
 fn see_many(rt: &impl Abort, alloc: Global, guard: &Guard) {
-    for (seen, front, count) in of_many() {
-        let found = shape_behind(alloc, guard, *seen, *front);
+    for (seen, prefix, count) in of_many() {
+        let found = shape_after(alloc, guard, *seen, *prefix);
         assert!(rt; found == (Some(4100), (true, *count)), "{seen}");
     }
 }
 
-/// Of 4,100 lines the trail keeps 4,096. Behind the first line 3 are missing.
+/// Of 4,100 lines the trail keeps 4,096. After the first line 3 are missing.
 #[test]
-fn missing_lines_are_told(rt: HostRuntime) -> Result<(), Fail> {
+fn missing_lines_are_reported(rt: HostRuntime) -> Result<(), Fail> {
     let guard = refusing(rt.alloc(), RandomState::new(&rt)?, 4100)?;
     see_many(&rt, rt.alloc(), &guard);
     Ok(())

@@ -1,4 +1,4 @@
-//! Writers that fail in mid-stream.
+//! Writers that fail in the middle.
 use crate::trail::guards::refusing;
 use access_guard::Guard;
 use std::alloc::Global;
@@ -52,13 +52,14 @@ fn lines() -> &'static [u8] {
     LINES
 }
 
-/// Whether the disk has all of the lines that it has room for.
+/// Whether the disk has all bytes of the lines that it has room for.
 fn is_filled(disk: &Disk, lines: &[u8]) -> bool {
     let count = disk.room.min(lines.len());
     disk.held.as_slice() == lines.get(..count).unwrap_or(b"")
 }
 
-/// Whether two lines are appended to a disk exactly if it has room for them, and it has all that it has room for then.
+/// Whether two lines are appended to a disk exactly if it has room for them, and the disk is then filled as far as it
+/// can be.
 fn is_right_on(guard: &Guard, disk: Disk) -> bool {
     let mut disk = disk;
     let has_room = disk.room >= lines().len();
@@ -79,7 +80,7 @@ fn see_disks(rt: &impl Abort, alloc: Global, guard: &Guard) {
 }
 
 #[test]
-fn a_front_stands_where_a_write_fails(rt: HostRuntime) -> Result<(), Fail> {
+fn a_prefix_is_written_where_a_write_fails(rt: HostRuntime) -> Result<(), Fail> {
     let guard = refusing(rt.alloc(), RandomState::new(&rt)?, 2)?;
     see_disks(&rt, rt.alloc(), &guard);
     Ok(())

@@ -5,7 +5,7 @@ use acl_shape::is_bounded;
 use node_tree::{At, Moment, NewObject, Tree, TreeFault};
 use std::alloc::Allocator;
 
-/// The outcome of a call, or of a look.
+/// The outcome of a call, or the value of a part of the state.
 #[derive(Clone, Copy, Debug, PartialEq, Eq)]
 pub enum Outcome {
     /// The call was done.
@@ -14,9 +14,9 @@ pub enum Outcome {
     Made(u64),
     /// The call was refused.
     Refused(TreeFault),
-    /// The call's requirements don't hold.
+    /// A precondition of the call doesn't hold.
     Misused,
-    /// A number was seen.
+    /// A number.
     Is(u64),
     /// There is none.
     Absent,
@@ -26,11 +26,11 @@ pub enum Outcome {
     Entry(u64, u64),
     /// The next tick and the next stamp.
     Counters(u64, u64),
-    /// How many bytes were read, and what stands then in a buffer of four nines.
+    /// How many bytes were read, and the content of a buffer of four nines after that.
     Bytes(usize, [u8; 4]),
 }
 
-fn came_to(answer: Result<(), TreeFault>) -> Outcome {
+fn outcome_of(answer: Result<(), TreeFault>) -> Outcome {
     match answer {
         Ok(()) => Outcome::Done,
         Err(fault) => Outcome::Refused(fault),
@@ -56,7 +56,7 @@ fn kind<A: Allocator + Copy>(tree: &Tree<A>, number: u64) -> Option<Kind> {
     tree.object(number).map(|node| node.kind())
 }
 
-/// A new file or directory of the owner 0, with an empty list.
+/// A new file or directory of the owner 0, with an empty access control list.
 pub fn add<A: Allocator + Copy>(
     tree: &mut Tree<A>,
     alloc: A,
@@ -106,14 +106,14 @@ pub fn link<A: Allocator + Copy>(
     if name.len() > 255 {
         return Outcome::Misused;
     }
-    came_to(tree.link(directory, name, number, at))
+    outcome_of(tree.link(directory, name, number, at))
 }
 
 pub fn unlink<A: Allocator + Copy>(tree: &mut Tree<A>, directory: u64, name: &[u8]) -> Outcome {
     let Some(at) = now(tree) else {
         return Outcome::Misused;
     };
-    came_to(tree.unlink(directory, name, at))
+    outcome_of(tree.unlink(directory, name, at))
 }
 
 pub fn rename<A: Allocator + Copy>(
@@ -132,7 +132,7 @@ pub fn rename<A: Allocator + Copy>(
     if new.len() > 255 {
         return Outcome::Misused;
     }
-    came_to(tree.rename(from, old, to, new, at))
+    outcome_of(tree.rename(from, old, to, new, at))
 }
 
 pub fn write<A: Allocator + Copy>(
@@ -147,7 +147,7 @@ pub fn write<A: Allocator + Copy>(
     let Some(Kind::File) = kind(tree, file) else {
         return Outcome::Misused;
     };
-    came_to(tree.write(file, offset, more, at))
+    outcome_of(tree.write(file, offset, more, at))
 }
 
 pub fn resize<A: Allocator + Copy>(tree: &mut Tree<A>, file: u64, size: u64) -> Outcome {
@@ -157,7 +157,7 @@ pub fn resize<A: Allocator + Copy>(tree: &mut Tree<A>, file: u64, size: u64) -> 
     let Some(Kind::File) = kind(tree, file) else {
         return Outcome::Misused;
     };
-    came_to(tree.resize(file, size, at))
+    outcome_of(tree.resize(file, size, at))
 }
 
 pub fn set_list<A: Allocator + Copy>(tree: &mut Tree<A>, number: u64, list: AclList<A>) -> Outcome {

@@ -1,5 +1,5 @@
-//! As many objects as there may be, in 4,096 directories, and as many as there may be in one: made, listed, renamed and removed in
-//! three orders.
+//! The largest number of objects, in 4,096 directories, and the largest number of names of one directory: made, listed,
+//! renamed and removed in three orders.
 
 use crate::tree::acting::Outcome::{Absent, Counters, Done, Entry, Is, Made, Refused};
 use crate::tree::acting::{Outcome, after};
@@ -11,7 +11,7 @@ use node_tree::TreeFault::NoSpc;
 use std::alloc::Global;
 use std::process::Abort;
 
-/// The directories beside the root and `pub`. With `notes` and `pub` the root has 4,096 names.
+/// The directories except the root and `pub`. With `notes` and `pub` the root has 4,096 names.
 const DIRECTORIES: u64 = 4094;
 
 /// The number of a directory. The sample tree has the numbers 1 to 3.
@@ -45,7 +45,8 @@ fn make_three(rt: &impl Abort, alloc: Global, tree: &mut Tree<Global>, index: u6
     see(rt, alloc, tree, Create(own, b"c"), Made(file(index, 2)));
 }
 
-/// Fills the root with directories, each of them with three files, and `pub` with the five files that are left to 16,384 objects.
+/// Fills the root with directories, each of them with three files, and `pub` with the five files that are left of
+/// 16,384 objects.
 fn make(rt: &impl Abort, alloc: Global, tree: &mut Tree<Global>) {
     for index in 0..DIRECTORIES {
         let made = Made(directory(index));
@@ -84,7 +85,7 @@ fn see_listed(
     assert_eq!(rt; listed(tree, directory), want);
 }
 
-/// Moves the first file of a directory to the next one, and its second to the name of its third, which goes.
+/// Moves the first file of a directory to the next one, and its second to the name of its third, which is removed.
 fn rename_two(rt: &impl Abort, alloc: Global, tree: &mut Tree<Global>, index: u64) {
     let (own, other) = (directory(index), directory(next(index)));
     let three = (Some(file(index, 0)), Some(file(index, 1)), true);
@@ -94,7 +95,7 @@ fn rename_two(rt: &impl Abort, alloc: Global, tree: &mut Tree<Global>, index: u6
     see(rt, alloc, tree, See(Links, file(index, 2)), Is(0));
 }
 
-/// Checks the names of the directory behind the one of this index then.
+/// Checks the names of the directory after the one of this index then.
 fn see_next(rt: &impl Abort, alloc: Global, tree: &mut Tree<Global>, index: u64) {
     let other = directory(next(index));
     see(rt, alloc, tree, Find(other, b"d"), Is(file(index, 0)));
@@ -103,7 +104,7 @@ fn see_next(rt: &impl Abort, alloc: Global, tree: &mut Tree<Global>, index: u64)
     assert!(rt; !listed(tree, other).2);
 }
 
-/// Moves each first file to the next directory, and each second one to the name of the third, which goes.
+/// Moves each first file to the next directory, and each second one to the name of the third, which is removed.
 fn rename_all(rt: &impl Abort, alloc: Global, tree: &mut Tree<Global>) {
     for index in 0..DIRECTORIES {
         rename_two(rt, alloc, tree, index);
@@ -119,7 +120,8 @@ fn remove_last(rt: &impl Abort, alloc: Global, tree: &mut Tree<Global>, own: u64
     assert!(rt; !tree.has_entries(own));
 }
 
-/// Removes the moved files from the first directory on, the renamed ones from the last on, and the directories in steps of 1,001.
+/// Removes the moved files from the first directory on, the renamed ones from the last on, and the directories in steps
+/// of 1,001.
 fn remove_all(rt: &impl Abort, alloc: Global, tree: &mut Tree<Global>) {
     for index in 0..DIRECTORIES {
         see(rt, alloc, tree, Unlink(directory(index), b"d"), Done);
@@ -134,8 +136,8 @@ fn remove_all(rt: &impl Abort, alloc: Global, tree: &mut Tree<Global>) {
     }
 }
 
-/// Six rounds of 4,094 changes and 12,287 new files take a tick each, and the 16,381 new objects a stamp each. They leave the sample tree
-/// with five files in `pub`. No number comes again.
+/// Six rounds of 4,094 changes and 12,287 new files take a tick each, and the 16,381 new objects a stamp each. They
+/// leave the sample tree with five files in `pub`. No number is used again.
 const LEFT: &[(Step, Outcome)] = &[
     (Next, Counters(36_855, 16_385)),
     (After(1, 0), Entry(3, 2)),
@@ -177,8 +179,8 @@ fn fill(rt: &impl Abort, alloc: Global, tree: &mut Tree<Global>) {
     }
 }
 
-/// Checks which file stands in `pub` behind a cookie, and tells that of its name, which is a later one.
-fn see_behind(rt: &impl Abort, tree: &Tree<Global>, last: u64, want: u64) -> u64 {
+/// Checks which file is in `pub` after a cookie, and returns the cookie of its name, which is a later one.
+fn see_after(rt: &impl Abort, tree: &Tree<Global>, last: u64, want: u64) -> u64 {
     // No object has the number 0.
     let (cookie, child) = after(tree, 3, last).unwrap_or((last, 0));
     assert_eq!(rt; child, want);
@@ -186,24 +188,24 @@ fn see_behind(rt: &impl Abort, tree: &Tree<Global>, last: u64, want: u64) -> u64
     cookie
 }
 
-/// The files stand in the order in which they got their names.
+/// The files are listed in the order in which they got their names.
 fn list(rt: &impl Abort, alloc: Global, tree: &mut Tree<Global>) {
     let mut last = 0u64;
     for index in 0..NAMES {
         let number = index.saturating_mul(1001) % NAMES;
-        last = see_behind(rt, tree, last, number.saturating_add(4));
+        last = see_after(rt, tree, last, number.saturating_add(4));
     }
     see(rt, alloc, tree, After(3, last), Absent);
 }
 
-/// Takes a file of `pub` away by its second name.
+/// Removes a file of `pub` by its second name.
 fn take(rt: &impl Abort, alloc: Global, tree: &mut Tree<Global>, number: u64) {
     let name = name_of(number.saturating_add(NAMES));
     see(rt, alloc, tree, Unlink(3, &name), Done);
     see(rt, alloc, tree, See(Size, number.saturating_add(4)), Absent);
 }
 
-/// Every third file goes from the first on, every third from the last on, and the others in steps of 1,003.
+/// Removes every third file from the first on, every third from the last on, and the others in steps of 1,003.
 fn take_all(rt: &impl Abort, alloc: Global, tree: &mut Tree<Global>) {
     for index in 0..1366u64 {
         take(rt, alloc, tree, index.saturating_mul(3));

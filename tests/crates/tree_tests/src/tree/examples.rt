@@ -22,7 +22,7 @@ const GAPS: &[(Step, Outcome)] = &[
     (Read(2, 4097), Bytes(0, [9, 9, 9, 9])),
 ];
 
-/// Zeros stand between the end and the data, and behind an end that was cut.
+/// Zeros are between the end and the data, and after an end that was cut.
 #[test]
 fn gaps_are_zeros(rt: HostRuntime) {
     walk_sample(&rt, rt.alloc(), GAPS);
@@ -34,7 +34,7 @@ const OVER_A_BORDER: &[(Step, Outcome)] = &[
     (Write(2, 4095, b"xy"), Done),
 ];
 
-/// What stands in a buffer of nines after a read over the border of two blocks.
+/// The content of a buffer of nines after a read over the border of two blocks.
 fn byte_at(place: usize) -> u8 {
     match place {
         0 => b'a',
@@ -49,7 +49,7 @@ fn see_byte(rt: &impl Abort, place: usize, byte: u8) {
     assert_eq!(rt; byte, byte_at(place), "at {place}");
 }
 
-/// Checks the first bytes of `notes`: `a`, zeros, `xy` over the border of two blocks, and nothing behind that.
+/// Checks the first bytes of `notes`: `a`, zeros, `xy` over the border of two blocks, and nothing after that.
 fn see_border(rt: &impl Abort, tree: &Tree<Global>) {
     let mut bytes = [9u8; 4098];
     assert_eq!(rt; tree.read(2, 0, &mut bytes), 4097);
@@ -76,7 +76,8 @@ fn go_over_a_border(rt: &impl Abort, alloc: Global, tree: &mut Tree<Global>) {
     walk(rt, alloc, tree, GROWN_AND_GONE);
 }
 
-/// Each byte of a file over the border of two blocks; the bytes that a cut took away are zero; the number of a removed file stays free.
+/// Each byte of a file over the border of two blocks is checked. The bytes that a cut removed are zero. The number of a
+/// removed file stays free.
 #[test]
 fn a_file_goes_over_a_border(rt: HostRuntime) {
     let mut tree = sample(&rt, rt.alloc());
@@ -98,7 +99,7 @@ const LAST_NAMES: &[(Step, Outcome)] = &[
     (After(1, 4), Entry(6, 4)),
 ];
 
-/// An object goes with its last name, and its number is never another's.
+/// An object is removed with its last name, and its number is never another's.
 #[test]
 fn objects_go_with_their_last_name(rt: HostRuntime) {
     walk_sample(&rt, rt.alloc(), LAST_NAMES);
@@ -129,7 +130,7 @@ const MOVES: &[(Step, Outcome)] = &[
     (See(Parent, 2), Absent),
 ];
 
-/// The rows of the table of `rename`. Nothing was changed by tick 6 but the directory that replaced another.
+/// The rows of the table of `rename`. By tick 6 only the directory that replaced another was changed.
 #[test]
 fn names_change_or_are_refused(rt: HostRuntime) {
     walk_sample(&rt, rt.alloc(), MOVES);
@@ -145,7 +146,8 @@ const STAMPS: &[(Step, Outcome)] = &[
     (See(Times, 2), Changed(0, 6)),
 ];
 
-/// The list of an object doesn't depend on the name; list and owner take a stamp each, and the object has the later one.
+/// The ACL (access control list) of an object doesn't depend on the name. ACL and owner take a stamp each, and the
+/// object has the later one.
 #[test]
 fn lists_and_owners_take_stamps(rt: HostRuntime) {
     walk_sample(&rt, rt.alloc(), STAMPS);

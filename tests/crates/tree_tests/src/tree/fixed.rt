@@ -1,4 +1,4 @@
-//! Calls in a fixed order that looks like none, on a tree and on a plain program beside it.
+//! Calls in a fixed order that looks random, on a tree and on a plain program.
 
 use crate::tree::acting::{Outcome, add, link, rename, resize, set_owner, unlink, write};
 use crate::tree::plain::{Label, Named, Plain};
@@ -8,7 +8,7 @@ use std::alloc::{AllocError, Global};
 use std::process::Abort;
 use std::test::Fail;
 
-/// Numbers in a fixed order that looks like none.
+/// Numbers in a fixed order that looks random.
 #[derive(Clone, Copy)]
 struct Dice {
     state: u64,
@@ -41,7 +41,7 @@ fn any(dice: &mut Dice, plain: &Plain) -> u64 {
     }
 }
 
-/// A directory: the root where the dice showed none.
+/// A directory: the root if the dice gave none.
 fn directory(dice: &mut Dice, plain: &Plain) -> u64 {
     let number = any(dice, plain);
     if plain.is_directory(number) {
@@ -51,7 +51,7 @@ fn directory(dice: &mut Dice, plain: &Plain) -> u64 {
     }
 }
 
-/// A name that is there, of a directory.
+/// A name of a directory that exists.
 fn there(dice: &mut Dice, plain: &Plain) -> (u64, Label) {
     let place = dice.roll(plain.names.len() as u64);
     match plain.names.get(place as usize) {
@@ -247,8 +247,8 @@ fn see_bytes(
     Ok(())
 }
 
-/// The next name of a directory behind a cookie.
-fn behind(tree: &Tree<Global>, directory: u64, cookie: u64) -> Option<Named> {
+/// The next name of a directory after a cookie.
+fn entry_after(tree: &Tree<Global>, directory: u64, cookie: u64) -> Option<Named> {
     let entry = tree.list_after(directory, cookie)?;
     Some(Named {
         cookie: entry.cookie(),
@@ -258,16 +258,16 @@ fn behind(tree: &Tree<Global>, directory: u64, cookie: u64) -> Option<Named> {
     })
 }
 
-/// A name stands behind the last one of its directory that was seen, and leads to its child.
+/// A name comes after the last one of its directory, and has its child.
 fn see_name(rt: &impl Abort, tree: &Tree<Global>, want: &Named, last: u64) {
     let found = tree.find(want.directory, &want.label);
     assert_eq!(rt;
-        (behind(tree, want.directory, last), found),
+        (entry_after(tree, want.directory, last), found),
         (Some(*want), Some(want.child))
     );
 }
 
-/// The names of a directory, one after another, and none behind the last.
+/// The names of a directory, one after another, and none after the last.
 fn see_directory(rt: &impl Abort, tree: &Tree<Global>, plain: &Plain, directory: u64) {
     let mut last = 0u64;
     for name in plain.names.iter() {
@@ -287,7 +287,7 @@ fn see_counters(rt: &impl Abort, tree: &Tree<Global>, plain: &Plain) {
     );
 }
 
-/// The whole world, number by number.
+/// The complete world, number by number.
 fn see_world(
     rt: &impl Abort,
     tree: &Tree<Global>,
@@ -303,7 +303,7 @@ fn see_world(
     Ok(())
 }
 
-/// A root alone, with an empty list.
+/// A root alone, with an empty access control list.
 fn empty(alloc: Global) -> Result<Tree<Global>, AllocError> {
     let list = AclList::new(alloc);
     if !is_bounded(&list) {
@@ -312,7 +312,7 @@ fn empty(alloc: Global) -> Result<Tree<Global>, AllocError> {
     Tree::new(alloc, 0, 0, list, 0)
 }
 
-/// A hundred calls, of which so many are refused.
+/// A hundred calls, and the number of those that are refused.
 fn hundred(
     rt: &impl Abort,
     alloc: Global,
@@ -353,7 +353,7 @@ fn all_calls(
     Ok(())
 }
 
-/// 10,000 calls come to the same in both, and after each hundredth the worlds are equal.
+/// 10,000 calls have the same outcome in both, and after each hundredth the worlds are equal.
 #[test]
 fn a_plain_program_does_the_same(rt: HostRuntime) -> Result<(), Fail> {
     let mut tree = empty(rt.alloc()).expect(&rt, "a root alone");

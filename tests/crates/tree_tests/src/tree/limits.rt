@@ -10,8 +10,8 @@ use node_tree::TreeFault::{FBig, MLink};
 use std::alloc::Global;
 use std::process::Abort;
 
-/// The sample tree's next tick and stamp are 4. The 999 names, a move and a write take a tick each, and no stamp; what is refused or
-/// has no data takes none.
+/// The sample tree's next tick and stamp are 4. The 999 names, a move and a write take a tick each, and no stamp. A
+/// call that is refused or has no data takes none.
 const FULL: &[(Step, Outcome)] = &[
     (See(Links, 2), Is(1000)),
     (Link(3, b"more", 2), Refused(MLink)),

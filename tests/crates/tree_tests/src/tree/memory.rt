@@ -1,4 +1,4 @@
-//! Every growth refused.
+//! Each allocation fails.
 
 use crate::tree::acting::Outcome;
 use crate::tree::acting::Outcome::{Bytes, Done, Is, Misused, Refused};
@@ -14,7 +14,7 @@ use std::alloc::AllocError;
 use std::process::Abort;
 use std::test::Fail;
 
-/// The looks that are taken before and after a call: at the counters, and at the attributes of each object.
+/// The parts of the state that are compared before and after a call: the counters, and the attributes of each object.
 const LOOKS: [Step; 17] = [
     Next,
     See(Change, 1),
@@ -43,7 +43,7 @@ fn look<'a>(tree: &mut Tree<&'a LocalHeap>, heap: &'a LocalHeap) -> [Outcome; 17
     picture
 }
 
-/// The calls that may want memory.
+/// The calls that may allocate.
 const GROWTH: &[Step] = &[
     Create(3, b"a longer name"),
     Link(3, b"another", 2),
@@ -52,7 +52,7 @@ const GROWTH: &[Step] = &[
     Rename(1, b"notes", 3, b"renamed"),
 ];
 
-/// The calls that take no memory.
+/// The calls that don't allocate.
 const NO_GROWTH: &[(Step, Outcome)] = &[
     (Resize(2, 1_000_000), Done),
     (Resize(2, 1), Done),
@@ -60,14 +60,15 @@ const NO_GROWTH: &[(Step, Outcome)] = &[
     (Unlink(1, b"nothing"), Refused(NoEnt)),
 ];
 
-/// How many calls were done, and how many were refused for memory.
+/// How many calls were done, and how many failed for an allocation.
 #[derive(Clone, Copy)]
 struct Count {
     done: u32,
     refused: u32,
 }
 
-/// Makes a call over a heap of this size. All is as it was exactly if it's refused for memory, which is returned.
+/// Makes a call over a heap of this size. Returns whether an allocation failed. The state is unchanged exactly if one
+/// did.
 fn see_growth<'a>(
     rt: &impl Abort,
     heap: &'a LocalHeap,
@@ -82,7 +83,7 @@ fn see_growth<'a>(
     refused
 }
 
-/// Makes the calls that may want memory, and then those that take none.
+/// Makes the calls that may allocate, and then those that don't.
 fn see_calls<'a>(
     rt: &impl Abort,
     heap: &'a LocalHeap,
@@ -100,7 +101,7 @@ fn see_calls<'a>(
     walk(rt, heap, tree, NO_GROWTH);
 }
 
-/// Makes the calls over a heap of this size, where it has room for the sample tree.
+/// Makes the calls over a heap of this size, if it has room for the sample tree.
 fn see_heap(
     rt: &impl Abort,
     heap: &LocalHeap,
@@ -112,7 +113,8 @@ fn see_heap(
     Ok(())
 }
 
-/// Over each size of a heap a call is done, or refused for memory with all as it was; a call that takes no memory is done.
+/// Over each size of a heap a call is done, or fails for an allocation with the state unchanged. A call that doesn't
+/// allocate is done.
 #[test]
 fn refused_growth_changes_nothing(rt: HostRuntime) -> Result<(), Fail> {
     let mut count = Count {
@@ -128,7 +130,7 @@ fn refused_growth_changes_nothing(rt: HostRuntime) -> Result<(), Fail> {
     Ok(())
 }
 
-/// A heap in which the sample tree leaves room for one block more, and not for two.
+/// A heap in which the sample tree leaves room for one more block, and not for two.
 const ONE_BLOCK: usize = 16_000;
 
 const ABSENT_BLOCKS: &[(Step, Outcome)] = &[
@@ -142,7 +144,8 @@ const ABSENT_BLOCKS: &[(Step, Outcome)] = &[
     (Read(2, 1_048_574), Bytes(2, [0, b'z', 9, 9])),
 ];
 
-/// A file of 1,048,576 bytes takes one block for the only byte that was written. Two further blocks are refused, none for zeros.
+/// A file of 1,048,576 bytes takes one block for the only byte that was written. Allocations of two further blocks
+/// fail; zeros need none.
 #[test]
 fn absent_blocks_take_no_memory(rt: HostRuntime) -> Result<(), Fail> {
     let heap = LocalHeap::new(rt.alloc(), ONE_BLOCK)?;

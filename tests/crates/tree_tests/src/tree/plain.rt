@@ -1,4 +1,4 @@
-//! A tree as a plain program keeps it: lists that are walked, and the bytes of a file in one row.
+//! A tree of a plain program: lists that are searched, and the bytes of a file in one row.
 
 use crate::tree::acting::Outcome;
 use crate::tree::acting::Outcome::{Done, Made, Refused};
@@ -127,7 +127,7 @@ impl Plain {
         None
     }
 
-    /// Whether a directory is another one, or lies below it.
+    /// Whether a directory is another one, or is below it.
     fn is_within(&self, directory: u64, number: u64) -> bool {
         let mut here = number;
         for _ in 0..self.number {
@@ -305,7 +305,7 @@ impl Plain {
         Ok(self.end())
     }
 
-    /// Sets the size of a file, with zeros at its end where it grows.
+    /// Sets the size of a file, with zeros at its end if it grows.
     fn reach(&mut self, file: u64, size: usize) -> Result<(), AllocError> {
         let Some(place) = self.place(file) else {
             return Ok(());

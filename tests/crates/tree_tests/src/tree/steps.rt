@@ -1,4 +1,4 @@
-//! Calls and looks as data, so that a test is a table of them with their outcomes.
+//! Calls and parts of the state as data, so that a test is a table of them with their outcomes.
 
 use crate::tree::acting::Outcome::{Absent, Bytes, Changed, Counters, Entry, Is};
 use crate::tree::acting::{
@@ -9,7 +9,7 @@ use node_tree::{AclList, Kind, Tree};
 use std::alloc::Allocator;
 use std::process::Abort;
 
-/// What is looked at of an object.
+/// A part of an object.
 #[derive(Clone, Copy, Debug)]
 pub enum Look {
     Change,
@@ -20,7 +20,7 @@ pub enum Look {
     Parent,
 }
 
-/// A call, or a look at a tree.
+/// A call, or a part of a tree's state.
 #[derive(Clone, Copy, Debug)]
 pub enum Step<'a> {
     Mkdir(u64, &'a [u8]),
@@ -30,14 +30,14 @@ pub enum Step<'a> {
     Rename(u64, &'a [u8], u64, &'a [u8]),
     Write(u64, u64, &'a [u8]),
     Resize(u64, u64),
-    /// An empty list is set.
+    /// An empty access control list is set.
     SetList(u64),
     SetOwner(u64, u32, u32),
     /// The next tick and the next stamp.
     Next,
     See(Look, u64),
     Find(u64, &'a [u8]),
-    /// The next name of a directory behind a cookie.
+    /// The next name of a directory after a cookie.
     After(u64, u64),
     /// Four bytes of a file are read at an offset.
     Read(u64, u64),
@@ -81,7 +81,7 @@ fn read<A: Allocator + Copy>(tree: &Tree<A>, file: u64, offset: u64) -> Outcome 
     Bytes(count, bytes)
 }
 
-/// Makes a call, or takes a look.
+/// Makes a call, or reads a part of the state.
 pub fn act<A: Allocator + Copy>(tree: &mut Tree<A>, alloc: A, step: Step<'_>) -> Outcome {
     match step {
         Step::Mkdir(directory, name) => add(tree, alloc, directory, name, Kind::Directory),
@@ -101,7 +101,7 @@ pub fn act<A: Allocator + Copy>(tree: &mut Tree<A>, alloc: A, step: Step<'_>) ->
     }
 }
 
-/// Makes a call or takes a look, and checks the outcome.
+/// Makes a call or reads a part of the state, and checks the outcome.
 pub fn see<A: Allocator + Copy>(
     rt: &impl Abort,
     alloc: A,
@@ -112,7 +112,7 @@ pub fn see<A: Allocator + Copy>(
     assert_eq!(rt; act(tree, alloc, step), want, "{step:?}");
 }
 
-/// Goes over a table of calls and looks, and checks their outcomes.
+/// Goes over a table of calls and parts of the state, and checks their outcomes.
 pub fn walk<A: Allocator + Copy>(
     rt: &impl Abort,
     alloc: A,

@@ -9,19 +9,19 @@ use node_tree::TreeFault::Memory;
 use std::process::Abort;
 use std::test::Fail;
 
-/// A heap that has room for the sample tree and for what one turn makes, and not for [`TOO_MUCH`].
+/// A heap that has room for the sample tree and for the objects of one turn, and not for [`TOO_MUCH`].
 const HEAP: usize = 24_000;
 
 /// More bytes than the heap has.
 const TOO_MUCH: [u8; 25_000] = [1; 25_000];
 
 /// A turn is eight calls.
-const TURNS: u64 = 12_500;
+const TURNS: u64 = 125_000;
 
 /// Every 250th turn writes, too.
 const WRITING: u64 = 250;
 
-/// Bytes are written over a border of blocks and cut off, and some for which there is no memory are refused.
+/// Bytes are written over a border of blocks and cut off. A write whose allocation fails is refused.
 fn write_and_cut<'a>(rt: &impl Abort, heap: &'a LocalHeap, tree: &mut Tree<&'a LocalHeap>) {
     let steps = [
         (Write(2, 4095, b"data"), Done),
@@ -47,7 +47,7 @@ fn turn<'a>(rt: &impl Abort, heap: &'a LocalHeap, tree: &mut Tree<&'a LocalHeap>
     walk(rt, heap, tree, &steps);
 }
 
-/// As many calls as these that leave nothing take no more memory than the first of them.
+/// A million calls that leave nothing need no more memory than the first of them.
 #[test]
 fn memory_follows_what_is_there(rt: HostRuntime) -> Result<(), Fail> {
     let heap = LocalHeap::new(rt.alloc(), HEAP)?;

@@ -10,7 +10,9 @@ use node_tree::TreeFault::NotEmpty;
 use std::alloc::Global;
 use std::process::Abort;
 
-/// A directory is made in `pub`, in vain, and goes; `notes` is linked, moved, written, cut and given away.
+/// `notes` gets a second name, which is moved to `pub`. It is written, cut, and gets another owner. A move onto another
+/// name of `notes` changes nothing, and `pub` isn't removed, since it isn't empty. `notes` gets one more name there,
+/// and both are removed.
 const ROUND: &[(Step, Outcome)] = &[
     (Link(1, b"x", 2), Done),
     (Rename(1, b"x", 3, b"y"), Done),
@@ -46,8 +48,8 @@ fn go_round(rt: &impl Abort, alloc: Global, tree: &mut Tree<Global>) {
     see(rt, alloc, tree, Mkdir(1, b"last"), Made(4));
 }
 
-/// A round takes eight ticks (no data, the names of one object and a refusal take none), one stamp (an owner) and three cookies
-/// (two links, a move), and leaves `notes` and `pub` with one name each.
+/// A round takes eight ticks (no data, the names of one object and a refusal take none), one stamp (an owner) and three
+/// cookies (two links, a move), and leaves `notes` and `pub` with one name each.
 #[test]
 fn rounds_take_what_they_should(rt: HostRuntime) {
     let mut tree = sample(&rt, rt.alloc());

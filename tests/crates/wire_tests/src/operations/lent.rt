@@ -1,4 +1,4 @@
-//! Results that lend their bytes, by hand (RFC 8881, section 18, and RFC 5662).
+//! Results that borrow their bytes, by hand (RFC 8881, section 18, and RFC 5662).
 use nfs_ops::{
     ExchangeIdResult, GetAttrResult, GetFhResult, OpResult, ReadDirResult, ReadLinkResult,
     ReadResult,

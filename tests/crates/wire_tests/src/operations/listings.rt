@@ -8,11 +8,11 @@ use std::alloc::{AllocError, Global};
 use who_book::Book;
 use xdr_wire::{Opaque, Writer};
 
-/// The front of each result: number, status and verifier.
+/// The prefix of each result: number, status and verifier.
 const HEAD: &[u8] = b"\0\0\0\x1a\0\0\0\0\0\0\0\0\0\0\0\0";
 
-/// The entries `f`, `go` and `x` of cookies 4, 6 and 7 behind their links, each a file of mode 0640 of which type, rdattr_error and
-/// mode are requested.
+/// The entries `f`, `go` and `x` of cookies 4, 6 and 7 after their links, each a file of mode 0640 of which type,
+/// rdattr_error and mode are requested.
 const ENTRIES: [&[u8]; 3] = [
     b"\0\0\0\x01\0\0\0\0\0\0\0\x04\0\0\0\x01f\0\0\0\0\0\0\x02\0\0\x08\x02\0\0\0\x02\0\0\0\x0c\0\0\0\x01\0\0\0\0\0\0\x01\xa0",
     b"\0\0\0\x01\0\0\0\0\0\0\0\x06\0\0\0\x02go\0\0\0\0\0\x02\0\0\x08\x02\0\0\0\x02\0\0\0\x0c\0\0\0\x01\0\0\0\0\0\0\x01\xa0",
@@ -27,14 +27,14 @@ const END: &[u8] = b"\0\0\0\0\0\0\0\x01";
 /// How a listing ends.
 #[derive(Clone, Copy, Debug, PartialEq, Eq)]
 pub enum Ending {
-    /// This many entries, and whether they are all.
+    /// This number of entries, and whether they are all.
     Given(usize, bool),
     /// The fault that refuses an entry.
     Refused(u32),
     TooSmall,
 }
 
-/// A listing: how many names there are, which of them is refused, the client's maxcount, the room, and the result.
+/// A listing: the number of names, which of them is refused, the client's maxcount, the room, and the result.
 #[derive(Clone, Copy, Debug)]
 pub struct Case {
     pub names: usize,
@@ -56,7 +56,7 @@ macro_rules! listing {
     };
 }
 
-/// All cases: an entry takes 48 bytes, and the rest of a result 16 bytes behind the status and 24 in all.
+/// All cases: an entry takes 48 bytes, and the rest of a result 16 bytes after the status and 24 in all.
 static CASES: [Case; 19] = [
     listing!(1, None, 64, 256, Ending::Given(1, true)),
     listing!(1, None, 63, 256, Ending::TooSmall),
@@ -131,7 +131,7 @@ fn child(index: usize, refused: Option<usize>) -> Child {
     }
 }
 
-/// How the listing ends that is written.
+/// The end of the listing that is written.
 fn write_listing(mut children: Children<'_>, case: Case, writer: &mut Writer) -> Option<Ending> {
     let room = writer.room();
     if room < 24 {
@@ -144,7 +144,7 @@ fn write_listing(mut children: Children<'_>, case: Case, writer: &mut Writer) ->
     }
 }
 
-/// Writes the listing of a case, and says how it ends.
+/// Writes the listing of a case, and returns how it ends.
 fn list(alloc: Global, case: Case, writer: &mut Writer) -> Option<Ending> {
     let book = Book::default(alloc);
     let facts = facts();
@@ -183,7 +183,7 @@ fn fault_of(ending: Ending) -> Option<Ending> {
     }
 }
 
-/// Whether a case ends as it should with these bytes, which are read and written again.
+/// Whether a case ends as expected with these bytes, which are read and written again.
 fn is_listed_as(alloc: Global, case: Case, want: &[u8]) -> bool {
     match Writer::new(alloc, case.room) {
         Ok(mut writer) => {
@@ -197,7 +197,7 @@ fn is_listed_as(alloc: Global, case: Case, want: &[u8]) -> bool {
     }
 }
 
-/// Whether a case ends as it should, with the bytes that it expects.
+/// Whether a case ends as expected, with the bytes that it expects.
 pub fn is_listed(alloc: Global, case: Case) -> Result<bool, AllocError> {
     let want = wanted(alloc, case.ending)?;
     Ok(is_listed_as(alloc, case, &want))

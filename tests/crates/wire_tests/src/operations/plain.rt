@@ -28,7 +28,8 @@ pub fn read(bytes: &[u8]) -> (Kind, usize) {
     (kind_of(&op), reader.len())
 }
 
-/// The answer to writing the operation that the bytes spell into a buffer of this room, and whether that holds these bytes then.
+/// The answer to writing the operation that the bytes encode into a buffer of this room, and whether the buffer has
+/// these bytes then.
 fn again(
     alloc: Global,
     room: usize,
@@ -44,14 +45,15 @@ fn again(
     }
 }
 
-/// Whether the operation that the bytes spell is written as them into their room, and nothing of it into a smaller one.
+/// Whether the operation that the bytes encode is written as them into their room, and nothing of it into a smaller
+/// one.
 pub fn is_written_again(alloc: Global, bytes: &[u8]) -> bool {
     let room = bytes.len();
     (again(alloc, room, bytes, bytes) == Some((Ok(()), true)))
         & (again(alloc, room.saturating_sub(1), bytes, b"") == Some((Err(Full), true)))
 }
 
-/// The answer to writing a result into a buffer of this room, and whether that holds these bytes then.
+/// The answer to writing a result into a buffer of this room, and whether the buffer has these bytes then.
 pub fn written(
     alloc: Global,
     room: usize,
@@ -67,7 +69,7 @@ pub fn written(
     }
 }
 
-/// The number that stands at the front, 0 where the bytes are fewer.
+/// The number at the start, or 0 if the bytes are fewer.
 pub fn number_of(bytes: &[u8]) -> u32 {
     Reader::new(bytes).u32().unwrap_or(0)
 }
@@ -78,7 +80,7 @@ fn put_again(writer: &mut Writer, bytes: &[u8]) {
     }
 }
 
-/// Whether the result that the bytes spell is written as these: as nothing where they spell none.
+/// Whether the result that the bytes encode is written as these; as nothing if they encode none.
 pub fn is_result_again(alloc: Global, bytes: &[u8], want: &[u8]) -> bool {
     match Writer::new(alloc, bytes.len()) {
         Ok(mut writer) => {

@@ -1,4 +1,4 @@
-//! Operations, results and listings that are read and written, whole, cut, and into too little room.
+//! Operations, results and listings that are read and written, complete, cut, and into too little room.
 use crate::operations::plain::{self, Kind};
 use crate::operations::{lent, listings, results, vectors};
 use std::alloc::Global;
@@ -11,7 +11,7 @@ fn is_operation(alloc: Global, bytes: &[u8]) -> bool {
     is_read & plain::is_written_again(alloc, bytes)
 }
 
-/// Each operation is read whole, and is written again; with less room nothing is.
+/// Each operation is read completely, and is written again; with less room nothing is.
 #[test]
 fn operations(rt: HostRuntime) {
     for bytes in vectors::operations() {
@@ -19,7 +19,7 @@ fn operations(rt: HostRuntime) {
     }
 }
 
-/// Whether an operation that is cut here is bad, under its number where that is there.
+/// Whether an operation that is cut here is bad, under its number if that is there.
 fn is_bad_at(bytes: &[u8], len: usize) -> bool {
     let (kind, _) = plain::read(bytes.get(..len).unwrap_or(b""));
     let under = if len < 4 {
@@ -30,8 +30,8 @@ fn is_bad_at(bytes: &[u8], len: usize) -> bool {
     kind == Kind::Bad(under)
 }
 
-/// How many fronts of an operation aren't bad.
-fn good_fronts(bytes: &[u8]) -> usize {
+/// How many prefixes of an operation aren't bad.
+fn good_prefixes(bytes: &[u8]) -> usize {
     let mut good = 0usize;
     for len in 0..bytes.len() {
         if !is_bad_at(bytes, len) {
@@ -41,11 +41,11 @@ fn good_fronts(bytes: &[u8]) -> usize {
     good
 }
 
-/// Each operation that is cut anywhere is bad, under its number where that is there.
+/// Each operation that is cut anywhere is bad, under its number if that is there.
 #[test]
 fn cut(rt: HostRuntime) {
     for bytes in vectors::operations() {
-        assert_eq!(rt; good_fronts(*bytes), 0, "{bytes:?}");
+        assert_eq!(rt; good_prefixes(*bytes), 0, "{bytes:?}");
     }
 }
 
@@ -79,7 +79,7 @@ fn is_result(alloc: Global, index: u32) -> bool {
     is_written(alloc, index, bytes) & plain::is_result_again(alloc, bytes, bytes)
 }
 
-/// Each result is written as its form says; with less room nothing is.
+/// Each result is written as its form defines; with less room nothing is.
 #[test]
 fn results(rt: HostRuntime) {
     for index in 0..results::COUNT {
@@ -98,7 +98,7 @@ fn is_lent(alloc: Global, index: u32) -> bool {
     }
 }
 
-/// Results that lend their bytes: attributes, a filehandle, bytes, a link's text, the names of a server.
+/// Results that borrow their bytes: attributes, a filehandle, bytes, a link's text, the names of a server.
 #[test]
 fn lent(rt: HostRuntime) {
     for index in 0..lent::COUNT {
@@ -106,8 +106,8 @@ fn lent(rt: HostRuntime) {
     }
 }
 
-/// Bytes that are no result: a number of no operation that is OK, an unknown status, a change that isn't atomic, none,
-/// and what this server doesn't return.
+/// Bytes that are no result: a number of no operation that is OK, an unknown status, a change that isn't atomic, no
+/// bytes, and results that this server doesn't return.
 #[test]
 fn no_results(rt: HostRuntime) {
     for bytes in vectors::no_results() {
@@ -118,7 +118,8 @@ fn no_results(rt: HostRuntime) {
     }
 }
 
-/// READDIR returns as many entries as fit, is refused where a judged entry is, and else finds too little room.
+/// READDIR returns all entries that fit. It is refused if an entry that is judged is refused, and else finds too little
+/// room.
 #[test]
 fn listings(rt: HostRuntime) {
     for case in listings::cases() {

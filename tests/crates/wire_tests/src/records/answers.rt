@@ -15,7 +15,7 @@ fn results() -> &'static [(&'static [u32], &'static [u32])] {
     &RESULTS
 }
 
-/// The results in a reply to call 9, without the contract of what reads them.
+/// The results in a reply to call 9, without the contract of the function that reads them.
 fn reply(record: &[u8]) -> Result<&[u8], ReplyFault> {
     read_reply(record, 9)
 }
@@ -50,7 +50,7 @@ static FAULTS: [(&[u32], ReplyFault); 24] = [
     (&[9, 1], ReplyFault::Header),
     (&[9, 0, 0, 0, 0, 0], ReplyFault::Header),
     (&[9, 2, 0, 0, 0, 0], ReplyFault::Header),
-    // whatever stands behind the transaction and the type
+    // whatever follows the transaction and the type
     (&[8, 1], ReplyFault::Another(8)),
     (&[8, 1, 0, 0, 0, 0], ReplyFault::Another(8)),
     (&[9, 1, 2, 0, 0, 0], ReplyFault::Header),
@@ -121,13 +121,13 @@ fn texts() -> &'static [(ReplyFault, &'static str)] {
     &TEXTS
 }
 
-fn is_shown(alloc: Global, fault: ReplyFault, text: &str) -> bool {
+fn is_printed(alloc: Global, fault: ReplyFault, text: &str) -> bool {
     is_text(format!(in alloc; "{fault}"), text)
 }
 
 #[test]
 fn texts_of_faults(rt: HostRuntime) {
     for (fault, text) in texts() {
-        assert!(rt; is_shown(rt.alloc(), *fault, text), "{text}");
+        assert!(rt; is_printed(rt.alloc(), *fault, text), "{text}");
     }
 }

@@ -6,10 +6,10 @@ use std::alloc::{AllocError, Global};
 use std::collections::HashMap;
 use std::process::Abort;
 
-/// A group, the further ones, and the groups that they come to.
+/// A group, the further ones, and the set of both.
 type Sent = (u32, &'static [u32], &'static [u32]);
 
-/// The groups that are sent for uid 1001, and the set that they come to.
+/// The groups that are sent for uid 1001, and their set.
 static SENT: [Sent; 9] = [
     (100, &[], &[100]),
     (100, &[7], &[7, 100]),
@@ -44,7 +44,7 @@ fn is_among(groups: &[u32], group: u32) -> bool {
     groups.contains(&group)
 }
 
-/// Checks that the caller is a member of just those groups below 400 that are among these.
+/// Checks that the caller is a member of exactly those groups below 400 that are among these.
 fn see_members(rt: &impl Abort, caller: Caller, groups: &[u32]) {
     for group in 0..400u32 {
         let is_right = is_member(caller, group) == is_among(groups, group);
@@ -114,7 +114,7 @@ fn found(
     ))
 }
 
-fn is_shown(alloc: Global, caller: Caller, text: &str) -> bool {
+fn is_printed(alloc: Global, caller: Caller, text: &str) -> bool {
     is_text(format!(in alloc; "{caller:?}"), text)
 }
 
@@ -127,7 +127,7 @@ fn callers_are_equal_where_their_groups_are(rt: HostRuntime) {
     let alone = caller(&rt, 1001, 100, &[]);
     assert!(rt; found(rt.alloc(), sent, again, alone) == Ok((Some(1), None)));
     let text = "Caller { uid: 1001, gid: 100, groups: [100, 200, 300] }";
-    assert!(rt; is_shown(rt.alloc(), again, text));
+    assert!(rt; is_printed(rt.alloc(), again, text));
 }
 
 /// Puts a group into a set that isn't full.
@@ -139,7 +139,7 @@ fn put(set: &mut GroupSet, group: u32) -> bool {
     false
 }
 
-/// The set of some groups, of which there are at most 17.
+/// The set of some groups, at most 17.
 fn set_of(rt: &impl Abort, groups: &[u32]) -> GroupSet {
     let mut set = GroupSet::new();
     for group in groups {
@@ -148,7 +148,7 @@ fn set_of(rt: &impl Abort, groups: &[u32]) -> GroupSet {
     set
 }
 
-/// Groups in the order they are put in, and the set that they come to.
+/// Groups in the order they are put in, and their set.
 static PUT: [(&[u32], &[u32]); 5] = [
     (&[], &[]),
     (&[0], &[0]),
@@ -180,7 +180,7 @@ fn is_in(set: GroupSet, group: u32) -> bool {
     set.contains(group)
 }
 
-/// Checks that a set has just those groups below 20 that are among these.
+/// Checks that a set has exactly those groups below 20 that are among these.
 fn see_contents(rt: &impl Abort, set: GroupSet, groups: &[u32]) {
     for group in 0..20u32 {
         let is_right = is_in(set, group) == is_among(groups, group);
@@ -206,7 +206,7 @@ fn sets_are_of_what_is_put_in(rt: HostRuntime) {
     }
 }
 
-fn is_set_shown(alloc: Global, set: GroupSet, text: &str) -> bool {
+fn is_set_printed(alloc: Global, set: GroupSet, text: &str) -> bool {
     is_text(format!(in alloc; "{set:?}"), text)
 }
 
@@ -222,5 +222,5 @@ fn callers_have_the_groups_given(rt: HostRuntime) {
     assert!(rt; !is_equal(given, caller(&rt, 1001, 7, &[100, 200])));
     let sent = caller(&rt, 1001, 100, &[200]);
     assert!(rt; is_equal(Caller::with_groups(1001, 100, groups), sent));
-    assert!(rt; is_set_shown(rt.alloc(), groups, "{100, 200}"));
+    assert!(rt; is_set_printed(rt.alloc(), groups, "{100, 200}"));
 }

@@ -42,7 +42,7 @@ fn written() -> &'static [Written] {
     &WRITTEN
 }
 
-/// In each room the header of a call is written whole, or not at all.
+/// In each room the header of a call is written completely, or not at all.
 #[test]
 fn calls_in_each_room(rt: HostRuntime) {
     let limit = CALL_HEADER_LIMIT;
@@ -54,7 +54,7 @@ fn calls_in_each_room(rt: HostRuntime) {
     assert!(rt; CALL_HEADER_LIMIT == 124);
 }
 
-/// Adds the mark of a record of a header and arguments.
+/// Appends the mark of a record of a header and arguments.
 fn add_mark(record: &mut Vec<u8>, header: usize, arguments: usize) -> Result<(), AllocError> {
     let len = header.min(1000) + arguments.min(1000);
     record.extend_from_slice(&record_mark(len))
@@ -71,7 +71,7 @@ fn write_header(writer: &mut Writer<Global>) -> bool {
     put_call(writer, 2, Caller::new(1002, 100, &[]))
 }
 
-/// Adds the record of that COMPOUND: its mark, its header and these arguments.
+/// Appends the record of that COMPOUND: its mark, its header and these arguments.
 fn add_call(record: &mut Vec<u8>, alloc: Global, arguments: &[u8]) -> Result<bool, AllocError> {
     let mut writer = Writer::new(alloc, CALL_HEADER_LIMIT)?;
     let is_written = write_header(&mut writer);
@@ -86,14 +86,14 @@ fn is_record(alloc: Global, arguments: &[u8], want: &[u8]) -> bool {
     is_added & (record.as_slice() == want)
 }
 
-/// The arguments of the call of LOOKUP stand behind 60 bytes of header and the four bytes of the mark.
+/// The arguments of the call of LOOKUP are after 60 bytes of header and the four bytes of the mark.
 fn is_whole_call(alloc: Global) -> Result<(bool, usize), AllocError> {
     let call = bytes_of_lookup(alloc)?;
     let (_, arguments) = call.split_at(call.len().min(64));
     Ok((is_record(alloc, arguments, &call), call.len()))
 }
 
-/// Behind its mark a call is header and arguments.
+/// After its mark a call is header and arguments.
 #[test]
 fn a_whole_call(rt: HostRuntime) {
     assert!(rt; is_whole_call(rt.alloc()) == Ok((true, 104)));

@@ -42,7 +42,7 @@ fn faults() -> &'static [(&'static [u32], CallFault)] {
     &FAULTS
 }
 
-/// A call's transaction, procedure, caller and arguments, without the contract of what reads them.
+/// A call's transaction, procedure, caller and arguments, without the contract of the function that reads them.
 type Found<'a> = (u32, Procedure, Option<Caller>, &'a [u8]);
 
 fn found(record: &[u8]) -> Result<Found<'_>, CallFault> {
@@ -143,7 +143,7 @@ fn is_compound(record: &[u8], arguments: &[u8]) -> bool {
     }
 }
 
-/// The arguments of the call of LOOKUP stand behind 60 bytes of header.
+/// The arguments of the call of LOOKUP are after 60 bytes of header.
 fn is_lookup(alloc: Global) -> Result<(bool, usize), AllocError> {
     let record = bytes_of(alloc, lookup_record())?;
     let (_, arguments) = record.split_at(record.len().min(60));
@@ -161,7 +161,7 @@ struct Credential {
     stamp: u32,
     name: usize,
     groups: usize,
-    // further bytes behind the gids
+    // further bytes after the gids
     more: usize,
 }
 
@@ -172,7 +172,7 @@ fn add_byte(bytes: &mut Vec<u8>, byte: u8, count: usize) -> Result<(), AllocErro
     Ok(())
 }
 
-/// 16 and down.
+/// Appends `groups` groups: 16 and down.
 fn add_groups(bytes: &mut Vec<u8>, groups: u32) -> Result<(), AllocError> {
     for i in 0..groups {
         add_words(bytes, &[16u32.saturating_sub(i)])?;
@@ -223,7 +223,7 @@ macro_rules! credential {
     };
 }
 
-/// Credentials, and the number of the fault that each comes to, or 0. The last ones have 400 bytes and 401.
+/// Credentials, and the number of the fault of each, or 0. The last ones have 400 bytes and 401.
 static CREDENTIALS: [(Credential, u32); 13] = [
     (credential!(0, 0, 0, 0), 0),
     (credential!(0xffff_ffff, 1, 0, 0), 0),
@@ -250,7 +250,7 @@ fn groups_of(count: usize) -> &'static [u32] {
     SIXTEEN.get(..count).unwrap_or(&[])
 }
 
-/// The number of the fault of a record, or 0 where it is the call of a credential with so many further groups.
+/// The number of the fault of a record, or 0 if it is the call of a credential with this number of further groups.
 fn number_of(record: &[u8], groups: usize) -> Option<u32> {
     match found(record) {
         Ok((_, _, caller, arguments)) => {

@@ -26,12 +26,12 @@ impl Connection {
         }
     }
 
-    /// Whether a record has begun that isn't whole.
+    /// Whether a record has begun that isn't complete.
     pub fn is_inside(&self) -> bool {
         self.framer.is_inside()
     }
 
-    /// Takes the next piece of the stream, where there is memory for it.
+    /// Takes the next piece of the stream, if the allocation succeeds.
     pub fn feed(&mut self, alloc: Global, piece: &[u8]) -> Result<(), AllocError> {
         let mut at = 0usize;
         for _ in 0..=piece.len() {
@@ -58,7 +58,7 @@ impl Connection {
         Ok(())
     }
 
-    /// Answers the record that is whole, and begins the next one.
+    /// Answers the complete record, and begins the next one.
     fn answer(&mut self, alloc: Global) -> Result<(), AllocError> {
         self.records = self.records.saturating_add(1);
         let reply = reply_of(&self.record);
@@ -81,7 +81,7 @@ fn reply_of(record: &[u8]) -> Option<(u32, Reply)> {
     }
 }
 
-/// Adds a record of these bytes.
+/// Appends a record of these bytes.
 fn add_record(out: &mut Vec<u8>, bytes: &[u8]) -> Result<(), AllocError> {
     if bytes.len() > REPLY_HEADER_LIMIT {
         return Ok(());
@@ -90,7 +90,7 @@ fn add_record(out: &mut Vec<u8>, bytes: &[u8]) -> Result<(), AllocError> {
     out.extend_from_slice(bytes)
 }
 
-/// Adds the record of a reply.
+/// Appends the record of a reply.
 fn add_reply(out: &mut Vec<u8>, alloc: Global, xid: u32, reply: Reply) -> Result<(), AllocError> {
     let mut writer = Writer::new(alloc, REPLY_HEADER_LIMIT)?;
     let _is_written = put_reply(&mut writer, xid, reply);

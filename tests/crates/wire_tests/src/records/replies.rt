@@ -25,7 +25,7 @@ fn length_of(reply: Reply) -> usize {
     reply.header_len()
 }
 
-/// In each room a reply is written whole, or not at all.
+/// In each room a reply is written completely, or not at all.
 #[test]
 fn replies_in_each_room(rt: HostRuntime) {
     for (reply, words) in replies() {
@@ -37,14 +37,14 @@ fn replies_in_each_room(rt: HostRuntime) {
     assert!(rt; REPLY_HEADER_LIMIT == 32);
 }
 
-/// Whether a writer takes a reply of its room and no other behind it.
+/// Whether a writer takes a reply of its room and no other after it.
 fn is_filled(writer: &mut Writer<&LocalHeap>) -> bool {
     let is_first = put_reply(writer, 9, Reply::ProgMismatch);
     let is_second = put_reply(writer, 9, Reply::Success);
     is_first & !is_second & (writer.len() == 32)
 }
 
-/// Whether there is a writer over the heap, and whether it is filled and takes no more memory for that.
+/// Whether there is a writer over the heap, and whether it is filled without a further allocation.
 fn filled(heap: &LocalHeap) -> (bool, bool) {
     match Writer::new(heap, REPLY_HEADER_LIMIT) {
         Ok(mut writer) => {
@@ -56,7 +56,7 @@ fn filled(heap: &LocalHeap) -> (bool, bool) {
     }
 }
 
-/// Whether there is a writer over a heap of this size, and whether it is right and nothing is left behind in the heap.
+/// Whether there is a writer over a heap of this size, and whether it is right and no byte of the heap stays allocated.
 fn filled_at(alloc: Global, size: usize) -> (bool, bool) {
     match LocalHeap::new(alloc, size) {
         Ok(heap) => {
@@ -67,8 +67,8 @@ fn filled_at(alloc: Global, size: usize) -> (bool, bool) {
     }
 }
 
-/// Over each size of a heap there is a writer with its room, in which the reply is written and no more memory is taken,
-/// or none and nothing is left behind.
+/// Over each size of a heap there is a writer with its room, in which the reply is written without a further
+/// allocation. Or there is none, and no byte stays allocated.
 #[test]
 fn replies_over_a_small_heap(rt: HostRuntime) {
     let mut made = 0u32;

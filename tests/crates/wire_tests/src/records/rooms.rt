@@ -48,12 +48,12 @@ fn put(writer: &mut Writer<Global>, header: Header<'_>) -> bool {
     }
 }
 
-/// Whether a writer holds these bytes, and its room.
+/// Whether a writer has these bytes, and its room.
 fn state_of(writer: &Writer<Global>, bytes: &[u8]) -> (bool, usize) {
     (writer.bytes() == bytes, writer.room())
 }
 
-/// Whether a header is written in a room, whether the buffer holds these bytes then, and the room that is left.
+/// Whether a header is written in a room, whether the buffer has these bytes then, and the room that is left.
 fn written_in(
     alloc: Global,
     header: Header<'_>,
@@ -69,7 +69,8 @@ fn written_in(
     }
 }
 
-/// Whether a header of these bytes is written whole in a room that is as large, and in a smaller one not at all.
+/// Whether a header of these bytes is written completely in a room of their length or more, and not at all in a smaller
+/// one.
 fn is_right_in(alloc: Global, header: Header<'_>, bytes: &[u8], room: usize) -> bool {
     match room.checked_sub(bytes.len()) {
         Some(left) => written_in(alloc, header, bytes, room) == Some((true, (true, left))),

@@ -26,7 +26,7 @@ fn feed_in_pieces(
     Ok(())
 }
 
-/// Whether a stream that comes in pieces of `cut` bytes is answered so, and whether it breaks.
+/// Whether a stream that arrives in pieces of `cut` bytes gets this answer, and whether it breaks.
 fn answers(alloc: Global, stream: &[u8], reply: &[u8], cut: usize) -> Option<(bool, bool)> {
     let mut connection = Connection::new(alloc);
     match feed_in_pieces(alloc, &mut connection, stream, cut) {
@@ -56,41 +56,42 @@ fn streams_in_every_cut(rt: HostRuntime) {
     }
 }
 
-/// Where a connection is: its records, and whether it is inside one.
+/// The state of a connection: its records, and whether it is inside one.
 fn place(connection: &Connection) -> (usize, bool) {
     (connection.records, connection.is_inside())
 }
 
-/// Where a connection is behind the front, where it is behind the rest too, and whether it is broken then.
+/// The state of a connection after the prefix, its state after the rest too, and whether it is broken then.
 fn places(
     alloc: Global,
-    front: &[u8],
+    prefix: &[u8],
     rest: &[u8],
 ) -> Result<((usize, bool), (usize, bool), bool), AllocError> {
     let mut connection = Connection::new(alloc);
-    connection.feed(alloc, front)?;
+    connection.feed(alloc, prefix)?;
     let first = place(&connection);
     connection.feed(alloc, rest)?;
     Ok((first, place(&connection), connection.broken))
 }
 
-/// Whether a call is answered just where it is whole, and its connection is inside a record where a part of it came.
-fn is_right_front(alloc: Global, front: &[u8], rest: &[u8]) -> bool {
-    places(alloc, front, rest) == Ok(((0, !front.is_empty()), (1, false), false))
+/// Whether a call is answered exactly when it is complete, and its connection is inside a record if a part of it
+/// arrived.
+fn is_right_prefix(alloc: Global, prefix: &[u8], rest: &[u8]) -> bool {
+    places(alloc, prefix, rest) == Ok(((0, !prefix.is_empty()), (1, false), false))
 }
 
-fn see_each_front(rt: &impl Abort, alloc: Global, stream: &[u8]) {
+fn see_each_prefix(rt: &impl Abort, alloc: Global, stream: &[u8]) {
     for len in 0..stream.len() {
-        let (front, rest) = stream.split_at(len);
-        assert!(rt; is_right_front(alloc, front, rest), "{len} bytes");
+        let (prefix, rest) = stream.split_at(len);
+        assert!(rt; is_right_prefix(alloc, prefix, rest), "{len} bytes");
     }
 }
 
-/// A call that isn't whole is not answered, and its connection is inside a record unless nothing came.
+/// An incomplete call isn't answered, and its connection is inside a record unless no byte arrived.
 #[test]
-fn each_front_of_a_call(rt: HostRuntime) -> Result<(), AllocError> {
+fn each_prefix_of_a_call(rt: HostRuntime) -> Result<(), AllocError> {
     let stream = bytes_of_lookup(rt.alloc())?;
-    see_each_front(&rt, rt.alloc(), &stream);
+    see_each_prefix(&rt, rt.alloc(), &stream);
     Ok(())
 }
 
@@ -125,7 +126,7 @@ fn second_marks() -> &'static [(u32, Step, Step)] {
     &SECOND_MARKS
 }
 
-/// Whether the second mark and what follows it come to these steps, and leave no record that isn't whole.
+/// Whether the second mark and the bytes after it have these steps, and leave no incomplete record.
 fn is_second(half: &[u8], mark: u32, third: Step, fourth: Step) -> bool {
     let (steps, is_inside) = steps_with(half, mark);
     let [first_found, second_found, third_found, fourth_found] = steps;
@@ -151,8 +152,8 @@ fn a_record_above_the_limit_in_two_fragments(rt: HostRuntime) -> Result<(), Allo
     Ok(())
 }
 
-/// Pieces that are fed one after another, each from this place on, the step that it gives, and whether the framer is
-/// inside a record then, where that is checked.
+/// Pieces that are fed one after another, each from this place on, the step of each, and whether the framer is inside a
+/// record then, if that is checked.
 type Fed = (&'static [u8], usize, Step, Option<bool>);
 
 static STEPS: [Fed; 9] = [
@@ -171,7 +172,7 @@ fn steps() -> &'static [Fed] {
     &STEPS
 }
 
-/// Whether a piece comes to its step, and to its place in a record.
+/// Whether a piece has its step, and its place in a record.
 fn is_step(framer: &mut Framer, fed: &Fed) -> bool {
     let (piece, at, want, inside) = fed;
     let found = step(framer, piece, *at);

@@ -22,7 +22,7 @@ fn object_of(handle: Handle<'_>) -> Result<u64, Status> {
     handle.object()
 }
 
-/// The object that a handle of all these bytes is of, or the fault of its bytes and how many are left.
+/// The object of a handle of all these bytes, or the fault of its bytes and how many are left.
 fn object_in(bytes: &[u8]) -> Result<Result<u64, Status>, (XdrFault, usize)> {
     match given::read::<Handle>(bytes) {
         (Ok(handle), 0) => Ok(object_of(handle)),
@@ -38,13 +38,13 @@ fn object(alloc: Global, words: &[u32]) -> Option<Result<Result<u64, Status>, (X
     }
 }
 
-/// Whether this server's own handle of an object is of it, and is written as these words.
+/// Whether this server's own handle of an object names it, and is written as these words.
 fn is_own(alloc: Global, number: u64, words: &[u32]) -> bool {
     let own = Handle::Object(number);
     (object_of(own) == Ok(number)) & given::is_written_as(alloc, 20, own, words)
 }
 
-/// Whether a handle of these words is of this object, and is written where it is this server's own.
+/// Whether a handle of these words names this object, and is written if it is this server's own.
 fn is_handle(alloc: Global, words: &[u32], names: Result<u64, Status>) -> bool {
     let is_read = object(alloc, words) == Some(Ok(names));
     match names {
@@ -53,7 +53,7 @@ fn is_handle(alloc: Global, words: &[u32], names: Result<u64, Status>) -> bool {
     }
 }
 
-/// Handles that are sent are of these objects, and this server's own are written.
+/// Handles that are sent name these objects, and this server's own are written.
 #[test]
 fn handles(rt: HostRuntime) {
     for (words, names) in cases_of_handles() {
@@ -123,7 +123,7 @@ fn stateids(rt: HostRuntime) {
     assert!(rt; parts_of(StateId::read_bypass()).0);
 }
 
-/// A bitmap that is read, and the words that are written of it.
+/// A bitmap that is read, and the words as which it is written.
 static BITMAPS: [(&[u32], &[u32]); 5] = [
     (&[0], &[0]),
     (&[1, 0], &[0]),
@@ -187,7 +187,7 @@ fn bitmaps(rt: HostRuntime) {
     }
 }
 
-/// Numbers that a set doesn't have, and such as no set can have, are taken away in vain.
+/// Removing numbers that a set doesn't have, or that no set can have, changes nothing.
 #[test]
 fn sets_without_numbers(rt: HostRuntime) {
     let set = Bitmap::settable().without(&[12, 58, 3, 300]);

@@ -1,4 +1,4 @@
-//! Lists that are sent, over each size of a heap.
+//! Access control lists (ACLs) that are sent, over each size of a heap.
 use crate::given;
 use crate::types::sets;
 use acl_list::Kind;
@@ -8,7 +8,7 @@ use std::alloc::{AllocError, Global};
 use std::process::Abort;
 use who_book::Book;
 
-/// The lengths of the list, the dacl and the sacl that are set over the heap, or the fault.
+/// The lengths of the ACL, the dacl and the sacl that are set over the heap, or the fault.
 fn lengths(heap: &LocalHeap, book: &Book, bytes: &[u8]) -> Result<[Option<usize>; 3], AttrsFault> {
     match sets::attrs(heap, book, Kind::File, bytes) {
         Ok(attrs) => Ok(sets::lengths(&attrs)),
@@ -16,8 +16,8 @@ fn lengths(heap: &LocalHeap, book: &Book, bytes: &[u8]) -> Result<[Option<usize>
     }
 }
 
-/// The outcome of sent attributes over a heap of this size: the lengths of their lists, or the fault; and whether anything is
-/// left behind in the heap.
+/// The outcome of sent attributes over a heap of this size: the lengths of their ACLs, or the fault; and whether a byte
+/// of the heap stays allocated.
 fn lengths_at(
     alloc: Global,
     book: &Book,
@@ -33,7 +33,7 @@ fn lengths_at(
     }
 }
 
-/// Whether there is memory for the lists over a heap of this size, of these lengths, or none.
+/// Whether the ACLs are allocated over a heap of this size, with these lengths, or none is.
 fn is_whole(
     alloc: Global,
     book: &Book,
@@ -52,7 +52,7 @@ fn is_refused(alloc: Global, book: &Book, bad: &[u8], size: usize) -> bool {
     lengths_at(alloc, book, bad, size) == (Err(AttrsFault::Refused(Status::Inval)), false)
 }
 
-/// Checks each size of a heap: lists of these lengths are whole or there is no memory for them, and what is bad is refused.
+/// Checks each size of a heap: ACLs of these lengths are complete or an allocation fails, and a bad value is refused.
 fn see_sizes(
     rt: &impl Abort,
     alloc: Global,
@@ -84,7 +84,7 @@ fn see_words(
     Ok(())
 }
 
-/// Over each size of a heap the list is whole, or there is no memory for it; a fault behind it is returned at every size.
+/// Over each size of a heap the ACL is complete, or an allocation fails. A fault after it is returned at every size.
 #[test]
 fn memory_is_refused(rt: HostRuntime) {
     let good = [1, 0x1000, 24, 1, 0, 0, 1, 1, 0x3700_0000];
@@ -93,7 +93,7 @@ fn memory_is_refused(rt: HostRuntime) {
     assert!(rt; seen.is_ok());
 }
 
-/// A dacl of an ALLOW entry, and a sacl of an AUDIT one.
+/// A dacl of an ALLOW ACE, and a sacl of an AUDIT one.
 static PARTS: &[u32] = &[
     2,
     0,
@@ -115,7 +115,7 @@ static PARTS: &[u32] = &[
     0x3700_0000,
 ];
 
-/// A dacl and a sacl of an ALLOW entry.
+/// A dacl and a sacl of an ALLOW ACE.
 static BAD_PARTS: &[u32] = &[
     2,
     0,
@@ -141,7 +141,8 @@ fn words_of_parts() -> (&'static [u32], &'static [u32]) {
     (PARTS, BAD_PARTS)
 }
 
-/// Over each size of a heap both parts are whole, or there is no memory for one; a fault of the second is returned at every size.
+/// Over each size of a heap both parts are complete, or an allocation for one fails. A fault of the second is returned
+/// at every size.
 #[test]
 fn memory_for_parts_is_refused(rt: HostRuntime) {
     let (good, bad) = words_of_parts();

@@ -123,7 +123,7 @@ fn bytes_of_only(alloc: Global, number: u32, words: &[u32]) -> Result<Vec<u8>, A
     Ok(bytes)
 }
 
-/// Whether attributes are written as these bytes, and in a byte less of room nothing.
+/// Whether attributes are written as these bytes, and with a byte less of room nothing.
 fn is_just(alloc: Global, given: GivenAttributes<'_>, bytes: &[u8]) -> bool {
     let is_written = given::is_written(alloc, 256, given, bytes);
     is_written & given::is_refused(alloc, bytes.len().saturating_sub(1), given)
@@ -167,7 +167,7 @@ fn add_values(bytes: &mut Vec<u8>) -> Result<(), AllocError> {
     Ok(())
 }
 
-/// Behind the head, the values of all attributes, in the order of their numbers.
+/// The head, and after it the values of all attributes, in the order of their numbers.
 fn all_values(alloc: Global, head: &[u32]) -> Result<Vec<u8>, AllocError> {
     let mut all = given::bytes_of(alloc, head)?;
     add_values(&mut all)?;
@@ -190,7 +190,7 @@ fn all_numbers() -> Bitmap {
     asked
 }
 
-/// Whether the attributes asked are written as these bytes.
+/// Whether the requested attributes are written as these bytes.
 pub fn is_given(
     alloc: Global,
     room: usize,

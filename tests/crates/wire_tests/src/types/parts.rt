@@ -1,4 +1,4 @@
-//! The parts of a list that are returned.
+//! The parts of an ACL (access control list) that are returned.
 use crate::given;
 use crate::types::object::{facts, is_given};
 use crate::types::sets;
@@ -32,14 +32,14 @@ fn mixed() -> &'static [Entry; 3] {
     &MIXED
 }
 
-/// A file of the mixed list.
+/// A file of the mixed ACL.
 fn mixed_facts() -> ObjectFacts<'static> {
     let mut facts = facts();
     facts.entries = mixed();
     facts
 }
 
-/// The numbers of the parts, and the words that are returned of them for the mixed list.
+/// The numbers of the parts, and the words that are returned of them for the mixed ACL.
 static PARTS: [(u32, &[u32]); 2] = [
     (
         58,
@@ -92,7 +92,7 @@ fn is_part(alloc: Global, number: u32, words: &[u32]) -> Result<bool, AllocError
     Ok(is_given(alloc, 128, &mixed_facts(), sets::only(number), &want))
 }
 
-/// A dacl has the ALLOW and DENY entries of the list in their order, a sacl the AUDIT and ALARM entries; neither has flags.
+/// A dacl has the ALLOW and DENY ACEs of the ACL in their order, a sacl the AUDIT and ALARM ACEs; neither has flags.
 #[test]
 fn parts_of_a_mixed_list(rt: HostRuntime) {
     for (number, words) in cases_of_parts() {

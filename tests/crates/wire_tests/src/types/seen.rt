@@ -2,15 +2,15 @@
 use crate::given;
 use crate::types::{object, sets};
 use nfs_types::{
-    Ace, Aces, Acl41, Attributes, Bitmap, GivenAttributes, SeenAttributes, ShownAttributes, Status,
-    read_given, write_given,
+    Ace, Aces, Acl41, Attributes, Bitmap, ClientAttributes, GivenAttributes, SeenAttributes,
+    Status, read_given, write_given,
 };
 use std::alloc::Global;
 use std::process::Abort;
 use who_book::Book;
 use xdr_wire::{Array, Opaque, Spell, Writer, XdrFault};
 
-/// An `fattr4` as a client sees it.
+/// An `fattr4` as a client reads it.
 fn seen(bytes: &[u8]) -> Result<SeenAttributes<'_>, XdrFault> {
     match given::read::<Attributes>(bytes) {
         (Ok(sent), _) => read_given(&sent),
@@ -18,24 +18,24 @@ fn seen(bytes: &[u8]) -> Result<SeenAttributes<'_>, XdrFault> {
     }
 }
 
-/// The text of the first who in a list that is seen.
-fn first_who<'a>(entries: Option<Array<'a, Ace<'a>, 0xffff_ffff>>) -> Option<&'a [u8]> {
+/// The text of the first principal in an access control list (ACL) that is read.
+fn first_principal<'a>(entries: Option<Array<'a, Ace<'a>, 0xffff_ffff>>) -> Option<&'a [u8]> {
     let mut entries = entries?;
     let first = entries.next()?;
     Some(first.who.bytes)
 }
 
-/// The flags of a part that is seen, how many entries it has, and the text of its first who.
+/// The flags of a part that is read, how many ACEs it has, and the text of its first principal.
 fn part<'a>(
     part: Option<Acl41<Array<'a, Ace<'a>, 0xffff_ffff>>>,
 ) -> Option<(u32, usize, &'a [u8])> {
     let part = part?;
     let count = part.entries.len();
-    let who = first_who(Some(part.entries))?;
+    let who = first_principal(Some(part.entries))?;
     Some((part.flags, count, who))
 }
 
-/// The numbers among the attributes seen: type, size, rdattr_error and mode.
+/// The numbers among the attributes that are read: type, size, rdattr_error and mode.
 fn numbers_of(seen: &SeenAttributes<'_>) -> [Option<u64>; 4] {
     [
         seen.kind.map(u64::from),
@@ -58,13 +58,13 @@ fn is_part<'a>(found: Option<Acl41<Array<'a, Ace<'a>, 0xffff_ffff>>>, who: &[u8]
 
 fn are_lists(seen: SeenAttributes<'_>) -> [bool; 3] {
     [
-        first_who(seen.entries) == Some(b"OWNER@".as_slice()),
+        first_principal(seen.entries) == Some(b"OWNER@".as_slice()),
         is_part(seen.dacl, b"OWNER@"),
         is_part(seen.sacl, b"100"),
     ]
 }
 
-/// Whether the values of a file of two bytes are seen, behind the fault of its attributes.
+/// Whether the values of a file of two bytes are read, after the fault of its attributes.
 fn is_seen(bytes: &[u8]) -> bool {
     match seen(bytes) {
         Ok(seen) => {
@@ -85,7 +85,7 @@ fn nine_numbers() -> Bitmap {
     asked
 }
 
-/// Whether the nine values that a server returns of a file are seen.
+/// Whether the nine values that a server returns of a file are read.
 fn are_returned_seen(alloc: Global) -> bool {
     let book = Book::default(alloc);
     let mut facts = object::facts();
@@ -142,7 +142,7 @@ fn what_is_not_seen(rt: HostRuntime) {
     }
 }
 
-static SHOWN: &[u32] = &[
+static CLIENT_ATTRIBUTES: &[u32] = &[
     2,
     0,
     5,
@@ -169,12 +169,12 @@ static SHOWN: &[u32] = &[
     0,
 ];
 
-fn words_shown() -> &'static [u32] {
-    SHOWN
+fn client_words() -> &'static [u32] {
+    CLIENT_ATTRIBUTES
 }
 
 /// Whether a client's values are written as these words into a buffer of this room.
-fn is_shown(alloc: Global, room: usize, all: &ShownAttributes<'_>, want: &[u8]) -> (bool, bool) {
+fn is_printed(alloc: Global, room: usize, all: &ClientAttributes<'_>, want: &[u8]) -> (bool, bool) {
     match Writer::new(alloc, room) {
         Ok(mut writer) => {
             let is_taken = write_given(all, &mut writer).is_ok();
@@ -184,16 +184,16 @@ fn is_shown(alloc: Global, room: usize, all: &ShownAttributes<'_>, want: &[u8]) 
     }
 }
 
-fn is_shown_as(alloc: Global, all: &ShownAttributes<'_>, words: &[u32]) -> bool {
+fn is_written_as(alloc: Global, all: &ClientAttributes<'_>, words: &[u32]) -> bool {
     match given::bytes_of(alloc, words) {
-        Ok(want) => is_shown(alloc, 96, all, &want) == (true, true),
+        Ok(want) => is_printed(alloc, 96, all, &want) == (true, true),
         Err(_) => false,
     }
 }
 
-/// The values that a client writes. Each list has these entries, and the sacl none.
-fn values_of<'a>(aces: &'a [Ace<'a>]) -> ShownAttributes<'a> {
-    ShownAttributes {
+/// The values that a client writes. The ACL and the dacl have these ACEs, and the sacl none.
+fn values_of<'a>(aces: &'a [Ace<'a>]) -> ClientAttributes<'a> {
+    ClientAttributes {
         kind: Some(2),
         size: Some(5),
         error: Some(13),
@@ -206,15 +206,15 @@ fn values_of<'a>(aces: &'a [Ace<'a>]) -> ShownAttributes<'a> {
     }
 }
 
-fn see_shown(rt: &impl Abort, alloc: Global, all: &ShownAttributes<'_>) {
-    assert!(rt; is_shown_as(alloc, all, words_shown()));
-    assert!(rt; is_shown(alloc, 95, all, b"") == (false, true));
+fn see_client_attributes(rt: &impl Abort, alloc: Global, all: &ClientAttributes<'_>) {
+    assert!(rt; is_written_as(alloc, all, client_words()));
+    assert!(rt; is_printed(alloc, 95, all, b"") == (false, true));
     assert!(rt; given::is_written_as(alloc, 12, all.set(), &[2, 0x1812, 0x0c00_0032]));
 }
 
 /// A client writes values in the order of their numbers; with a byte less of room, nothing.
 #[test]
-fn what_is_shown(rt: HostRuntime) {
+fn what_is_written(rt: HostRuntime) {
     let Some(who) = Opaque::new(b"7") else {
         return assert!(rt; false);
     };
@@ -224,5 +224,5 @@ fn what_is_shown(rt: HostRuntime) {
         mask: 3,
         who,
     }];
-    see_shown(&rt, rt.alloc(), &values_of(&aces));
+    see_client_attributes(&rt, rt.alloc(), &values_of(&aces));
 }

@@ -165,7 +165,7 @@ fn see_refusals(rt: &impl Abort, alloc: Global, book: &Book) {
     }
 }
 
-/// The first fault over the whole set.
+/// The first fault over the complete set.
 #[test]
 fn what_is_refused(rt: HostRuntime) {
     let book = Book::default(rt.alloc());

@@ -1,4 +1,4 @@
-//! Sets of attributes, and what is set by attributes that are sent.
+//! Sets of attributes, and the values that sent attributes set.
 use crate::given::read;
 use acl_list::Kind;
 use nfs_types::{Attributes, Attrs, AttrsFault, Bitmap, Status, read_attrs};
@@ -40,7 +40,7 @@ pub fn refusal<A: Allocator + Copy>(
     }
 }
 
-/// The lengths of the list, the dacl and the sacl that are set.
+/// The lengths of the ACL (access control list), the dacl and the sacl that are set.
 pub fn lengths<A: Allocator>(attrs: &Attrs<A>) -> [Option<usize>; 3] {
     [
         attrs.list.as_ref().map(|list| list.len()),

@@ -6,7 +6,8 @@ use nfs_types::{Attrs, AttrsFault, Status};
 use std::alloc::{AllocError, Global};
 use who_book::Book;
 
-/// Size 5, the list `A:00:00000001:OWNER@` and `A:08:00000002:7`, mode 0o7777, owner 4294967295, group 0.
+/// Size 5, the ACL (access control list) `A:00:00000001:OWNER@` and `A:08:00000002:7`, mode 0o7777, owner 4294967295,
+/// group 0.
 static ALL: &[u32] = &[
     2,
     0x1010,
@@ -49,7 +50,7 @@ fn numbers_of(attrs: &Attrs) -> [Option<u64>; 4] {
     ]
 }
 
-/// The values that sent attributes set on an object: the numbers, and the lengths of the list, the dacl and the sacl.
+/// The values that sent attributes set on an object: the numbers, and the lengths of the ACL, the dacl and the sacl.
 type Set = ([Option<u64>; 4], [Option<usize>; 3]);
 
 fn set_of(attrs: &Attrs) -> Set {
@@ -118,13 +119,13 @@ fn words_of_parts() -> &'static [u32] {
     PARTS
 }
 
-/// Whether attributes of these words set the parts alone, and lists of these lengths.
+/// Whether attributes of these words set the parts alone, and ACLs of these lengths.
 fn are_parts(alloc: Global, kind: Kind, words: &[u32], lengths: [Option<usize>; 3]) -> bool {
     let found = set(alloc, kind, words);
     found == Ok(([None; 4], lengths))
 }
 
-/// Each part is set without the other's help, and no list with it.
+/// Each part is set without the other, and no ACL with it.
 #[test]
 fn parts_are_taken(rt: HostRuntime) {
     let words = words_of_parts();
@@ -134,14 +135,14 @@ fn parts_are_taken(rt: HostRuntime) {
     assert!(rt; are_parts(rt.alloc(), Kind::File, &empty, [None, Some(0), None]));
 }
 
-/// An INHERIT_ONLY AUDIT entry, in a dacl.
+/// An INHERIT_ONLY AUDIT ACE, in a dacl.
 static INHERITED: &[u32] = &[2, 0, 0x0400_0000, 28, 0, 1, 2, 8, 1, 1, 0x3700_0000];
 
 fn words_of_inherited() -> &'static [u32] {
     INHERITED
 }
 
-/// An entry of the other part is refused where it is set: an INHERIT_ONLY entry isn't set on a file.
+/// An ACE of the other part is refused if it is set: an INHERIT_ONLY ACE isn't set on a file.
 #[test]
 fn what_is_left_out_is_of_no_part(rt: HostRuntime) {
     let words = words_of_inherited();
@@ -157,7 +158,7 @@ fn add_entries(bytes: &mut Vec<u8>, count: u32) -> Result<(), AllocError> {
     given::add_words(bytes, &[0, 0, 1, 1, 0x7800_0000])
 }
 
-/// A dacl with these flags and so many entries `A:00:00000001:7`, and behind them one of nobody.
+/// A dacl with these flags and `count` ACEs `A:00:00000001:7`, and after them one of nobody.
 fn dacl_of(alloc: Global, flags: u32, count: u32) -> Result<Vec<u8>, AllocError> {
     let length = 28u32.saturating_add(count.saturating_mul(20));
     let all = count.saturating_add(1);
@@ -173,7 +174,7 @@ fn fault_of_dacl(alloc: Global, flags: u32, count: u32) -> Option<AttrsFault> {
     }
 }
 
-/// Flags are refused before the number of entries, and that before an entry.
+/// Flags are refused before the number of ACEs, and that before an ACE.
 #[test]
 fn parts_of_many_entries(rt: HostRuntime) {
     for (flags, count, status) in [

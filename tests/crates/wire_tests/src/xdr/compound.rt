@@ -33,7 +33,7 @@ fn channel(rt: HostRuntime) {
     assert!(rt; given::read(channel_bytes()) == (Ok(channel), 0));
 }
 
-/// A struct, with each room below what it takes: nothing is written.
+/// A struct, with each room below its length: nothing is written.
 #[test]
 fn channel_without_room(rt: HostRuntime) {
     for room in 0..32usize {
@@ -117,7 +117,7 @@ fn enumeration(rt: HostRuntime) {
     }
 }
 
-/// The arm of a union, and how many bytes are left. A name's length stands for its arm.
+/// The arm of a union, and how many bytes are left. A name's length represents its arm.
 fn arm_of(bytes: &[u8]) -> (Result<Option<usize>, XdrFault>, usize) {
     let (claim, left) = given::read::<Claim>(bytes);
     let arm = match claim {

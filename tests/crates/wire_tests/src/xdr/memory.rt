@@ -1,4 +1,4 @@
-//! Tests of writers whose buffer is refused.
+//! Tests of writers whose allocation fails.
 use linked_list_allocator::LocalHeap;
 use std::alloc::Global;
 use xdr_wire::Writer;
@@ -14,7 +14,8 @@ fn made(heap: &LocalHeap) -> (bool, bool) {
     }
 }
 
-/// Whether there is a writer over a heap of this size, and whether it is whole and nothing stays behind in the heap.
+/// Whether there is a writer over a heap of this size, and whether it is complete and no byte of the heap stays
+/// allocated.
 fn made_at(alloc: Global, size: usize) -> (bool, bool) {
     match LocalHeap::new(alloc, size) {
         Ok(heap) => {
@@ -25,7 +26,8 @@ fn made_at(alloc: Global, size: usize) -> (bool, bool) {
     }
 }
 
-/// A writer over every size of heap: the buffer is reserved whole or refused, and nothing stays behind.
+/// A writer over every size of heap: the buffer is reserved completely or its allocation fails, and no byte stays
+/// allocated.
 #[test]
 fn runs_out_of_memory(rt: HostRuntime) {
     let mut count = 0u32;

@@ -187,7 +187,7 @@ fn counts(rt: HostRuntime) {
     }
 }
 
-/// How many bytes a copy of a reader has, whether the reader is empty, and whether all bytes are left.
+/// How many bytes a copy of a reader has, whether the reader is empty, and whether no byte was read.
 fn looks_of(bytes: &[u8]) -> (usize, bool, bool) {
     let reader = Reader::new(bytes);
     (
@@ -230,8 +230,8 @@ fn cases_of_faults() -> &'static [Fault] {
     &FAULTS
 }
 
-/// Whether a fault is shown as this text.
-fn is_shown(alloc: Global, fault: XdrFault, text: &str) -> bool {
+/// Whether a fault is printed as this text.
+fn is_printed(alloc: Global, fault: XdrFault, text: &str) -> bool {
     given::is_text(format!(in alloc; "{fault}"), text)
 }
 
@@ -240,6 +240,6 @@ fn is_shown(alloc: Global, fault: XdrFault, text: &str) -> bool {
 fn faults(rt: HostRuntime) {
     for (fault, number, text) in cases_of_faults() {
         assert!(rt; *fault as u32 == *number, "number of {fault:?}");
-        assert!(rt; is_shown(rt.alloc(), *fault, text), "text of {fault:?}");
+        assert!(rt; is_printed(rt.alloc(), *fault, text), "text of {fault:?}");
     }
 }

@@ -74,12 +74,12 @@ fn listing_bytes() -> &'static [u8] {
     LISTING
 }
 
-/// Whether the listing is refused where it ends after this many bytes.
+/// Whether the listing is refused if it ends after `cut` bytes.
 fn is_refused_at(cut: usize) -> bool {
     two_entries(listing_bytes().get(..cut).unwrap_or(b"")).is_none()
 }
 
-/// A chain of two entries is read, and is refused where it is cut.
+/// A chain of two entries is read, and is refused if it is cut.
 #[test]
 fn chain(rt: HostRuntime) {
     assert!(rt; two_entries(listing_bytes()) == Some(((3, 1), (4, 2), true)));
@@ -88,7 +88,7 @@ fn chain(rt: HostRuntime) {
     }
 }
 
-/// Whether a chain that is read is written again in this room, or nothing of it where it is too small.
+/// Whether a chain that is read is written again in this room, or nothing of it if the room is too small.
 fn is_listing(alloc: Global, room: usize) -> bool {
     match given::read::<Listing>(listing_bytes()).0 {
         Ok(listing) => {

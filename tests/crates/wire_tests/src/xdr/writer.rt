@@ -58,7 +58,7 @@ fn file_is_written(rt: HostRuntime) {
     assert!(rt; !put_file(rt.alloc(), 47, file_bytes()).0);
 }
 
-/// The texts and the kind in the bytes of a file, and how many bytes are left.
+/// The texts and the type in the bytes of a file, and how many bytes are left.
 fn file_in(bytes: &[u8]) -> Option<([&[u8]; 4], u32, usize)> {
     let (read, left) = given::read::<(Text, (u32, (Text, (Text, Text))))>(bytes);
     match read {
@@ -90,7 +90,7 @@ fn put_rows(writer: &mut Writer<Global>) -> bool {
         && writer.put_opaque(b"a").is_ok()
 }
 
-/// Whether the items go into a buffer with just room for them, and are these bytes then.
+/// Whether the items fill a buffer exactly, and are these bytes then.
 fn put_items(alloc: Global, want: &[u8]) -> bool {
     match Writer::new(alloc, 52) {
         Ok(mut writer) => {
@@ -109,13 +109,14 @@ fn items_bytes() -> &'static [u8] {
     ITEMS
 }
 
-/// Each item, where there is just room for it.
+/// Each item, in a buffer with exactly its room.
 #[test]
 fn items(rt: HostRuntime) {
     assert!(rt; put_items(rt.alloc(), items_bytes()));
 }
 
-/// Whether an item of each kind that is longer than the room is refused, whether the writer is empty then, and its room.
+/// Whether an item of each type that is longer than the room is refused, whether the writer is empty then, and its
+/// room.
 fn refuse_items(writer: &mut Writer<Global>) -> ([bool; 4], bool, usize) {
     let refused = [
         writer.put_u64(1).is_err(),
@@ -126,7 +127,7 @@ fn refuse_items(writer: &mut Writer<Global>) -> ([bool; 4], bool, usize) {
     (refused, writer.is_empty(), writer.room())
 }
 
-/// What a writer of seven bytes makes of them.
+/// The outcome in a writer of seven bytes.
 fn refused_by_seven(alloc: Global) -> Option<([bool; 4], bool, usize)> {
     match Writer::new(alloc, 7) {
         Ok(mut writer) => Some(refuse_items(&mut writer)),
@@ -150,7 +151,7 @@ fn cut(writer: &mut Writer<Global>) -> (bool, usize) {
     (is_put & (writer.bytes() == b"\0".as_slice()), writer.room())
 }
 
-/// What a writer of seven bytes makes of it.
+/// The outcome in a writer of seven bytes.
 fn cut_in_seven(alloc: Global) -> Option<(bool, usize)> {
     match Writer::new(alloc, 7) {
         Ok(mut writer) => Some(cut(&mut writer)),
@@ -164,15 +165,15 @@ fn truncated(rt: HostRuntime) {
     assert!(rt; cut_in_seven(rt.alloc()) == Some((true, 6)));
 }
 
-/// Whether the refusal is shown as this text.
-fn is_full_shown(alloc: Global, text: &str) -> bool {
+/// Whether the refusal is printed as this text.
+fn is_full_printed(alloc: Global, text: &str) -> bool {
     match format!(in alloc; "{}", Full) {
-        Ok(shown) => shown.as_str() == text,
+        Ok(printed) => printed.as_str() == text,
         Err(_) => false,
     }
 }
 
 #[test]
 fn text_of_the_refusal(rt: HostRuntime) {
-    assert!(rt; is_full_shown(rt.alloc(), "there is less room than the item takes"));
+    assert!(rt; is_full_printed(rt.alloc(), "there is less room than the item takes"));
 }

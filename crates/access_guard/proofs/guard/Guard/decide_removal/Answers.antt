@@ -5,7 +5,7 @@ use Rattle.node_tree.specs.Judged.{judged_of}
 use Rattle.access_rows.specs.declared.demand.Demand.TheVariants.{Removal}
 use Rattle.access_guard.specs.Decisions.{removal}
 use Rattle.access_guard.specs.Lines.{lines, lines_of}
-use Rattle.access_guard.specs.Lists.{verdict_of, mention_of}
+use Rattle.access_guard.specs.Lists.{verdict_of, first_match_of}
 use Rattle.access_guard.specs.Log.{held}
 use Rattle.access_guard.specs.State.{State}
 use Rattle.access_guard.proofs.Lines.{removal_lines}
@@ -19,11 +19,11 @@ returns-clause-lines g c =
     let target = c.open-opened_target.ensures.list in
     let parent = c.open-opened_parent.ensures.list in
     removal_lines lists caller op c.args.parent c.args.target
-    c.mention_of-on_target.result c.mention_of-on_parent.result c.removal-decision.result c.is_granted-granted.result c.parent_mask.result
+    c.first_match_of-on_target.result c.first_match_of-on_parent.result c.removal-decision.result c.is_granted-granted.result c.parent_mask.result
     c.self.inside.trail c.watch.new.self c.watch-2.new.self c.deny.new.self
-    (c.mention_of-on_target.ensures places.delete refl ∙ ap (λ o. mention_of o caller places.delete) target)
-    (c.mention_of-on_parent.ensures places.delete_child refl ∙ ap (λ o. mention_of o caller places.delete_child) parent)
-    (c.removal-decision.ensures ∙ ap (λ o. removal c.args.parent c.args.target c.mention_of-on_target.result c.mention_of-on_parent.result (verdict_of o caller ADD_FILE)) parent)
+    (c.first_match_of-on_target.ensures places.delete refl ∙ ap (λ o. first_match_of o caller places.delete) target)
+    (c.first_match_of-on_parent.ensures places.delete_child refl ∙ ap (λ o. first_match_of o caller places.delete_child) parent)
+    (c.removal-decision.ensures ∙ ap (λ o. removal c.args.parent c.args.target c.first_match_of-on_target.result c.first_match_of-on_parent.result (verdict_of o caller ADD_FILE)) parent)
     c.is_granted-granted.ensures c.parent_mask.ensures
     (c.watch.ensures.lines ∙ ap (λ o. held (lines_of o caller op c.is_granted-granted.result c.args.target DELETE) c.self.inside.trail) target)
     (c.watch-2.ensures.lines ∙ ap (λ o. held (lines_of o caller op c.is_granted-granted.result c.args.parent c.parent_mask.result) c.watch.new.self) parent)

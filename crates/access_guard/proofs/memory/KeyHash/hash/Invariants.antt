@@ -3,7 +3,7 @@ use Rattle.std.specs.List.{fold}
 use Rattle.access_guard.proofs.Hashing.{fed}
 use Rattle.access_guard.proofs.memory.KeyHash.hash.Given as goal
 
--- the list, the user and its group are written, and the groups so far
+-- the stamp, the user and the group are hashed, and the groups before the index
 abbrev pub invariant-loop-group : goal.invariant-loop-group
 invariant-loop-group g l =
     let write = g.H.Hasher.write in

@@ -8,7 +8,7 @@ use Rattle.node_tree.specs.World.{name_after}
 use Rattle.node_tree.specs.Sound.{IsSound}
 use Rattle.compound_run.specs.Asking.{sight_of}
 use Rattle.compound_run.specs.Operations.Readdir.{entry_of, judged_above}
-use Rattle.compound_run.specs.Listed.{linked}
+use Rattle.compound_run.specs.internal.Listed.{linked}
 use Rattle.compound_run.specs.Views.{context_at}
 use Rattle.compound_run.proofs.Listing.{moved_entry, next_entry_judged}
 use Rattle.compound_run.proofs.readdir.ChildrenEntries.write_next.Goals as goal

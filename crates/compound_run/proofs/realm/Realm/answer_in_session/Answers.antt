@@ -1,6 +1,6 @@
 use Rattle.std.proofs.Common.{refl}
 use Rattle.nfs_ops.specs.Views.{sequence_args_value}
-use Rattle.session_slots.specs.Repeating.{Fails}
+use Rattle.session_slots.specs.Retrying.{Fails}
 use Rattle.std.specs.Prelude.{Some}
 use Rattle.compound_run.specs.Views.{state_of}
 use Rattle.compound_run.specs.Beginning.{Ends, Refuses, Acts, Follows}

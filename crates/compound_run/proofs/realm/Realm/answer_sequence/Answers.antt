@@ -3,12 +3,12 @@ use Rattle.nfs_ops.specs.Views.{sequence_args_value}
 use Rattle.nfs_ops.specs.Rows.{row}
 use Rattle.nfs_ops.specs.declared.OpKind.TheVariants as kinds
 use Rattle.session_slots.specs.Registry.{results_at}
-use Rattle.session_slots.specs.Repeating.{Fate, Repeats}
+use Rattle.session_slots.specs.Retrying.{Fate, Retries}
 use Rattle.session_slots.specs.Sequencing.{sequence_begin, sequence_begun}
 use Rattle.std.specs.Prelude.{Some}
 use Rattle.compound_run.specs.Views.{realm_of, state_of}
 use Rattle.compound_run.specs.InSession.{Reply, begin_in, fate_by, refused_alone, sequenced}
-use Rattle.compound_run.specs.Delaying.{RanByDelaying}
+use Rattle.compound_run.specs.internal.Delaying.{RanByDelaying}
 use Rattle.session_slots.specs.Keeping.{last_at, passes}
 use Rattle.compound_run.specs.Sequence.{asked_by}
 use Rattle.compound_run.specs.SessionViews.{call_of}
@@ -27,7 +27,7 @@ returns-in-New-clause-answers g c =
     c.requires.settled
     (c.in-New.ensures.answer ∙ λ i. sequence_begin e.clients (session i) (asked_by v call.compound.count call.args.record_len call.caller.now (bytes i)))
     (ap (λ r. record e { clients = r }) (c.in-New.ensures.begun ∙ λ i. sequence_begun e.clients (session i) (asked_by v call.compound.count call.args.record_len call.caller.now (bytes i))))
-    c.in-New.ensures.stands.8
+    c.in-New.ensures.has_slot.8
     c.answer_new-ended.ensures.answers
     (c.passes-passes.ensures ∙ ap (λ s. passes (last_at e.clients s c.args.args.now.slot) c.args.args.now.number) session) refl refl
 
@@ -40,13 +40,13 @@ returns-in-Repeat-clause-answers g c =
     let bytes = c.compared.ensures.bytes in
     let session = c.session_of-session.ensures in
     let b = begin_in (realm_of e) (call_of call) call.compound.count v c.args.operations.now in
-    let told = c.in-Repeat.ensures.answer ∙ λ i. sequence_begin e.clients (session i) (asked_by v call.compound.count call.args.record_len call.caller.now (bytes i)) in
+    let outcome = c.in-Repeat.ensures.answer ∙ λ i. sequence_begin e.clients (session i) (asked_by v call.compound.count call.args.record_len call.caller.now (bytes i)) in
     let kept = c.results.ensures.kept ∙ ap (λ r. results_at r c.session_of-session.result c.args.args.now.slot) c.in-Repeat.ensures.stays ∙ ap (λ s. results_at e.clients s c.args.args.now.slot) session in
-    answers_known (fate_by tag v e.clients b) (RanByDelaying call.refused b (sequenced (call_of call) tag call.compound.count v c.args.operations.now) (state_of e)) (state_of e) (state_of (record e { clients = c.begin.new.self })) c.results.result.now c.nothing.result c.args.out.now c.put_kept.new.out
-    (ap (fate_by tag v e.clients) (sym told) ∙ ap (λ bytes. let f : Fate Reply = Repeats (Some bytes) in f) (sym kept))
+    answers_known (fate_by tag v e.clients b) (RanByDelaying call.refused b (sequenced (call_of call) tag call.compound.count v c.args.operations.now) (state_of e)) (state_of e) (state_of (record e { clients = c.begin.new.self })) c.results.result.now c.nothing.result c.args.out.now c.put_cached.new.out
+    (ap (fate_by tag v e.clients) (sym outcome) ∙ ap (λ bytes. let f : Fate Reply = Retries (Some bytes) in f) (sym kept))
     (ap (λ r. state_of (record e { clients = r })) c.in-Repeat.ensures.stays)
     (is_nothing c.nothing.result c.nothing.ensures)
-    c.put_kept.ensures
+    c.put_cached.ensures
 
 pub returns-in-Refused-clause-answers : goal.returns-in-Refused-clause-answers
 returns-in-Refused-clause-answers g c =
@@ -57,9 +57,9 @@ returns-in-Refused-clause-answers g c =
     let bytes = c.compared.ensures.bytes in
     let b = begin_in (realm_of e) (call_of call) call.compound.count v c.args.operations.now in
     let session = c.session_of-session.ensures in
-    let told = c.in-Refused.ensures.answer ∙ λ i. sequence_begin e.clients (session i) (asked_by v call.compound.count call.args.record_len call.caller.now (bytes i)) in
+    let outcome = c.in-Refused.ensures.answer ∙ λ i. sequence_begin e.clients (session i) (asked_by v call.compound.count call.args.record_len call.caller.now (bytes i)) in
     answers_refused (fate_by tag v e.clients b) (RanByDelaying call.refused b (sequenced (call_of call) tag call.compound.count v c.args.operations.now) (state_of e)) (state_of e) (state_of (record e { clients = c.begin.new.self })) (refused_alone tag (row kinds.Sequence).number c.in-Refused.status) c.nothing-in-Refused.result c.args.out.now c.put_refused.new.out
-    (ap (fate_by tag v e.clients) (sym told))
+    (ap (fate_by tag v e.clients) (sym outcome))
     (ap (λ r. state_of (record e { clients = r })) c.in-Refused.ensures.stays)
     (is_nothing c.nothing-in-Refused.result c.nothing-in-Refused.ensures)
     c.put_refused.ensures

@@ -16,7 +16,7 @@ use Rattle.compound_run.specs.Questions.{all_granted, demand_lines}
 use Rattle.compound_run.specs.Meaning.{has_space}
 use Rattle.compound_run.specs.Operations.Create.{create, can_make, draft, draft_of, is_own, sent, size_fault, text_fault, type_fault, wanted}
 use Rattle.compound_run.specs.Views.{context_at, realm_of}
-use Rattle.compound_run.proofs.Behind.{behind_at}
+use Rattle.compound_run.proofs.AskedAfter.{asked_after}
 use Rattle.compound_run.proofs.realm.Realm.create.Goals as goal
 
 pub returns : goal.returns
@@ -37,7 +37,7 @@ returns g c =
     let granted : all_granted (judged_of c.args.self.now.tree.world) context.caller demands ≡ true = search rules in
     let free : is_some (child s c.in_ok-directory.directory (created_name v)) ≡ false = search rules in
     let own : is_own context.caller (wanted context v) ≡ true = search rules in
-    behind_at c.args.step.context.room c.args.step.context (λ x. create v x c.args.step.handles)
+    asked_after c.args.step.context.room c.args.step.context (λ x. create v x c.args.step.handles)
     (λ x. has_space (λ s. can_make (wanted x v) (draft v).kind s c.in_ok-directory.directory) ∷ []) c.args.self.now c.args.step.handles c.args.out.now lines c.grants_first.new.self _ _ _
     (rw granted (rw here (rw live (rw directory (rw type (rw named (rw text (rw sent_well (rw sizeless (rw free (rw own refl)))))))))))
     (rw granted (rw here (rw live (rw directory (rw type (rw named (rw text (rw sent_well (rw sizeless (rw free (rw own refl)))))))))))

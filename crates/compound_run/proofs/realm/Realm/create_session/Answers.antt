@@ -4,7 +4,7 @@ use Rattle.nfs_ops.specs.Operations.{Known}
 use Rattle.nfs_ops.specs.Views.{create_session_args_value}
 use Rattle.nfs_ops.specs.declared.OpKind.TheVariants as kinds
 use Rattle.compound_run.specs.CreateSession.{session_made}
-use Rattle.compound_run.specs.Sessions.{told_by}
+use Rattle.compound_run.specs.Sessions.{outcome_from}
 use Rattle.compound_run.specs.Views.{realm_of}
 use Rattle.compound_run.proofs.Acting.{refuses, gives}
 use Rattle.compound_run.proofs.realm.Realm.create_session.Goals as goal
@@ -18,7 +18,7 @@ returns-in_err-created-clause-gives g c =
     (record {
       made = c.make_session.result;
       creates = c.make_session.ensures.creates;
-      told = sym (ap (told_by session_made) is);
+      outcome_is = sym (ap (outcome_from session_made) is);
       others = λ i. record (realm_of (c.make_session.ensures.others i)) { opens = c.make_session.ensures.opens i };
     })
 
@@ -30,7 +30,7 @@ returns-clause-gives g c =
     (record {
       made = c.make_session.result;
       creates = c.make_session.ensures.creates;
-      told = sym (ap (told_by session_made) is);
+      outcome_is = sym (ap (outcome_from session_made) is);
       others = λ i. record (realm_of (c.make_session.ensures.others i)) { opens = c.make_session.ensures.opens i };
     })
     c.put_created.ensures.written c.put_created.ensures.within

@@ -9,4 +9,4 @@ pub returns-in-Some-clause-opens : goal.returns-in-Some-clause-opens
 returns-in-Some-clause-opens g c =
     let items = c.args.self.now.opens.items in
     ap opens_view c.keep_others_of.ensures ∙ kept_in_view (λ o. not (o.client == c.in-Some.client)) items
-    ∙ ap (λ gone. opens_without gone (opens_view items)) (sym c.in-Some.is)
+    ∙ ap (λ removed. opens_without removed (opens_view items)) (sym c.in-Some.is)

@@ -31,7 +31,7 @@ loop-demand-preserved g c =
     let passed : is_granted (decision (judged_of now.world) (member now.book c.args.caller.now) c.in-Some.demand) ≡ true = search rules in
     let granted : is_granted (decision (judged_of now.world) who c.in-Some.demand) ≡ true =
     subst (λ (b : Content). is_granted (decision (judged_of now.world) (member b c.args.caller.now) c.in-Some.demand) ≡ true) book passed in
-    let told : c.decide.new.self ≡ record now { log = held (lines (judged_of now.world) who c.args.op c.in-Some.demand) now.log } =
+    let outcome : c.decide.new.self ≡ record now { log = held (lines (judged_of now.world) who c.args.op c.in-Some.demand) now.log } =
     c.decide.ensures.state ∙ ap (λ (b : Content). record now { log = held (lines (judged_of now.world) (member b c.args.caller.now) c.args.op c.in-Some.demand) now.log }) book in
     asked_next who c.args.op c.args.demands.now c.args.self.now c.loop-demand.self i c.in-Some.demand c.decide.new.self
-    c.loop-demand.invariant is granted told (c.decide.ensures.few (search rules))
+    c.loop-demand.invariant is granted outcome (c.decide.ensures.few (search rules))

@@ -18,7 +18,7 @@ use Rattle.compound_run.specs.Questions.{demand_lines}
 use Rattle.compound_run.specs.Meaning.{number_in, there}
 use Rattle.compound_run.specs.Operations.Link.{link, is_nameable}
 use Rattle.compound_run.specs.Views.{realm_of}
-use Rattle.compound_run.proofs.Behind.{behind_at}
+use Rattle.compound_run.proofs.AskedAfter.{asked_after}
 use Rattle.compound_run.proofs.realm.Realm.link.Goals as goal
 
 no_directory : (o : Option Kind) → o ≢ Some Directory → option_map_or is_directory o false ≡ false
@@ -41,7 +41,7 @@ returns g c =
     let there_is : there c.args.step.handles ≡ linked = ap number_in saved in
     let may_there = subst (λ (n : ℕ). nat_lt (link_count c.args.self.now.tree.world.names n) MAX_LINKS ≡ true) (sym there_is) may in
     let plain_there = subst (λ (n : ℕ). option_map_or is_directory (kind_of c.args.self.now.tree.world n) false ≡ false) (sym there_is) plain in
-    behind_at c.args.step.context.room c.args.step.context (λ x. link c.args.args.now.name.bytes.now x c.args.step.handles)
+    asked_after c.args.step.context.room c.args.step.context (λ x. link c.args.args.now.name.bytes.now x c.args.step.handles)
     (λ x. is_nameable c.in_ok-directory.directory ∷ []) c.args.self.now c.args.step.handles c.args.out.now lines c.grants_first.new.self _ _ _
     (search (rules, may_there, plain_there)) (search (rules, may_there, plain_there)) (search rules) c.name_linked.ensures
 

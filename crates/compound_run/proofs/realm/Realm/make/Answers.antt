@@ -9,7 +9,7 @@ use Rattle.compound_run.specs.Operations.Create.{list_at}
 use Rattle.compound_run.specs.Lists.{new_fits}
 use Rattle.compound_run.specs.Runs.{waits}
 use Rattle.compound_run.specs.declared.filehandles.FileHandles.{FileHandles}
-use Rattle.compound_run.specs.Views.{GivesSo, context_at, realm_of, draft_view, wanted_view, stage, sense}
+use Rattle.compound_run.specs.Views.{OperationGives, context_at, realm_of, draft_view, wanted_view, stage, sense}
 use Rattle.compound_run.proofs.Creating.{not_added, world_created}
 use Rattle.compound_run.proofs.Opening.{left_is}
 use Rattle.compound_run.proofs.realm.Realm.make.Goals as goal
@@ -28,7 +28,7 @@ returns-in_err-number g c =
     let left = left_is (has_left (sight_of old).next_tick) _ c.in_ok-at.at (sym c.tick.ensures.value ∙ ticks) in
     let bounds : new_fits (specs.wanted context v) (specs.draft v).kind (list_at old.tree.world d) ≡ true =
     (λ i. new_fits (c.requires.wanted i) (c.requires.draft i).kind (list_at old.tree.world d)) ∙ c.in_ok-new.ensures.fits in
-    subst (λ (r : Result FileHandles Status). GivesSo (sense true (specs.making v d context h) waits) c.args.step.context.room h (stage old c.args.out.now) r (stage c.add.new.self c.args.out.now)) (sym answer)
+    subst (λ (r : Result FileHandles Status). OperationGives (sense true (specs.making v d context h) waits) c.args.step.context.room h (stage old c.args.out.now) r (stage c.add.new.self c.args.out.now)) (sym answer)
     (not_added c.args.step.context.room context h v old c.add.new.self c.args.out.now d left bounds status c.add.result is c.add.ensures.full c.add.ensures.space c.in_err-number.ensures.err)
 
 pub returns : goal.returns

@@ -12,7 +12,7 @@ use Rattle.compound_run.specs.Rows.{first_facts, opening_facts}
 use Rattle.compound_run.specs.Questions.{demand_lines}
 use Rattle.compound_run.specs.Operations.Open.{open_file, last_questions, found, wanted}
 use Rattle.compound_run.specs.Views.{context_at, realm_of}
-use Rattle.compound_run.proofs.Behind.{behind_at}
+use Rattle.compound_run.proofs.AskedAfter.{asked_after}
 use Rattle.compound_run.proofs.Demanding.{held_together}
 use Rattle.compound_run.proofs.realm.Realm.open.Goals as goal
 
@@ -25,5 +25,5 @@ returns g c =
     let v = open_args_value c.args.args.now in
     let first = demand_lines lists (member c.args.self.now.tree.book c.args.step.context.caller.now) 18 (first_demands (Known kinds.Open v) (first_facts s h)) in
     let second = demand_lines lists (member c.args.self.now.tree.book c.args.step.context.caller.now) 18 (second_demands (Known kinds.Open v) (opening_facts s h (found v h s) (wanted context v).size)) in
-    behind_at c.args.step.context.room c.args.step.context (λ x. open_file v x h) (λ x. last_questions v x h) c.args.self.now h c.args.out.now (first ++ second) c.grants_opening.new.self _ _ _
+    asked_after c.args.step.context.room c.args.step.context (λ x. open_file v x h) (λ x. last_questions v x h) c.args.self.now h c.args.out.now (first ++ second) c.grants_opening.new.self _ _ _
     (search rules) (search (rules, append_assoc)) (search (rules, held_together)) c.open_at.ensures

@@ -24,8 +24,8 @@ use Rattle.compound_run.specs.Runs.{waits}
 use Rattle.compound_run.specs.Operations.Setattr.{size_fits}
 use Rattle.compound_run.specs.Sight.{whole}
 use Rattle.compound_run.specs.declared.filehandles.FileHandles.{FileHandles}
-use Rattle.compound_run.specs.Views.{GivesSo, context_at, opens_view, realm_of, settings_in, settings_of, wanted_view, stage, sense}
-use Rattle.compound_run.proofs.Opening.{refused, given, fails_by, wanting, there_is, left_is, some_is, change_made, space_new, no_space_new, no_open_more, unfit, file_made, realm_placed, placed_stateid_so}
+use Rattle.compound_run.specs.Views.{OperationGives, context_at, opens_view, realm_of, settings_in, settings_of, wanted_view, stage, sense}
+use Rattle.compound_run.proofs.Opening.{refused, given, fails_by, wanting, there_is, left_is, some_is, change_made, space_new, no_space_new, no_open_more, unfit, file_made, realm_placed, placed_stateid_is}
 use Rattle.compound_run.proofs.Writing.{written_as}
 use Rattle.compound_run.proofs.realm.Realm.open_new.Goals as goal
 
@@ -46,7 +46,7 @@ returns-in_err-place g c =
     let fits : size_fits c.args.wanted.size ≡ true = search rules in
     let file = has_file_space context v d None s in
     let more = has_open_space (joined context v None s.opens) s in
-    subst (λ (r : Result FileHandles Status). GivesSo (sense true (opening v context h) waits) c.args.step.context.room h (stage c.args.self.now c.args.out.now) r (stage c.place.new.self c.args.out.now)) (sym answer)
+    subst (λ (r : Result FileHandles Status). OperationGives (sense true (opening v context h) waits) c.args.step.context.room h (stage c.args.self.now c.args.out.now) r (stage c.place.new.self c.args.out.now)) (sym answer)
     (refused c.args.step.context.room v context h c.args.self.now c.place.new.self c.args.out.now status realm
     (ap (λ e. e.tree.log) c.place.ensures.others) (ap settings_of c.place.ensures.others)
     (λ other. fails_by v context h s None found true true (file && more) (ap (is_own context.caller) c.requires.wanted ∙ own) (ap (λ w. size_fits w.size) c.requires.wanted ∙ fits)
@@ -75,7 +75,7 @@ returns-in_err-new g c =
     let bounds = new_fits (specs.wanted context v) File (list_at w d) in
     let same : new_fits (wanted_view c.args.wanted) File (list_at c.place.new.self.tree.world d) ≡ bounds = λ i. new_fits (sym c.requires.wanted i) File (list_at (worlds i) d) in
     let none = unfit (new_fits (wanted_view c.args.wanted) File (list_at c.place.new.self.tree.world d)) status c.new_file.result is c.new_file.ensures.fits in
-    subst (λ (r : Result FileHandles Status). GivesSo (sense true (opening v context h) waits) c.args.step.context.room h (stage c.args.self.now c.args.out.now) r (stage c.place.new.self c.args.out.now)) (sym answer)
+    subst (λ (r : Result FileHandles Status). OperationGives (sense true (opening v context h) waits) c.args.step.context.room h (stage c.args.self.now c.args.out.now) r (stage c.place.new.self c.args.out.now)) (sym answer)
     (refused c.args.step.context.room v context h c.args.self.now c.place.new.self c.args.out.now status realm
     (ap (λ e. e.tree.log) c.place.ensures.others) (ap settings_of c.place.ensures.others)
     (λ other. fails_by v context h s None found true true false (ap (is_own context.caller) c.requires.wanted ∙ own) (ap (λ w. size_fits w.size) c.requires.wanted ∙ fits)
@@ -106,7 +106,7 @@ returns-in_err-file g c =
     let bounded : new_fits (specs.wanted context v) File (list_at c.args.self.now.tree.world d) ≡ true = (λ i. new_fits (c.requires.wanted i) File (list_at (sym worlds i) d)) ∙ c.in_ok-new.ensures.fits in
     let can = can_add s d in
     let cans = ap (λ r. can_add (whole r) d) same in
-    subst (λ (r : Result FileHandles Status). GivesSo (sense true (opening v context h) waits) c.args.step.context.room h (stage c.args.self.now c.args.out.now) r (stage c.add.new.self c.args.out.now)) (sym answer)
+    subst (λ (r : Result FileHandles Status). OperationGives (sense true (opening v context h) waits) c.args.step.context.room h (stage c.args.self.now c.args.out.now) r (stage c.add.new.self c.args.out.now)) (sym answer)
     (refused c.args.step.context.room v context h c.args.self.now c.add.new.self c.args.out.now status realm
     (ap (λ e. e.tree.log) c.in_err-file.ensures.err ∙ ap (λ e. e.tree.log) c.place.ensures.others) (ap settings_of c.in_err-file.ensures.err ∙ ap settings_of c.place.ensures.others)
     (λ other. fails_by v context h s None found true true can (ap (is_own context.caller) c.requires.wanted ∙ own) (ap (λ w. size_fits w.size) c.requires.wanted ∙ fits)
@@ -138,7 +138,7 @@ returns g c =
     let cans = ap (λ r. can_add (whole r) d) same in
     let can = there_is (can_add s d) file c.add.result is (λ full. c.add.ensures.full (cans ∙ full)) in
     let place = c.in_ok-place.place in
-    let stands = c.in_ok-place.ensures.place in
+    let has_slot = c.in_ok-place.ensures.place in
     let when : c.in_ok-at.at ≡ at context w = some_is (has_left s.next_tick) (at context w) c.in_ok-at.at (sym c.tick.ensures.value ∙ ticks) in
     let made_file : with_new w d c.args.name.now (made c.in_ok-new.new w.next_stamp c.in_ok-at.at) c.in_ok-at.at ≡ file_in context v d None w =
     file_made context v c.in_ok-new.new (wanted_view c.args.wanted) w d c.args.name.now c.in_ok-at.at c.requires.claim c.requires.wanted when
@@ -147,16 +147,16 @@ returns g c =
     let added : realm_of c.add.new.self ≡ record (realm_of c.args.self.now) { world = file_in context v d None w } =
     ap realm_of c.in_ok-file.ensures.ok ∙ ap (λ (r : Realm). record r { world = with_new r.world d c.args.name.now (made c.in_ok-new.new r.world.next_stamp c.in_ok-at.at) c.in_ok-at.at }) same ∙ ap (λ x. record (realm_of c.args.self.now) { world = x }) made_file in
     let put : realm_of c.put_open-stateid.new.self ≡ record (with_open context v file (joined context v None s.opens) (realm_of c.args.self.now)) { world = file_in context v d None w } =
-    realm_placed context v file (joined context v None s.opens) place (realm_of c.args.self.now) (realm_of c.add.new.self) (realm_of c.put_open-stateid.new.self) (file_in context v d None w) stands c.put_open-stateid.ensures.realm added in
+    realm_placed context v file (joined context v None s.opens) place (realm_of c.args.self.now) (realm_of c.add.new.self) (realm_of c.put_open-stateid.new.self) (file_in context v d None w) has_slot c.put_open-stateid.ensures.realm added in
     let opened : realm_of c.put_open-stateid.new.self ≡ opened_on context v (here h) None (realm_of c.args.self.now) =
     put ∙ (λ i. record (with_open context v (number i) (joined context v None s.opens) (realm_of c.args.self.now)) { world = file_in context v (sym here_is i) None w }) in
-    let stateid = c.put_open-stateid.ensures.stateid ∙ ap (λ n. placed_stateid place n) (ap (λ r. r.next_open) added) ∙ placed_stateid_so context v file (joined context v None s.opens) place s.next_open stands in
-    let change : (let told : Value change_info = (inl tt, (c.args.directory.change, c.in_ok-at.at.tick)) in told) ≡ change_of (claim_of v) (here h) None s =
+    let stateid = c.put_open-stateid.ensures.stateid ∙ ap (λ n. placed_stateid place n) (ap (λ r. r.next_open) added) ∙ placed_stateid_is context v file (joined context v None s.opens) place s.next_open has_slot in
+    let change : (let outcome : Value change_info = (inl tt, (c.args.directory.change, c.in_ok-at.at.tick)) in outcome) ≡ change_of (claim_of v) (here h) None s =
     change_made (claim_of v) c.args.name.now (here h) s c.args.directory.change c.in_ok-at.at.tick c.requires.claim (sym c.requires.change ∙ ap (λ n. s.changes n) (sym here_is)) (ap (λ a. a.tick) when) in
-    let told = ap change_info_value c.changed-change.ensures ∙ change in
-    subst (λ (n : ℕ). GivesSo (sense true (opening v context h) waits) c.args.step.context.room h (stage c.args.self.now c.args.out.now) (Ok (record h { current = Some n })) (stage c.put_open-stateid.new.self c.put_result.new.out)) (sym number)
+    let outcome = ap change_info_value c.changed-change.ensures ∙ change in
+    subst (λ (n : ℕ). OperationGives (sense true (opening v context h) waits) c.args.step.context.room h (stage c.args.self.now c.args.out.now) (Ok (record h { current = Some n })) (stage c.put_open-stateid.new.self c.put_result.new.out)) (sym number)
     (given c.args.step.context.room v context h c.args.self.now c.put_open-stateid.new.self c.args.out.now None c.put_result.new.out found (ap (is_own context.caller) c.requires.wanted ∙ own) (ap (λ w. size_fits w.size) c.requires.wanted ∙ fits)
     (ap (λ x. has_space_for context v x None s) here_is ∙ space_new (has_left s.next_tick) (new_fits (specs.wanted context v) File (list_at w d)) (can_add s d) (has_open_space (joined context v None s.opens) s) left bounded more ∙ can)
     opened (ap (λ x. x.log) c.put_open-stateid.ensures.tree ∙ ap (λ e. e.tree.log) c.in_ok-file.ensures.ok ∙ ap (λ e. e.tree.log) c.place.ensures.others)
     (ap settings_in c.put_open-stateid.ensures.tree ∙ ap settings_of c.in_ok-file.ensures.ok ∙ ap settings_of c.place.ensures.others)
-    (written_as _ _ _ _ c.put_result.ensures.written (λ i. Done kinds.Open (stateid i, (told i, (inl tt, (c.sent_set-set.ensures i, inl tt)))))) (search rules))
+    (written_as _ _ _ _ c.put_result.ensures.written (λ i. Done kinds.Open (stateid i, (outcome i, (inl tt, (c.sent_set-set.ensures i, inl tt)))))) (search rules))

@@ -8,9 +8,9 @@ use Rattle.node_tree.specs.World.{Name, kind_of}
 use Rattle.node_tree.specs.Sound.{IsNextName}
 use Rattle.node_tree.proofs.Listing.{next_name}
 use Rattle.compound_run.specs.Asking.{sight_of}
-use Rattle.compound_run.specs.Listed.{PutsEntry, written_entry}
+use Rattle.compound_run.specs.internal.Listed.{PutsEntry, written_entry}
 use Rattle.compound_run.specs.Views.{context_at}
-use Rattle.compound_run.proofs.Listing.{short_name, next_told}
+use Rattle.compound_run.proofs.Listing.{short_name, next_listed}
 use Rattle.compound_run.proofs.realm.Realm.put_child.Goals as goal
 
 pub unreachable-requires : goal.unreachable-requires
@@ -45,6 +45,6 @@ pub returns-clause-puts : goal.returns-clause-puts
 returns-clause-puts g c directory last n is by =
     let again : Some c.in-Some.name.now ≡ Some n = search (rules, c.name_by_cookie.ensures.again directory last n is by) in
     let same : c.in-Some.name.now ≡ n = cc in
-    next_told (context_at c.args.self.now c.args.context) (sight_of c.args.self.now) c.in-Some.name.now n c.child.result c.args.given.0 (bitmap_value c.args.given.1) (facts_value c.in-Some-facts_for.facts) _ _ _
-    same c.child.ensures c.in-Some-facts_for.ensures.tells
+    next_listed (context_at c.args.self.now c.args.context) (sight_of c.args.self.now) c.in-Some.name.now n c.child.result c.args.given.0 (bitmap_value c.args.given.1) (facts_value c.in-Some-facts_for.facts) _ _ _
+    same c.child.ensures c.in-Some-facts_for.ensures.facts_are
     (subst (λ (b : Content). PutsEntry (written_entry b (facts_value c.in-Some-facts_for.facts) c.in-Some.name.now (bitmap_value c.args.given.1)) c.args.out.now c.put_entry.new.out c.put_entry.result) c.book.ensures c.put_entry.ensures)

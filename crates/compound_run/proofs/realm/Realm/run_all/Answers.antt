@@ -19,7 +19,7 @@ loop-position-init g c = record {
 pub run_one-requires-clause-room : goal.run_one-requires-clause-room
 run_one-requires-clause-room g c =
     let running = c.loop-position.invariant.running in
-    let long = ap length running.written.behind ∙ length-append c.args.results.now.bytes (results_bytes running.results) in
+    let long = ap length running.written.appended ∙ length-append c.args.results.now.bytes (results_bytes running.results) in
     omega (arith, c.capacity.ensures, c.room.ensures, c.len.ensures, c.requires.room, running.fits, long, running.written.less_room)
 
 pub returns-in-Err-clause-gives : goal.returns-in-Err-clause-gives

@@ -4,7 +4,7 @@ use Rattle.compound_run.specs.Views.{context_at, settings_of}
 use Rattle.compound_run.proofs.Running.{Running}
 use Rattle.compound_run.proofs.realm.Realm.run_all.Given as goal
 
--- the run of the operations that are left goes on from the results so far, and no line is held
+-- the remaining operations continue the run from the results so far, and no line is held
 abbrev pub invariant-loop-position : goal.invariant-loop-position
 invariant-loop-position g l = record {
   running :

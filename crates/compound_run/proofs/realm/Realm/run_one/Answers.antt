@@ -18,7 +18,7 @@ returns-in-Ok-clause-gives g c =
       written = gives.written;
       fits = gives.within;
       within = omega (arith, gives.within);
-      tells = tt;
+      answers = tt;
     }
 
 -- the operation of this number is refused
@@ -36,5 +36,5 @@ returns-in-Err-clause-gives g c =
           (subst (λ (b : Buffer). Appends b c.put_refusal.new.out (result_bytes (refusal_at c.number.result c.in-Err.status))) gives.unwritten c.put_refusal.ensures.written);
       fits = tt;
       within = omega (arith, long, c.put_refusal.ensures.within);
-      tells = search rules;
+      answers = search rules;
     }

@@ -8,7 +8,7 @@ use Rattle.nfs_types.specs.declared.bitmap.Bitmap.{Bitmap}
 use Rattle.nfs_ops.specs.Forms.{entry}
 use Rattle.nfs_ops.specs.Listing.{Judged}
 use Rattle.form_samples.specs.declared.children.Child.{Child}
-use Rattle.form_samples.specs.Children.{entry_of, judged_as}
+use Rattle.form_samples.specs.internal.Children.{entry_of, judged_as}
 use Rattle.form_samples.proofs.children.ChildrenEntries.write_next.Goals as goal
 
 abbrev judged_with : Content → Facts → Child → Result Bitmap ℕ → Judged ℕ

@@ -17,5 +17,5 @@ returns-in-Call-clause-puts g c =
     (subst (λ (o : Option ℕ). Puts c.args.writer.now c.write.new.writer (spelling entry (inl (moment_value call.now, (call.bytes.bytes.now, (o, call.checksum))))) c.write.result)
     (same call.delayed) c.write.ensures.puts)
 
-pub returns-in-LetGo-clause-puts : goal.returns-in-LetGo-clause-puts
-returns-in-LetGo-clause-puts g c = rw c.in-LetGo.is c.write-in-LetGo.ensures.puts
+pub returns-in-ClientExpired-clause-puts : goal.returns-in-ClientExpired-clause-puts
+returns-in-ClientExpired-clause-puts g c = rw c.in-ClientExpired.is c.write-in-ClientExpired.ensures.puts

@@ -2,7 +2,7 @@ use Rattle.std.proofs.Common.{Err, sym, subst}
 use Rattle.nfs_client.specs.Running.{Runs}
 use Rattle.nfs_client.specs.WordViews.{command_line}
 use Rattle.nfs_client.specs.declared.fault.ToolFault.{ToolFault}
-use Rattle.nfs_client.proofs.Telling.{none_runs}
+use Rattle.nfs_client.proofs.Printing.{none_runs}
 use Rattle.nfs_client.proofs.client.Client.answer.Goals as goal
 
 pub returns-in-Err-clause-gives : goal.returns-in-Err-clause-gives

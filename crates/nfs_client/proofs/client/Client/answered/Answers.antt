@@ -10,7 +10,7 @@ pub returns-in-ChMod : goal.returns-in-ChMod
 returns-in-ChMod g c = rw c.in-ChMod.is (c.chmod.result, c.chmod.ensures.gives, c.done-in-ChMod.ensures)
 
 pub returns-in-GetAcl : goal.returns-in-GetAcl
-returns-in-GetAcl g c = rw c.in-GetAcl.is (c.get_list.result, c.get_list.ensures.gives, c.lines-in-GetAcl.ensures)
+returns-in-GetAcl g c = rw c.in-GetAcl.is (c.get_acl.result, c.get_acl.ensures.gives, c.lines-in-GetAcl.ensures)
 
 pub returns-in-SetAcl : goal.returns-in-SetAcl
 returns-in-SetAcl g c = rw c.in-SetAcl.is (c.set_list.result, c.set_list.ensures.gives, c.done-in-SetAcl.ensures)

@@ -12,4 +12,4 @@ returns-in-Err g c =
 pub returns : goal.returns
 returns g c =
     let ops = approach c.args.self.now (route_from c.args.start.now c.args.names.now) in
-    concluded g.S.Transport.talks handle_in ops c.args.self.now c.exchange.new.self c.in-Ok.reply (c.in-Ok.ensures ops c.in_ok-request.ensures.asks) (λ v. v.items) true c.reached-told.result c.conclude.new.self c.reached-told.ensures c.conclude.ensures
+    concluded g.S.Transport.talks handle_in ops c.args.self.now c.exchange.new.self c.in-Ok.reply (c.in-Ok.ensures ops c.in_ok-request.ensures.asks) (λ v. v.items) true c.reached-outcome.result c.conclude.new.self c.reached-outcome.ensures c.conclude.ensures

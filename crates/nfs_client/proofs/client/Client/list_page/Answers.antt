@@ -16,5 +16,5 @@ pub returns : goal.returns
 returns g c =
     let route = route_value c.args.route.now in
     let set = bitmap_value c.args.asked in
-    page_listed g.S.Transport.talks route set c.args.listing.now c.put_page-told.new.listing c.args.self.now c.exchange.new.self c.conclude.new.self c.in-Ok.reply c.put_page-told.result
-    (c.in-Ok.ensures (list_from route set c.args.self.now c.args.listing.now.cookie) c.in_ok-request.ensures.asks) c.put_page-told.ensures c.conclude.ensures
+    page_listed g.S.Transport.talks route set c.args.listing.now c.put_page-outcome.new.listing c.args.self.now c.exchange.new.self c.conclude.new.self c.in-Ok.reply c.put_page-outcome.result
+    (c.in-Ok.ensures (list_from route set c.args.self.now c.args.listing.now.cookie) c.in_ok-request.ensures.asks) c.put_page-outcome.ensures c.conclude.ensures

@@ -5,7 +5,7 @@ use Rattle.nfs_client.proofs.client.Client.make_session.Goals as goal
 
 pub returns : goal.returns
 returns g c =
-    concluded _ session_in _ c.args.self.now c.exchange.new.self c.in-Ok.reply (c.in-Ok.ensures _ c.in_ok-request.ensures.asks) session_value false c.session-told.result c.conclude.new.self c.session-told.ensures c.conclude.ensures
+    concluded _ session_in _ c.args.self.now c.exchange.new.self c.in-Ok.reply (c.in-Ok.ensures _ c.in_ok-request.ensures.asks) session_value false c.session-outcome.result c.conclude.new.self c.session-outcome.ensures c.conclude.ensures
 
 pub returns-in-Err : goal.returns-in-Err
 returns-in-Err g c =

@@ -5,7 +5,7 @@ use Rattle.nfs_client.proofs.client.Client.register.Goals as goal
 
 pub returns : goal.returns
 returns g c =
-    concluded _ record_in _ c.args.self.now c.exchange.new.self c.in-Ok.reply (c.in-Ok.ensures _ c.in_ok-request.ensures.asks) record_value false c.registration-told.result c.conclude.new.self c.registration-told.ensures c.conclude.ensures
+    concluded _ record_in _ c.args.self.now c.exchange.new.self c.in-Ok.reply (c.in-Ok.ensures _ c.in_ok-request.ensures.asks) record_value false c.registration-outcome.result c.conclude.new.self c.registration-outcome.ensures c.conclude.ensures
 
 pub returns-in-Err : goal.returns-in-Err
 returns-in-Err g c =

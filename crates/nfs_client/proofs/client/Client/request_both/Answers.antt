@@ -10,8 +10,8 @@ use Rattle.nfs_client.proofs.client.Client.request_both.Goals as goal
 
 pub returns-clause-asks : goal.returns-clause-asks
 returns-clause-asks g c =
-    let front = sequence c.args.self.now ∷ walk (route_value c.args.first.now) in
+    let prefix = sequence c.args.self.now ∷ walk (route_value c.args.first.now) in
     let second = walk (route_value c.args.second.now) in
     let op = op_view c.args.op in
-    subst (λ (ops : List Operation). Asks c.put-2.new.self (ops ++ op ∷ [])) (append_assoc front (save ∷ []) second)
+    subst (λ (ops : List Operation). Asks c.put-2.new.self (ops ++ op ∷ [])) (append_assoc prefix (save ∷ []) second)
     (c.in_ok-put-2.ensures.asks _ (c.in_ok-walk-2.ensures.asks _ (c.in_ok-put.ensures.asks _ (c.in_ok-walk.ensures.asks _ c.in_ok-request.ensures))))

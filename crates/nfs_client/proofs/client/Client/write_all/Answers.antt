@@ -5,7 +5,7 @@ use Rattle.nfs_client.specs.PutViews.{open_value}
 use Rattle.nfs_client.proofs.Putting.{wrote_more, wrote_within, write_fails}
 use Rattle.nfs_client.proofs.client.Client.write_all.Goals as goal
 
--- the bytes that are left, as they are lent
+-- the remaining bytes, as borrowed
 left : (text : List ℕ) (done : ℕ) → length (drop done text) ≤ length text - done
 left text done = omega (arith, length-drop done text)
 

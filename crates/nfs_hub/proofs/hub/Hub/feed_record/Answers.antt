@@ -1,7 +1,7 @@
 use Rattle.std.proofs.Common.{ℕ, length, take, sym, refl, subst}
 use Rattle.nfs_hub.specs.Machine.{Piece, PieceOn}
 use Rattle.nfs_hub.specs.Hub.{Goes}
-use Rattle.nfs_hub.proofs.Hubs.{on_connection, leads_on, apart}
+use Rattle.nfs_hub.proofs.Hubs.{on_connection, extends_history, apart}
 use Rattle.nfs_hub.proofs.hub.Hub.feed_record.Goals as goal
 
 pub returns-in-Ok-clause-goes : goal.returns-in-Ok-clause-goes
@@ -12,10 +12,10 @@ returns-in-Ok-clause-goes g c =
     let wrote = (c.get_mut.follows.holds c.feed_record.new.self).3 (rw (← there) refl) in
     let bytes = take c.in-Ok.n c.args.piece.now in
     subst (λ (n : ℕ). Goes (Piece n bytes c.args.now) c.args.self.now (record c.args.self.now { service = c.feed_record.new.service; connections = connections })) c.conn.view_is
-    (on_connection c.args.self.now id connections (λ k ne. wrote.2 k (apart id k (λ e. ne (sym e)))) (Piece id bytes c.args.now) (PieceOn bytes c.args.now) (λ old new s. s) c.feed_record.new.service c.in-Some.connection.now c.feed_record.new.self (sym there) wrote.1 c.in-Ok.ensures.leads)
+    (on_connection c.args.self.now id connections (λ k ne. wrote.2 k (apart id k (λ e. ne (sym e)))) (Piece id bytes c.args.now) (PieceOn bytes c.args.now) (λ old new s. s) c.feed_record.new.service c.in-Some.connection.now c.feed_record.new.self (sym there) wrote.1 c.in-Ok.ensures.extends)
 
-pub returns-in-Ok-clause-leads : goal.returns-in-Ok-clause-leads
-returns-in-Ok-clause-leads g c = leads_on (Piece c.args.conn (take c.in-Ok.n c.args.piece.now) c.args.now) c.args.self.now _ (returns-in-Ok-clause-goes g c)
+pub returns-in-Ok-clause-extends : goal.returns-in-Ok-clause-extends
+returns-in-Ok-clause-extends g c = extends_history (Piece c.args.conn (take c.in-Ok.n c.args.piece.now) c.args.now) c.args.self.now _ (returns-in-Ok-clause-goes g c)
 
 pub returns-in-Err-Broken-clause-goes : goal.returns-in-Err-Broken-clause-goes
 returns-in-Err-Broken-clause-goes g c =
@@ -25,10 +25,10 @@ returns-in-Err-Broken-clause-goes g c =
     let wrote = (c.get_mut.follows.holds c.feed_record.new.self).3 (rw (← there) refl) in
     let bytes = take (length c.args.piece.now) c.args.piece.now in
     subst (λ (n : ℕ). Goes (Piece n bytes c.args.now) c.args.self.now (record c.args.self.now { service = c.feed_record.new.service; connections = connections })) c.conn.view_is
-    (on_connection c.args.self.now id connections (λ k ne. wrote.2 k (apart id k (λ e. ne (sym e)))) (Piece id bytes c.args.now) (PieceOn bytes c.args.now) (λ old new s. s) c.feed_record.new.service c.in-Some.connection.now c.feed_record.new.self (sym there) wrote.1 c.in-Err-Broken.ensures.leads)
+    (on_connection c.args.self.now id connections (λ k ne. wrote.2 k (apart id k (λ e. ne (sym e)))) (Piece id bytes c.args.now) (PieceOn bytes c.args.now) (λ old new s. s) c.feed_record.new.service c.in-Some.connection.now c.feed_record.new.self (sym there) wrote.1 c.in-Err-Broken.ensures.extends)
 
-pub returns-in-Err-Broken-clause-leads : goal.returns-in-Err-Broken-clause-leads
-returns-in-Err-Broken-clause-leads g c = leads_on (Piece c.args.conn (take (length c.args.piece.now) c.args.piece.now) c.args.now) c.args.self.now _ (returns-in-Err-Broken-clause-goes g c)
+pub returns-in-Err-Broken-clause-extends : goal.returns-in-Err-Broken-clause-extends
+returns-in-Err-Broken-clause-extends g c = extends_history (Piece c.args.conn (take (length c.args.piece.now) c.args.piece.now) c.args.now) c.args.self.now _ (returns-in-Err-Broken-clause-goes g c)
 
 pub returns-in-Err-Memory-clause-goes : goal.returns-in-Err-Memory-clause-goes
 returns-in-Err-Memory-clause-goes g c =
@@ -38,7 +38,7 @@ returns-in-Err-Memory-clause-goes g c =
     let wrote = (c.get_mut.follows.holds c.feed_record.new.self).3 (rw (← there) refl) in
     let bytes = take (length c.args.piece.now) c.args.piece.now in
     subst (λ (n : ℕ). Goes (Piece n bytes c.args.now) c.args.self.now (record c.args.self.now { service = c.feed_record.new.service; connections = connections })) c.conn.view_is
-    (on_connection c.args.self.now id connections (λ k ne. wrote.2 k (apart id k (λ e. ne (sym e)))) (Piece id bytes c.args.now) (PieceOn bytes c.args.now) (λ old new s. s) c.feed_record.new.service c.in-Some.connection.now c.feed_record.new.self (sym there) wrote.1 c.in-Err-Memory.ensures.leads)
+    (on_connection c.args.self.now id connections (λ k ne. wrote.2 k (apart id k (λ e. ne (sym e)))) (Piece id bytes c.args.now) (PieceOn bytes c.args.now) (λ old new s. s) c.feed_record.new.service c.in-Some.connection.now c.feed_record.new.self (sym there) wrote.1 c.in-Err-Memory.ensures.extends)
 
-pub returns-in-Err-Memory-clause-leads : goal.returns-in-Err-Memory-clause-leads
-returns-in-Err-Memory-clause-leads g c = leads_on (Piece c.args.conn (take (length c.args.piece.now) c.args.piece.now) c.args.now) c.args.self.now _ (returns-in-Err-Memory-clause-goes g c)
+pub returns-in-Err-Memory-clause-extends : goal.returns-in-Err-Memory-clause-extends
+returns-in-Err-Memory-clause-extends g c = extends_history (Piece c.args.conn (take (length c.args.piece.now) c.args.piece.now) c.args.now) c.args.self.now _ (returns-in-Err-Memory-clause-goes g c)

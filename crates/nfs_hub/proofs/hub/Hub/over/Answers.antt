@@ -6,6 +6,6 @@ use Rattle.nfs_hub.proofs.hub.Hub.over.Goals as goal
 pub returns : goal.returns
 returns g c = record {
   state = opening c.args.service;
-  leads = refl;
+  extends = refl;
   is = record { served = refl; next = refl; connections = λ id. search rules };
 }

@@ -3,11 +3,11 @@ use Rattle.std.specs.Prelude.{Result, Ok, Err, IfOk, IsOkUnless}
 use Rattle.node_tree.specs.World.{World}
 use Rattle.session_slots.specs.declared.restoring.RestoreFault.{RestoreFault}
 use Rattle.session_slots.specs.declared.restoring.RestoreFault.TheVariants.{Memory, Misfit}
-use Rattle.compound_run.specs.Known.{Known, opens_fit}
+use Rattle.compound_run.specs.ClientState.{ClientState, opens_fit}
 use Rattle.nfs_hub.specs.Answer as answers
 use Rattle.nfs_hub.proofs.server.Service.with_lasting_sessions.Goals as goal
 
--- a fault other than a misfit is want of memory
+-- a fault other than a misfit is a failed allocation
 wants_memory : {T : Type 0} (r : Result T RestoreFault) → (r ≡ Err Misfit → ⊥) → IsOkUnless r Memory
 wants_memory (Ok x) fits = tt
 wants_memory (Err Memory) fits = refl
@@ -15,7 +15,7 @@ wants_memory (Err Misfit) fits = absurd (fits refl)
 
 pub returns-clause-ok : goal.returns-clause-ok
 returns-clause-ok g c =
-    subst (λ (k : World × Known). IfOk c.restored.result (λ service. service ≡ answers.restored k.0 k.1 c.args.book))
+    subst (λ (k : World × ClientState). IfOk c.restored.result (λ service. service ≡ answers.restored k.0 k.1 c.args.book))
     (λ i. (c.in_ok-root.ensures i, c.nothing.ensures i)) c.restored.ensures.ok
 
 pub returns-clause-err : goal.returns-clause-err

@@ -6,8 +6,8 @@ use Rattle.clap.proofs.WalkLemmas.{first_value-rows}
 use Rattle.nfsc_options.specs.Simple.{nfslab}
 use Rattle.nfsc_options.proofs.lab.LabOptions.read.Goals as goal
 
-pub returns-clause-said : goal.returns-clause-said
-returns-clause-said g c =
+pub returns-clause-options_are : goal.returns-clause-options_are
+returns-clause-options_are g c =
     let words : List Text = map g.S.AsStr.text c.args.words.now in
     let f = found_of c.in_ok-matches.matches in
     let is : app_of c.in_ok-lab_command.field-0 ≡ nfslab = c.in_ok-lab_command.ensures in

@@ -7,7 +7,7 @@ use Rattle.node_tree.proofs.name_list.NameList.remove.Goals as goal
 
 pub returns-in_default : goal.returns-in_default
 returns-in_default g c = rw (← c.self.view_is) (ap values_of c.in_default.ensures.unchanged ∙ sym (none_but c.args.cookie _
-    (sym (at_cookie c.args.cookie _) ∙ ap (lookup (is_at (nat_cmp c.args.cookie))) (sym c.self.invariant.keyed_so) ∙ sym c.remove.ensures.value ∙ c.in_default.is)))
+    (sym (at_cookie c.args.cookie _) ∙ ap (lookup (is_at (nat_cmp c.args.cookie))) (sym c.self.invariant.keyed_names) ∙ sym c.remove.ensures.value ∙ c.in_default.is)))
 
 pub invariant_of-self-2 : goal.invariant_of-self-2
 invariant_of-self-2 g c = listed_but c.self.inside.by_cookie.entries c.remove.new.self.entries c.self.inside.by_directory c.self.inside.by_child c.take_both.new.by_directory c.take_both.new.by_child c.self.invariant c.args.cookie c.remove.ensures.entries

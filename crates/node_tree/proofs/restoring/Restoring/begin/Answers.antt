@@ -1,5 +1,4 @@
-use Rattle.std.proofs.Common.{sym}
-use Rattle.node_tree.proofs.Saying.{IsBegun-none, all_left}
+use Rattle.node_tree.proofs.Restorable.{IsBegun-none, all_left}
 use Rattle.node_tree.proofs.restoring.Restoring.begin.Goals as goal
 
 pub invariant_of-result : goal.invariant_of-result

@@ -1,6 +1,6 @@
 use Rattle.std.proofs.Common.{◌≡◌, true, sym, subst}
 use Rattle.node_tree.specs.Restored.{Begun, is_whole}
-use Rattle.node_tree.proofs.Saying.{IsSound-begun}
+use Rattle.node_tree.proofs.Restorable.{IsSound-begun}
 use Rattle.node_tree.proofs.restoring.Restoring.finish.Goals as goal
 
 pub of_sound-requires : goal.of_sound-requires

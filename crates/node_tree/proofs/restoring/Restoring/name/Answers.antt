@@ -1,7 +1,7 @@
-use Rattle.std.proofs.Common.{◌≡◌, ◌<◌, ◌≤◌, ◌^◌, ℕ, true, sym, subst, arith}
+use Rattle.std.proofs.Common.{◌≡◌, ◌<◌, ◌≤◌, ◌^◌, true, sym, subst, arith}
 use Rattle.node_tree.specs.World.{Name}
 use Rattle.node_tree.specs.Restored.{Begun, name_fits}
-use Rattle.node_tree.proofs.Saying.{may_name, IsBegun-name, Rises-later}
+use Rattle.node_tree.proofs.Restorable.{may_name, IsBegun-name, Rises-later}
 use Rattle.node_tree.proofs.restoring.Restoring.name.Goals as goal
 
 pub put_name-requires-clause-absent : goal.put_name-requires-clause-absent

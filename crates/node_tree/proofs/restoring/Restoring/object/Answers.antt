@@ -1,10 +1,9 @@
-use Rattle.std.proofs.Common.{◌≡◌, ◌∙◌, ◌<◌, ◌≤◌, ◌^◌, ◌||◌, ℕ, true, sym, subst, ap, arith}
-use Rattle.std.specs.Prelude.{◌==◌}
+use Rattle.std.proofs.Common.{◌≡◌, ◌∙◌, ◌<◌, ◌≤◌, ◌^◌, true, sym, subst, ap, arith}
 use Rattle.std.specs.List.{list_any}
 use Rattle.std.specs.Ordering.{nat_cmp}
 use Rattle.std.specs.BTreeMap.{is_at}
 use Rattle.node_tree.specs.Restored.{Begun, kept_object, object_fits}
-use Rattle.node_tree.proofs.Saying.{may_put, IsBegun-object, one_stamp_more, Rises-later}
+use Rattle.node_tree.proofs.Restorable.{may_put, IsBegun-object, one_stamp_more, Rises-later}
 use Rattle.node_tree.proofs.restoring.Restoring.object.Goals as goal
 
 pub put_object-requires-clause-bytes : goal.put_object-requires-clause-bytes

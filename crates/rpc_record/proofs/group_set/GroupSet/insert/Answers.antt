@@ -4,7 +4,7 @@ use Rattle.std.proofs.lemmas.List.Edits.{length-insert}
 use Rattle.std.specs.List.Sorted.{IsStrictlyIncreasing, IsBinarySearchResult}
 use Rattle.std.specs.Ordering.{nat_cmp}
 use Rattle.rpc_record.specs.Identity.{with_group}
-use Rattle.rpc_record.proofs.GroupSets.{zeros_behind, whole_row, placed, stays, increasing_with}
+use Rattle.rpc_record.proofs.GroupSets.{zeros_after, whole_row, placed, stays, increasing_with}
 use Rattle.rpc_record.proofs.group_set.GroupSet.insert.Goals as goal
 
 rises : (c : goal.After-self-1) → IsStrictlyIncreasing c.args.self.now
@@ -31,8 +31,8 @@ inserted_count c = omega (arith, length-insert (take c.self.inside.len c.self.in
 pub invariant_of-self : goal.invariant_of-self
 invariant_of-self c = record {
   few = omega (arith, room c);
-  whole = whole_row c.self.inside.places c.insert_at.new.places _ c.self.inside.len c.self.invariant.whole (room c) c.insert_at.ensures.held (inserted_count c) c.insert_at.ensures.behind;
-  zeros = zeros_behind c.self.inside.places c.insert_at.new.places c.self.inside.len c.self.invariant.zeros c.insert_at.ensures.behind;
+  whole = whole_row c.self.inside.places c.insert_at.new.places _ c.self.inside.len c.self.invariant.whole (room c) c.insert_at.ensures.held (inserted_count c) c.insert_at.ensures.rest_kept;
+  zeros = zeros_after c.self.inside.places c.insert_at.new.places c.self.inside.len c.self.invariant.zeros c.insert_at.ensures.rest_kept;
   rising = subst IsStrictlyIncreasing (sym (grown c)) (increasing_with c.args.group c.args.self.now (rises c));
 }
 

@@ -1,0 +1,2 @@
+-- What private contracts, invariants and proofs name. No public contract reaches it.
+pub mod Keys

@@ -1,0 +1,13 @@
+pub mod Machine
+pub mod Representing
+pub mod Stopping
+pub mod Sizes
+pub mod Opening
+pub mod Replaying
+pub mod Keeping
+pub mod Lasting
+pub mod Crash
+pub mod Serving
+pub mod Starting
+pub mod Moments
+pub mod Looking

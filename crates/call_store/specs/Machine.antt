@@ -1,0 +1,15 @@
+-- The version of the machine, whose entries a start replays.
+use Rattle.std.specs.Prelude.{◌≡◌, ◌≢◌, ◌⊎◌, ℕ, []}
+use Rattle.store_journal.specs.Files.{Content}
+
+-- It changes when any definition of an effect or a result changes.
+abbrev pub MACHINE : ℕ
+MACHINE = 1
+
+-- all entries are of this machine, or there are none
+abbrev pub IsOwn : ℕ → Content → Type 0
+IsOwn machine content = (machine ≡ MACHINE) ⊎ (content.records ≡ [])
+
+-- there are entries of another machine
+abbrev pub IsForeign : ℕ → Content → Type 0
+IsForeign machine content = (machine ≢ MACHINE) × (content.records ≢ [])

@@ -1,4 +1,0 @@
-pub mod Walking
-pub mod Led
-pub mod Alike
-pub mod Applied

@@ -1,4 +1,0 @@
-pub mod Forms
-pub mod Faults
-pub mod Applying
-pub mod Comparing

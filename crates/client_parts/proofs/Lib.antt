@@ -1,0 +1,4 @@
+pub mod Walking
+pub mod AppliedChanges
+pub mod Alike
+pub mod Applied

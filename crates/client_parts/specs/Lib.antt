@@ -1,0 +1,4 @@
+pub mod Forms
+pub mod Applying
+pub mod Comparing
+pub mod internal

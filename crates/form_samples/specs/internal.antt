@@ -1,0 +1,3 @@
+-- What private contracts, invariants and proofs name. No public contract reaches it.
+pub mod Children
+pub mod Forms

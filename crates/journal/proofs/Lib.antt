@@ -1,9 +1,0 @@
-pub mod Standing
-pub mod Zeros
-pub mod Choosing
-pub mod Crash
-pub mod Gathering
-pub mod Steps
-pub mod Heads
-pub mod Living
-pub mod Replacing

@@ -1,0 +1,4 @@
+pub mod Beginning
+pub mod Steps
+pub mod Kept
+pub mod Law

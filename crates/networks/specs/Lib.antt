@@ -1,0 +1,4 @@
+pub mod Address
+pub mod Network
+pub mod Text
+pub mod Admission

@@ -1,5 +1,0 @@
-use Rattle.nfs_ops.proofs.ResultNexts.{result_is}
-use Rattle.nfs_ops.proofs.laws.a_result_that_stands_is_read.Goals as goal
-
-pub returns : goal.returns
-returns c = result_is

@@ -1,7 +1,0 @@
-use Rattle.std.proofs.Common.{length}
-use Rattle.node_tree.specs.World.{parent_of}
-use Rattle.node_tree.proofs.Saying.{GoesUp}
-use Rattle.node_tree.proofs.store.Store.leads_up.Given as goal
-
-abbrev pub invariant-loop : goal.invariant-loop
-invariant-loop g l = GoesUp (parent_of l.self) (length l.self.objects) l.counter l.here l.number

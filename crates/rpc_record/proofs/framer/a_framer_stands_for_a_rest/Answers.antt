@@ -1,5 +1,0 @@
-use Rattle.rpc_record.proofs.Steps.{unfinished}
-use Rattle.rpc_record.proofs.framer.a_framer_stands_for_a_rest.Goals as goal
-
-pub returns : goal.returns
-returns c = unfinished

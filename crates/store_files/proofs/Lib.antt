@@ -1,3 +1,0 @@
-mod Frames
-mod Rooms
-mod Stops

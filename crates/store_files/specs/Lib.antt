@@ -1,6 +1,0 @@
-pub mod Held
-pub mod Keys
-pub mod Places
-pub mod Rooms
-pub mod Standings
-pub mod Stops

@@ -1,0 +1,5 @@
+pub mod Listing
+pub mod Telling
+pub mod Writing
+pub mod Refusing
+pub mod Again

@@ -1,0 +1,15 @@
+//! The parts of a tree in a checkpoint: encoded by XDR (RFC 4506), read again, and taken in order.
+#![tactic(auto)]
+
+mod forms;
+mod laws;
+mod part;
+mod taking;
+
+pub use forms::{EntryForm, EntryKindForm, KindForm, ListForm, PrincipalForm};
+pub use laws::a_tree_is_taken_again;
+pub use part::{
+    PartFault, WrittenList, WrittenMoment, WrittenObject, WrittenPart, write_counters, write_name,
+    write_object,
+};
+pub use taking::take;

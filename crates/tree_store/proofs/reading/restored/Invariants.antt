@@ -1,6 +1,0 @@
-use Rattle.std.proofs.Common.{map, drop}
-use Rattle.tree_store.proofs.Gathering.{IsTaking}
-use Rattle.tree_store.proofs.reading.restored.Given as goal
-
-abbrev pub invariant-loop-bytes : goal.invariant-loop-bytes
-invariant-loop-bytes g l = IsTaking (map (λ b. b.now) l.fn.parts) l.so_far (map (λ b. b.now) (drop l.bytes-index l.fn.parts))

@@ -1,5 +1,0 @@
-use Rattle.xdr_wire.proofs.Spelling.{one_at_a_front}
-use Rattle.xdr_wire.proofs.laws.one_spelling_at_a_front.Goals as goal
-
-pub returns : goal.returns
-returns c = one_at_a_front
