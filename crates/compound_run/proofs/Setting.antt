@@ -169,7 +169,7 @@ pub attributes_set : {A : Type 0} (room : ℕ) (c : Context) (h : FileHandles) (
     → size_fault wanted.size c number (set_stateid v) (sight_of e) ≡ None
     → all_granted (judged_of e.tree.world) c.caller (demanded v h e wanted) ≡ true
     → mid ≡ holding (demand_lines (judged_of e.tree.world) c.caller (row kinds.SetAttr).number (demanded v h e wanted)) e
-    → size_fits mid.tree.world.limits wanted.size ≡ true
+    → size_fits e.tree.world.limits wanted.size ≡ true
     → can_count wanted (sight_of mid) ≡ true
     → set_fits wanted (kind_at (sight_of mid) number) (list_at mid.tree.world number) ≡ true
     → new ≡ with_world (setting number wanted (at c mid.tree.world) mid.tree.world) mid
@@ -181,7 +181,7 @@ attributes_set room c h v e mid new out out' number wanted is_here there is_want
     (subst (λ n. is_some (kind_of e.tree.world n) ≡ true) same (live (object e.tree.world number) there))
     (subst (λ n. sent c v (kind_at (sight_of e) n) ≡ Ok wanted) same is_wanted)
     (subst (λ n. size_fault wanted.size c n (set_stateid v) (sight_of e) ≡ None) same size)
-    granted (subst (λ x. size_fits x.tree.world.limits wanted.size ≡ true) holds fits)
+    granted fits
     (subst (λ x. can_count wanted (sight_of x) ≡ true) holds counts)
     true ((λ i. set_fits wanted (kind_at (sight_of (sym holds i)) (sym same i)) (list_at (sym holds i).tree.world (sym same i))) ∙ bounds)
     room mid new out out' refl holds
@@ -195,7 +195,7 @@ pub attributes_refused : {A : Type 0} (room : ℕ) (c : Context) (h : FileHandle
     → size_fault wanted.size c number (set_stateid v) (sight_of e) ≡ None
     → all_granted (judged_of e.tree.world) c.caller (demanded v h e wanted) ≡ true
     → mid ≡ holding (demand_lines (judged_of e.tree.world) c.caller (row kinds.SetAttr).number (demanded v h e wanted)) e
-    → size_fits mid.tree.world.limits wanted.size ≡ true
+    → size_fits e.tree.world.limits wanted.size ≡ true
     → can_count wanted (sight_of mid) ≡ true
     → (status ≢ statuses.Delay → (status ≡ statuses.NoSpc) × (set_fits wanted (kind_at (sight_of mid) number) (list_at mid.tree.world number) ≡ false))
     → new ≡ mid
@@ -208,7 +208,7 @@ attributes_refused room c h v e mid new out number wanted status is_here there i
     (subst (λ n. is_some (kind_of e.tree.world n) ≡ true) same (live (object e.tree.world number) there))
     (subst (λ n. sent c v (kind_at (sight_of e) n) ≡ Ok wanted) same is_wanted)
     (subst (λ n. size_fault wanted.size c n (set_stateid v) (sight_of e) ≡ None) same size)
-    granted (subst (λ x. size_fits x.tree.world.limits wanted.size ≡ true) holds fits)
+    granted fits
     (subst (λ x. can_count wanted (sight_of x) ≡ true) holds counts)
     (set_fits wanted (kind_at (sight_of mid) number) (list_at mid.tree.world number)) bounds
     room mid new out status unfit holds stays

@@ -78,7 +78,8 @@ impl<A: Allocator + Copy> Realm<A> {
         if self.find(directory, name).is_some() {
             return Err(Status::Exist);
         }
-        if self.tree.links(linked) >= self.tree.limits().links() {
+        let most = self.tree.limits().links();
+        if self.tree.links(linked) >= most {
             return Err(Status::MLink);
         }
         let target = Directory {

@@ -309,12 +309,13 @@ impl<A: Allocator + Copy> Realm<A> {
         if self.tree.object(number).is_none() {
             return Err(Status::Stale);
         }
+        let limits = self.tree.limits();
         let wanted = self.wanted_on(number, args)?;
         self.check_size(step.context, number, wanted.size, &args.stateid)?;
         if !self.grants_sized(step, &Op::SetAttr(*args), wanted.size) {
             return Err(Status::Access);
         }
-        if !size_fits(self.tree.limits(), wanted.size) {
+        if !size_fits(limits, wanted.size) {
             return Err(Status::FBig);
         }
         if !self.can_count(&wanted) {

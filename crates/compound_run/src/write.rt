@@ -43,12 +43,13 @@ impl<A: Allocator + Copy> Realm<A> {
             Kind::Link => return Err(Status::Symlink),
             Kind::File => {}
         }
+        let limits = self.tree.limits();
         self.check_stateid(step.context, number, &args.stateid, Purpose::ToWrite)?;
         if !self.grants_sized(step, &Op::Write(*args), None) {
             return Err(Status::Access);
         }
         let data = args.data.bytes;
-        if !fits(self.tree.limits(), args.offset, data) {
+        if !fits(limits, args.offset, data) {
             return Err(Status::FBig);
         }
         if data.is_empty() {

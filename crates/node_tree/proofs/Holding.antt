@@ -12,17 +12,18 @@ use Rattle.acl_list.specs.declared.entry.Kind.TheVariants.{File, Directory, Link
 use Rattle.node_tree.specs.Limits.{Limits, IsAllowed}
 use Rattle.node_tree.specs.World.{Object, Name, has_name}
 use Rattle.node_tree.specs.Changes.{changed, without, touched, retold, released}
+use Rattle.node_tree.specs.Contents.{most_held}
 use Rattle.node_tree.specs.Sound.{Rises, IsFit, most_bytes}
 use Rattle.node_tree.proofs.Objects.{Changed, Kept, changed_cases, lookup-without, lookup-inserted, length-changed}
 use Rattle.node_tree.proofs.Rising.{Rises-changed, Rises-filter, Rises-push, inserted_last}
 
 -- ---- counts of bytes
 
--- no object has so many bytes that a count wraps
-pub most_is_short : (l : Limits) → IsAllowed l → (k : Kind) (n : ℕ) → n ≤ most_bytes l k → n < 2 ^ 63
-most_is_short l allowed File n le = let few : l.bytes < 2 ^ 62 = allowed.bytes in let most : n ≤ l.bytes = le in let goal : n < 2 ^ 63 = omega arith in goal
-most_is_short l allowed Directory n le = let most : n ≤ 0 = le in let goal : n < 2 ^ 63 = omega arith in goal
-most_is_short l allowed Link n le = let most : n ≤ 1024 = le in let goal : n < 2 ^ 63 = omega arith in goal
+-- the bytes of an object within the limits are few enough for memory
+pub most_is_held : (l : Limits) → IsAllowed l → (k : Kind) (n : ℕ) → n ≤ most_bytes l k → n ≤ most_held k
+most_is_held l allowed File n le = let few : l.bytes < 2 ^ 62 = allowed.bytes in let most : n ≤ l.bytes = le in let goal : n ≤ 2 ^ 62 = omega arith in goal
+most_is_held l allowed Directory n le = le
+most_is_held l allowed Link n le = let most : n ≤ 1024 = le in let goal : n ≤ 2 ^ 62 = omega arith in goal
 
 -- ---- objects
 

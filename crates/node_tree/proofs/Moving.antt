@@ -11,7 +11,7 @@ use Rattle.acl_list.specs.declared.entry.Kind.{Kind}
 use Rattle.acl_list.specs.declared.entry.Kind.TheVariants.{Directory}
 use Rattle.acl_shape.specs.Inherited.{is_directory}
 use Rattle.node_tree.specs.declared.at.At.{At}
-use Rattle.node_tree.specs.Limits.{ROOT, MAX_NAME}
+use Rattle.node_tree.specs.Limits.{ROOT, MAX_NAME, Limits}
 use Rattle.node_tree.specs.World.{World, Object, Name, object, kind_of, is_named, has_name, has_entries, child_named, is_one, is_directory_at, parent_of, name_count, link_count}
 use Rattle.node_tree.specs.Ways.{is_within}
 use Rattle.node_tree.specs.Changes.{changed, touched, retold, released, other_names, given_name, with_move}
@@ -162,7 +162,7 @@ moved_some : {X : Type 0} (names : List Name) (target : Option ℕ) (old : ℕ �
 moved_some names None old k x is = is
 moved_some names (Some t) old k x is = after_some (has_name names t) old t k x is
 
-IsHeld-left : (names : List Name) (target : Option ℕ) (at : At) (es : List (ℕ × Object)) (n t : ℕ) → at.tick < t → IsHeld es n t → IsHeld (left_of names target at es) n t
+IsHeld-left : {l : Limits} (names : List Name) (target : Option ℕ) (at : At) (es : List (ℕ × Object)) (n t : ℕ) → at.tick < t → IsHeld l es n t → IsHeld l (left_of names target at es) n t
 IsHeld-left names None at es n t due held = held
 IsHeld-left names (Some target) at es n t due held = IsHeld-released names target at es n t due held
 

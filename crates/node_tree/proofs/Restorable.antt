@@ -394,6 +394,7 @@ IsSound-whole w number cookie numbers stamps begun root all = record {
   fit = begun.fit;
   limited = begun.limited;
   counted = begun.counted;
+  allowed = begun.allowed;
 }
   where
     there : (k : ℕ) (o : Option Object) → object w k ≡ o → IsSome (option_map (λ (o : Object). o.kind) o) → k ≢ ROOT → (n : Name) × IsIn n w.names × (n.child ≡ k)

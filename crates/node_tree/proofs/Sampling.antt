@@ -56,7 +56,7 @@ module _ (of_root of_notes of_pub : List Entry) (root_bounded : IsBounded of_roo
 
   is_sound : IsSound (with_change second 1 1)
   is_sound =
-      let root = IsSound-alone standard (root_of 0 0 of_root 0) refl refl root_bounded refl refl in
+      let root = IsSound-alone standard allowed (root_of 0 0 of_root 0) refl refl root_bounded refl refl in
       let one = IsSound-with_new (alone standard (root_of 0 0 of_root 0)) root 1 (codes "notes") (thing 2 File (codes "hi") 1001 100 of_notes) (record { tick = 2; moment = epoch }) (record { due = lit≤ tt; fresh = lit≤ tt; left = lit< tt }) refl refl (lit≤ tt)
       (record { list = notes_bounded; bytes = lit≤ tt; change = lit< tt }) refl (lit< tt) (lit< tt) (lit< tt) (lit< tt) (lit< tt) in
       let two = IsSound-with_new first one 1 (codes "pub") (thing 3 Directory [] 0 0 of_pub) (record { tick = 3; moment = epoch }) (record { due = lit≤ tt; fresh = lit≤ tt; left = lit< tt }) refl refl (lit≤ tt)

@@ -2,7 +2,7 @@
 ghost use Rattle.std.specs.Prelude.{◌≡◌, ◌+◌, ◌<◌, ◌≤◌, ◌^◌, ◌++◌, length, take, drop, OnOk, OnErr, IfOk};
 ghost use Rattle.acl_list.specs.declared.entry.Kind.TheVariants as kinds;
 ghost use Rattle.node_tree.specs.Changes.{written, resized};
-ghost use Rattle.node_tree.specs.Contents.{kind_held, bytes_held};
+ghost use Rattle.node_tree.specs.Contents.{kind_held, bytes_held, most_held};
 
 use crate::blocks::Blocks;
 use acl_list::Kind;
@@ -83,7 +83,7 @@ impl<A: Allocator> Contents<A> {
 impl<A: Allocator + Copy> Contents<A> {
     /// The content of a new object of this type. `Err`: an allocation for the bytes of a file fails.
     pub fn made(alloc: A, kind: Kind, bytes: Vec<u8, A>) -> Result<Self, AllocError>
-        requires { length bytes.items < 2 ^ 63 }
+        requires { length bytes.items ≤ most_held kind }
         ensures kind { IfOk result (λ contents. kind_held contents ≡ kind) }
         ensures bytes { IfOk result (λ contents. bytes_held contents ≡ bytes.items) }
     {

@@ -18,10 +18,10 @@ pub const MAX_NAME: usize = 255;
 /// The limits that a profile sets. A tree never changes its own.
 #[derive(Clone, Copy, Debug)]
 pub struct Limits {
-    objects: usize,
-    names: usize,
-    links: usize,
-    bytes: u64,
+    pub(crate) objects: usize,
+    pub(crate) names: usize,
+    pub(crate) links: usize,
+    pub(crate) bytes: u64,
 }
 
 impl Model for Limits {

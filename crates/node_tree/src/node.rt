@@ -3,6 +3,7 @@ ghost use Rattle.std.specs.Prelude.{◌≡◌, ◌+◌, ◌<◌, ◌≤◌, ◌^
 ghost use Rattle.acl_list.specs.declared.entry.Kind.TheVariants as kinds;
 ghost use Rattle.acl_shape.specs.Inherited.{is_directory};
 ghost use Rattle.node_tree.specs.Restored.{kept_object};
+ghost use Rattle.node_tree.specs.Contents.{most_held};
 ghost use Rattle.node_tree.specs.Changes.{made, touched, retold, written, resized};
 
 use crate::at::At;
@@ -212,7 +213,7 @@ impl<A: Allocator> Node<A> {
 impl<A: Allocator + Copy> Node<A> {
     /// A new object. `Err`: an allocation for the bytes of a file fails.
     pub(crate) fn made(alloc: A, new: NewObject<A>, stamp: u64, at: At) -> Result<Self, AllocError>
-        requires { length new.bytes.items < 2 ^ 63 }
+        requires { length new.bytes.items ≤ most_held new.kind }
         ensures { IfOk result (λ node. node ≡ made new stamp at) }
     {
         Ok(Node {
@@ -230,7 +231,7 @@ impl<A: Allocator + Copy> Node<A> {
 
     /// An object from a checkpoint. `Err`: an allocation for the bytes of a file fails.
     pub(crate) fn kept(alloc: A, new: NewObject<A>, kept: Kept) -> Result<Self, AllocError>
-        requires { length new.bytes.items < 2 ^ 63 }
+        requires { length new.bytes.items ≤ most_held new.kind }
         ensures { IfOk result (λ node. node ≡ kept_object new kept) }
     {
         Ok(Node {

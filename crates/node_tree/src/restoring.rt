@@ -128,6 +128,7 @@ impl<A: Allocator + Copy> Restoring<A> {
         {
             return None;
         }
+        let _room_for_the_root = limits.objects;
         Some(Restoring {
             store: Store::empty(
                 alloc,

@@ -10,6 +10,7 @@ ghost use Rattle.std.specs.List.{list_all};
 ghost use Rattle.node_tree.specs.Restored.{kept_object, put_object, put_name, child_fits, climbs_to_root, is_placed};
 ghost use Rattle.node_tree.specs.Parts.{number_after, any_after};
 ghost use Rattle.node_tree.specs.Ways.{is_within};
+ghost use Rattle.node_tree.specs.Contents.{most_held};
 ghost use Rattle.node_tree.specs.Changes.{alone, made, changed, touched, retold, without, released, other_names};
 ghost use Rattle.node_tree.specs.Changes.{written, resized, given_name, with_new, with_link, without_name, with_move};
 ghost use Rattle.node_tree.specs.Changes.{with_bytes, with_size, with_list, with_owner};
@@ -358,7 +359,7 @@ impl<A: Allocator + Copy> Store<A> {
         requires numbers { self.old.next_number < 2 ^ 63 }
         requires stamps { self.old.next_stamp < 2 ^ 63 }
         requires cookies { self.old.next_cookie < 2 ^ 63 }
-        requires bytes { length new.bytes.items < 2 ^ 63 }
+        requires bytes { length new.bytes.items ≤ most_held new.kind }
         requires absent { child_named self.old directory name.now ≡ None }
         requires listed { Rises (λ n. n.cookie) 3 self.old.names self.old.next_cookie }
         requires numbered { Rises (λ e. e.0) 1 self.old.objects self.old.next_number }
@@ -568,7 +569,7 @@ impl<A: Allocator + Copy> Store<A> {
         new: NewObject<A>,
         kept: Kept,
     ) -> Result<(), AllocError>
-        requires bytes { length new.bytes.items < 2 ^ 63 }
+        requires bytes { length new.bytes.items ≤ most_held new.kind }
         requires last { Rises (λ e. e.0) 1 self.old.objects number }
         ensures { OnOk result (self.new ≡ put_object self.old number (kept_object new kept)) }
     {

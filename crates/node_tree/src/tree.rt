@@ -246,6 +246,7 @@ impl<A: Allocator + Copy> Tree<A> {
         requires { IsBounded list }
         ensures { IfOk result (λ tree. tree ≡ alone limits (root_of owner group list high)) }
     {
+        let _room_for_the_root = limits.objects;
         let root = NewObject {
             kind: Kind::Directory,
             bytes: Vec::new(alloc),

@@ -1,12 +1,12 @@
 use Rattle.std.proofs.Common.{refl, arith, ◌<◌, ◌+◌, length}
 use Rattle.node_tree.proofs.Adding.{unrefused_add, IsSound-with_new, KeepsJudged-with_new}
-use Rattle.node_tree.proofs.Holding.{most_is_short}
+use Rattle.node_tree.proofs.Holding.{most_is_held}
 use Rattle.node_tree.proofs.tree.Tree.add.Goals as goal
 
 pub add-requires : goal.add-requires
 add-requires g c =
     let may = unrefused_add c.self.inside.store c.args.directory c.args.name.now c.in_default.ensures in
-    record { ticks = c.requires.tick.left; numbers = may.number; stamps = may.stamp; cookies = may.cookie; bytes = most_is_short c.self.inside.store.limits c.self.invariant.allowed c.args.new.kind (length c.args.new.bytes.items) (rw c.self.view_is c.requires.bytes); absent = may.none; listed = c.self.invariant.listed; numbered = c.self.invariant.numbered }
+    record { ticks = c.requires.tick.left; numbers = may.number; stamps = may.stamp; cookies = may.cookie; bytes = most_is_held c.self.inside.store.limits c.self.invariant.allowed c.args.new.kind (length c.args.new.bytes.items) (rw c.self.view_is c.requires.bytes); absent = may.none; listed = c.self.invariant.listed; numbered = c.self.invariant.numbered }
 
 pub invariant_of-self-2 : goal.invariant_of-self-2
 invariant_of-self-2 g c =
