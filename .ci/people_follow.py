@@ -51,12 +51,15 @@ class Follower:
         time.sleep(LONG)
         self.see()
 
-    def end(self, number=signal.SIGTERM):
-        """Ends it by a signal, as any program. All that it has printed."""
-        self.ran.send_signal(number)
+    def end(self, count):
+        """Ends it by a signal, as any program, once it has printed this many lines. All that it has printed."""
+        until = time.monotonic() + SOON
+        while len(self.lines) < count and time.monotonic() < until:
+            time.sleep(0.01)
+        self.ran.send_signal(signal.SIGTERM)
         self.reader.join(timeout=PATIENCE)
         told = self.ran.stderr.read()
-        see(f"how nfstrail --follow {self.words} ends", (told, self.ran.wait(timeout=PATIENCE)), (b"", -number))
+        see(f"how nfstrail --follow {self.words} ends", (told, self.ran.wait(timeout=PATIENCE)), (b"", -signal.SIGTERM))
         return "".join(self.lines)
 
 
@@ -67,11 +70,18 @@ def refused(lab, name, path):
     return f"{name} was refused READ of {path}: read-data, which no entry allows"
 
 
-def restarted(tree, home, lab, number):
-    """The server of a home after it was ended by a signal."""
+def restart(home, lab, number):
+    """Ends the server of a home by a signal, and starts it again."""
     lab.server.send_signal(number)
     lab.server.wait(timeout=PATIENCE)
-    return Lab(tree, "--home", home)
+    call = [lab.programs["nfsd"], "--port", str(lab.port), "--home", home]
+    lab.server = subprocess.Popen(call, stdout=subprocess.PIPE)
+    see("what a server says first that starts again", lab.server.stdout.readline(), f"listening on 127.0.0.1:{lab.port}\n".encode())
+
+
+def append(path, content):
+    with open(path, "ab") as it:
+        it.write(content)
 
 
 def grows(tree, home, lab):
@@ -92,19 +102,19 @@ def grows(tree, home, lab):
             all_lines.see(known)
             by_user.see(known)
             before = [refused(lab, "bob", "/old") for _ in range(3)]
-            lab = restarted(tree, home, lab, number)
+            restart(home, lab, number)
             after = refused(lab, "carol", f"/d/new{at}")
             all_lines.see(*before, START, after)
             by_user.see(after)
             by_path.see(after)
-        see("the whole trail, followed as it stands", raw.end(signal.SIGINT).encode(), read(f"{home}/trail.txt"))
-        see("what is followed and what is printed at once", all_lines.end(), lab.trail(home)[0])
+        whole = read(f"{home}/trail.txt")
+        see("the whole trail, followed as it stands", raw.end(whole.count(b"\n")).encode(), whole)
+        see("what is followed and what is printed at once", all_lines.end(0), lab.trail(home)[0])
         by_user.see()
         by_path.see()
     finally:
         for it in (all_lines, by_user, by_path, raw):
             it.ran.kill()
-    return lab
 
 
 def put_away(tree, home, lab):
@@ -114,44 +124,40 @@ def put_away(tree, home, lab):
     words, raw = followers
     try:
         words.see()
-        write(trail, read(trail) + b"9001-01-01T00:00:00Z STA")
+        append(trail, b"9001-01-01T00:00:00Z STA")
         words.see_none()
-        with open(trail, "ab") as it:
-            it.write(b"RT\nunended")
+        append(trail, b"RT\nunended")
         words.see(START)
         words.see_none()
         os.rename(trail, f"{home}/away.txt")
         words.see_none()
         refused(lab, "carol", "/old")
         words.see("not ended: unended")
-        with open(trail, "ab") as it:
-            it.write(b"9002-01-01T00:00:00Z START\n")
+        append(trail, b"9002-01-01T00:00:00Z START\n")
         words.see(START)
         os.truncate(trail, 0)
         words.see_none()
         refused(lab, "carol", "/old")
         words.see_none()
-        with open(trail, "ab") as it:
-            it.write(b"9003-01-01T00:00:00Z START\n")
+        append(trail, b"9003-01-01T00:00:00Z START\n")
         words.see(START)
         wanted = "9001-01-01T00:00:00Z START\nunended\n9002-01-01T00:00:00Z START\n9003-01-01T00:00:00Z START\n"
-        see("the files of a trail as they stand", raw.end(), wanted)
-        words.end()
+        see("the files of a trail as they stand", raw.end(wanted.count("\n")), wanted)
+        words.end(0)
     finally:
         for it in followers:
             it.ran.kill()
 
 
-def goes(tree, home, lab):
-    """Once nobody reads the output it ends with 0 and without a word: while it waits, and as it writes."""
-    for writes in (False, True):
+def goes(tree, home):
+    """Once nobody reads the output it ends with 0 and without a word: while it waits, and while it writes more than a pipe holds."""
+    for lines in (0, 10_000):
+        append(f"{home}/trail.txt", b"9004-01-01T00:00:00Z START\n" * lines)
         reads, end = os.pipe()
         ran = subprocess.Popen([built(tree, "nfstrail"), home, "--follow"], stdout=end, stderr=subprocess.PIPE)
         os.close(end)
         see("what is read first", os.read(reads, 1) != b"", True)
         os.close(reads)
-        if writes:
-            refused(lab, "bob", "/old")
         try:
             see("nfstrail --follow that nobody reads", (ran.communicate(timeout=SOON)[1], ran.returncode), (b"", 0))
         finally:
@@ -169,8 +175,8 @@ def followed(tree, room):
         lab.see(0, ["mkdir", "/d"], "ok\n")
         lab.see(0, ["chmod", "0755", "/d"], "ok\n")
         lab.see(0, ["put", "/old", "secret"], "ok\n")
-        lab = grows(tree, home, lab)
+        grows(tree, home, lab)
         put_away(tree, home, lab)
-        goes(tree, home, lab)
+        goes(tree, home)
     finally:
         lab.stop()

@@ -56,9 +56,9 @@ impl<'a> From<Broken> for Stop<'a> {
 
 /// A trail that is followed, and what is known of its home.
 #[derive(Drop)]
-struct Follower<'a, R> {
-    home: &'a Home<'a, R>,
-    options: &'a Options<'a>,
+struct Follower<'h, 'w, R> {
+    home: &'h Home<'h, R>,
+    options: &'w Options<'w>,
     hasher: RandomState,
     trail: Growing,
     /// The trail's name led to another file a pause ago.
@@ -96,14 +96,14 @@ fn object_of(choice: &Choice, line: &[u8]) -> Option<u64> {
     }
 }
 
-impl<'a, R: Files<File = File> + Clock + Eprint> Follower<'a, R> {
+impl<'h, 'w, R: Files<File = File> + Clock + Eprint> Follower<'h, 'w, R> {
     /// A trail of which nothing was printed yet.
     fn new(
-        home: &'a Home<'a, R>,
-        options: &'a Options<'a>,
+        home: &'h Home<'h, R>,
+        options: &'w Options<'w>,
         hasher: RandomState,
         trail: Growing,
-    ) -> Result<Self, Stop<'a>> {
+    ) -> Result<Self, Stop<'w>> {
         let read_to = trail.file_len().map_err(Broken::Reading)?;
         let known = know(home, hasher);
         let read_at = Instant::now(home.rt).ok();
@@ -112,18 +112,19 @@ impl<'a, R: Files<File = File> + Clock + Eprint> Follower<'a, R> {
         let mut others = *options;
         others.path = None;
         let but_path = choice_of(home.alloc, &others, &known.names, places)?;
+        let is_reported = places.is_none();
         Ok(Follower {
             home,
             options,
             hasher,
             trail,
             is_left: false,
-            is_reported: known.places.is_none(),
             known,
             choice,
             but_path,
             read_at,
             read_to,
+            is_reported,
         })
     }
 
@@ -287,12 +288,12 @@ impl<'a, R: Files<File = File> + Clock + Eprint> Follower<'a, R> {
 
 /// Prints the lines of a trail that match the options, and then each that a server appends, until standard output has
 /// no reader.
-pub(crate) fn follow<'a, R: Files<File = File> + Net + Clock + Print + Eprint>(
-    home: &'a Home<'a, R>,
-    options: &'a Options<'a>,
+pub(crate) fn follow<'h, 'w, R: Files<File = File> + Net + Clock + Print + Eprint>(
+    home: &'h Home<'h, R>,
+    options: &'w Options<'w>,
     hasher: RandomState,
     file: File,
-) -> Result<(), Stop<'a>> {
+) -> Result<(), Stop<'w>> {
     let trail = Growing::new(home.alloc, file).map_err(Broken::Reading)?;
     let mut follower = Follower::new(home, options, hasher, trail)?;
     let writer = io::writer(home.rt);
