@@ -70,7 +70,8 @@ struct Follower<'h, 'w, R> {
     but_path: Choice,
     /// When the store was read last. `None`: the clock can't be read.
     read_at: Option<Instant>,
-    /// The length of the trail's file before the store was read last. The store isn't read again for lines up to here.
+    /// The length of the trail's file a pause before the store was read last, and at first before the first read. The
+    /// store isn't read again for lines up to here.
     read_to: u64,
     /// It was reported that the store isn't known any more.
     is_reported: bool,
@@ -158,16 +159,14 @@ impl<'h, 'w, R: Files<File = File> + Clock + Eprint> Follower<'h, 'w, R> {
         }
     }
 
-    /// The time until the store may be read again, and at least a pause.
+    /// The time until a pause before the store may be read again.
     fn rest(&self) -> Duration {
         let passed = match self.read_at {
             Some(moment) => moment.elapsed(self.home.rt).ok(),
             None => None,
         };
-        match passed {
-            Some(passed) => STORE_PAUSE.saturating_sub(passed).max(PAUSE),
-            None => STORE_PAUSE,
-        }
+        let rest = STORE_PAUSE.saturating_sub(passed.unwrap_or(Duration::ZERO));
+        rest.saturating_sub(PAUSE)
     }
 
     /// Reports once that the store isn't known any more.
@@ -206,11 +205,12 @@ impl<'h, 'w, R: Files<File = File> + Clock + Eprint> Follower<'h, 'w, R> {
         }
     }
 
-    /// Reads the store again, once it may be read, for the lines that the file has now.
+    /// Reads the store again, once it may be read, for the lines that the file has a pause before that.
     fn renew<W: Write>(&mut self, out: &mut W) -> Result<(), Broken> {
         flush(out)?;
-        let read_to = self.trail.file_len().map_err(Broken::Reading)?;
         thread::sleep(self.home.rt, self.rest());
+        let read_to = self.trail.file_len().map_err(Broken::Reading)?;
+        thread::sleep(self.home.rt, PAUSE);
         self.read_store();
         self.read_at = Instant::now(self.home.rt).ok();
         self.read_to = read_to;
