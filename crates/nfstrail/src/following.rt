@@ -1,11 +1,10 @@
 //! Following a trail: the lines that are there are printed, and then each that a server appends.
 //!
-//! The name of the trail may come to lead to another file, since `trail.txt` is put away by moving it. Then that file
-//! is read from its beginning, once the one before was read to its end. A file that was cut is read again from its
-//! beginning.
+//! An operator puts the trail away by moving `trail.txt`, and the server makes another file of this name. The old file
+//! is read to its end, and then the new one from its beginning. A file that was cut is read again from its beginning.
 //!
-//! The tree is that of the store as it was read last. The store is read again for a line of an object that the tree
-//! doesn't have, at most once a second. The line and those after it wait for that.
+//! Paths are those of the store as it was read last. The store is read again for a line of an object that the tree
+//! doesn't have, at most once a second. That line and those after it wait until then.
 use crate::asking::{Refusal, choice_of};
 use crate::choice::Choice;
 use crate::fate::{Fate, fate_of};
@@ -26,8 +25,8 @@ use std::rt::{Clock, Files};
 use std::time::{Duration, Instant};
 use std::{io, thread};
 
-/// The time between two reads of the file. A server that has appended a line has this time to store the call that the
-/// line is of, before the store is read for it.
+/// The time between two reads of the file. The server appends a line before it stores the call that wrote the line, so
+/// the store is read for a line no sooner than this.
 const PAUSE: Duration = Duration::from_millis(200);
 
 /// The least time between two reads of the store.
@@ -61,7 +60,7 @@ struct Follower<'h, 'w, R> {
     options: &'w Options<'w>,
     hasher: RandomState,
     trail: Growing,
-    /// The trail's name led to another file a pause ago.
+    /// A pause ago the trail's name led to another file.
     is_left: bool,
     known: Known,
     /// The lines that match all options.
@@ -98,7 +97,7 @@ fn object_of(choice: &Choice, line: &[u8]) -> Option<u64> {
 }
 
 impl<'h, 'w, R: Files<File = File> + Clock + Eprint> Follower<'h, 'w, R> {
-    /// A trail of which nothing was printed yet.
+    /// A follower that has printed nothing yet.
     fn new(
         home: &'h Home<'h, R>,
         options: &'w Options<'w>,

@@ -38,7 +38,7 @@ impl FileId {
     }
 }
 
-/// What has become of a file of which `position` bytes were read, by the file that its name leads to now.
+/// Compares the file that is read, by its first `position` bytes so far, with the file that its name leads to now.
 fn change_of(read: &FileId, position: u64, found: &FileId, len: u64) -> Change
     ensures { result ≡ specs.change read.now position found.now len }
 {
