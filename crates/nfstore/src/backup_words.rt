@@ -12,8 +12,7 @@ pub(crate) fn print_made<R: Print>(rt: &R, target: &Target<'_>, made: Made) -> i
     let (folder, objects, bytes) = (target.folder, made.whole.objects, made.whole.bytes);
     println!(
         rt;
-        "{folder}: it has all that was answered before {moment}, when the copy began: \
-         objects {objects}, bytes of files {bytes}"
+        "{folder}: it is whole as of {moment}, when it began: objects {objects}, bytes of files {bytes}"
     )
 }
 
