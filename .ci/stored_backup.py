@@ -1,12 +1,10 @@
 """Scenes of .ci/stored: what nfstore reads whole, and whole copies that it makes of homes and stores, also while a server writes them."""
-import contextlib
 import os
 import re
 import resource
 import shutil
 import signal
 import subprocess
-import threading
 import time
 
 from stored_bits import close_by_another, rotten, small_store
@@ -115,7 +113,7 @@ def backed_up(room, _):
     see("the objects and the bytes of a copy", copied(home, f"{copy}//"), sizes_of(shown))
     see("the home", all_in(home), before)
     after = all_in(copy)
-    see("the files beside the store", [after[it] == before[it] for it in ("/had-book", "/trail.txt")], [True, True])
+    see("the files beside the store", [after[it][1] == before[it][1] for it in ("/had-book", "/trail.txt")], [True, True])
     see("the book", after["/book.toml"][1], BOOK.encode())
     see("the modes", {mode for mode, _ in after.values()}, {oct(0o040700), oct(0o100600)})
     see("the mode of the copy", oct(os.stat(copy).st_mode), oct(0o040700))
@@ -183,9 +181,10 @@ def not_backed_up(room, _):
 
 def full_disks(room):
     """A disk that has no room for the copy, or can't be written."""
-    folder = f"{room}/large"
+    folder, within = f"{room}/large", f"{room}/of copies"
     import_files(room, folder, 40, 50_000)
-    with small_disk(room) as place:
+    os.mkdir(within)
+    with small_disk(within) as place:
         if place is None:
             return "no disk could be mounted"
         path = f"{place}/copy.new/{Current.of(folder).name()}"
@@ -196,7 +195,6 @@ def full_disks(room):
         refused_copy(folder, f"{place}/copy", path, NO_SPACE)
         remount(place, "ro")
         refused_copy(folder, f"{place}/copy", f"{place}/copy.new", "it can't be made: Read-only file system (os error 30)")
-    os.rmdir(place)
     return None
 
 
@@ -287,13 +285,15 @@ DELAY = 1_500_000
 
 def copied_late(folder, copy, at, change):
     """A copy whose read of this number is held up, while the folder is changed. What it says, and its status."""
-    log = f"{copy}.log"
-    under = ["strace", "-f", "-qqq", "-o", log, "-e", "trace=pread64", "-e", f"inject=pread64:delay_enter={DELAY}:when={at}"]
+    log, paths = f"{copy}.log", [word for name in ("CURRENT", "tree.a", "tree.b") for word in ("-P", f"{folder}/{name}")]
+    under = ["strace", "-qqq", "-o", log, *paths, "-e", "trace=pread64", "-e", f"inject=pread64:delay_enter={DELAY}:when={at}"]
     words = [*under, Server.programs["nfstore"], folder, "--backup", copy]
     ran = subprocess.Popen(words, stdout=subprocess.PIPE, stderr=subprocess.PIPE, text=True)
     end = time.monotonic() + PATIENCE
-    while time.monotonic() < end and (not os.path.exists(log) or content_of_file(log).count(b"pread64(") < at):
+    while time.monotonic() < end and (not os.path.exists(log) or content_of_file(log).count(b"\n") < at - 1):
         time.sleep(0.005)
+    # until it is held up
+    time.sleep(DELAY / 4e6)
     change()
     said, told = ran.communicate(timeout=PATIENCE)
     os.remove(log)

@@ -109,6 +109,7 @@ fn copy_lines<R: Read, W: Write>(
 }
 
 /// A backup that is being made.
+#[derive(Clone, Copy)]
 struct Backup<'a> {
     rt: &'a HostRuntime,
     alloc: Global,

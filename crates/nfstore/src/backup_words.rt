@@ -10,8 +10,7 @@ pub(crate) fn print_made<R: Print>(rt: &R, target: &Target<'_>, made: Made) -> i
     let text = moment_text(made.begun);
     let moment = str::from_utf8(&text).unwrap_or("").trim_end();
     let (folder, objects, bytes) = (target.folder, made.whole.objects, made.whole.bytes);
-    println!(
-        rt;
+    println!(rt;
         "{folder}: it is whole as of {moment}, when it began: objects {objects}, bytes of files {bytes}"
     )
 }
@@ -27,17 +26,17 @@ pub(crate) fn report_refused<R: Eprint>(
     let (folder, fresh) = (target.folder, target.fresh.as_str());
     let _ = match refused {
         Refused::Taken => {
-            eprintln!(rt; "nfstore: {folder}: it is there already; give the name of a folder that isn't")
+            eprintln!(rt;
+                "nfstore: {folder}: it is there already; give the name of a folder that isn't"
+            )
         }
-        Refused::Begun => eprintln!(
-            rt;
+        Refused::Begun => eprintln!(rt;
             "nfstore: {fresh}: it is there already, of a backup that is being made or was broken off; \
              remove it if none is being made"
         ),
         Refused::Nothing => eprintln!(rt; "nfstore: {store}: nothing is kept yet"),
         Refused::Unread(Unread::Stop(stop)) => eprintln!(rt; "nfstore: {store}{stop}"),
-        Refused::Unread(Unread::Changing) => eprintln!(
-            rt;
+        Refused::Unread(Unread::Changing) => eprintln!(rt;
             "nfstore: {store}: a server has changed it each of the {TRIES} times that it was read; try again"
         ),
         Refused::Source(stop) => eprintln!(rt; "nfstore: {store}{stop}"),

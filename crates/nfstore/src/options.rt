@@ -147,7 +147,8 @@ impl<'a> Options<'a> {
                 task,
             }),
             None => {
-                let text = "of '--tree', '--calls', '--export <DIR>', '--import <DIR>', '--close', '--check' and \
+                let text =
+                    "of '--tree', '--calls', '--export <DIR>', '--import <DIR>', '--close', '--check' and \
                     '--backup <DIR>' only one is taken";
                 Err(command(alloc)?.error(ErrorKind::ArgumentConflict, text)?)
             }

@@ -108,6 +108,7 @@ fn second<R: Clock>(rt: &R) -> i64 {
 }
 
 /// The folder of a store, of which no lock is taken.
+#[derive(Clone, Copy)]
 pub(crate) struct Unlocked<'a, R> {
     pub(crate) rt: &'a R,
     pub(crate) alloc: Global,
