@@ -6,6 +6,7 @@ ghost use Rattle.nfsd_options.specs.Simple.{connections_rule, file_rule, flag_ru
 ghost use Rattle.nfsd_options.specs.Simple.{list_rule, listen_rule, nfsd, port_rule, privileged_rule};
 ghost use Rattle.nfsd_options.specs.Simple.{stamped_rule, store_rule, trail_rule};
 
+use build_record::version;
 use clap::builder::ValueParser;
 use clap::{Arg, ArgAction, Command, value_parser};
 use std::alloc::{AllocError, Global};
@@ -76,6 +77,7 @@ pub(crate) fn command<'a>(alloc: Global) -> Result<Command<'a>, AllocError>
     ensures { IfOk result (λ c. app_of c ≡ nfsd) }
 {
     let command = Command::new(alloc, "nfsd")
+        .version(version())
         .about(ABOUT)
         .after_help(BOOK)
         .arg(book(alloc))?
