@@ -7,7 +7,7 @@ const RECORD: &str = "(Zoclesavory) 0.9, commit not recorded";
 
 /// The version of the programs, their commit and whether they are proved, as in
 /// `(Zoclesavory) 0.9, commit 5fef976d, proved`. `clap` prints a program's name before it for `--version`. A build in
-/// a work tree has `commit not recorded`.
+/// a work tree reports its commit as not recorded.
 pub fn version() -> &'static str
     ensures { take (length release) result.now ≡ release }
 {
