@@ -3,4 +3,4 @@ use Rattle.std.specs.Prelude.{ℕ, List, codes}
 
 -- the start of each report: the product and its version
 abbrev pub release : List ℕ
-release = codes "(Zoclesavory) 0.9, commit "
+release = codes "(Zoclesavory) 0.9, "

@@ -1,13 +1,12 @@
-//! The record of a build. `./install` and `./try` write the commit into the copy of the tree that they build.
+//! The record of a build. `./install` and `./try` write the revision into the copy of the tree that they build.
 ghost use Rattle.std.specs.Prelude.{◌≡◌, length, take};
 ghost use Rattle.build_record.specs.Release.{release};
 
-/// The version, the commit and whether the build is proved.
+/// The version, the revision of the sources, and whether the build is proved.
 const RECORD: &str = "(Zoclesavory) 0.9, commit not recorded";
 
-/// The version of the programs, their commit and whether they are proved, as in
-/// `(Zoclesavory) 0.9, commit 5fef976d, proved`. `clap` prints a program's name before it for `--version`. A build in
-/// a work tree reports its commit as not recorded.
+/// The version of the programs, the revision of their sources, and whether they are proved. It is the text that `clap`
+/// prints after a program's name for `--version`. A build in a work tree has no record of its revision.
 pub fn version() -> &'static str
     ensures { take (length release) result.now ≡ release }
 {
