@@ -184,6 +184,17 @@ fn open_trail<R: Files + Alloc>(
     }
 }
 
+impl<R: Files> TrailFile<'_, R> {
+    /// Why the trail can't be kept any more.
+    pub(crate) fn into_fault(self) -> TrailFault {
+        let TrailFile { keeper, fault, .. } = self;
+        match fault {
+            Some(fault) => fault,
+            None => TrailFault::Unwritten(keeper.into_inner().failure),
+        }
+    }
+}
+
 impl<'a, R: Files + Alloc + Clock> TrailFile<'a, R> {
     /// Opens the file, ends its last line, and writes the line of a start if lines have their times. A file of the
     /// book or of the store is refused.
@@ -211,15 +222,6 @@ impl<'a, R: Files + Alloc + Clock> TrailFile<'a, R> {
             Ok(trail)
         } else {
             Err(trail.into_fault())
-        }
-    }
-
-    /// Why the trail can't be kept any more.
-    pub(crate) fn into_fault(self) -> TrailFault {
-        let TrailFile { keeper, fault, .. } = self;
-        match fault {
-            Some(fault) => fault,
-            None => TrailFault::Unwritten(keeper.into_inner().failure),
         }
     }
 
