@@ -6,7 +6,7 @@ import subprocess
 
 from stored_bytes import counting, files_of, frames_of, records_in
 from stored_lab import (
-    ATTRIBUTES, ROOT, bitmap, Gone, held, hyper, opaque, Peer, refused, remove, see, Server, stop, words,
+    ATTRIBUTES, PATIENCE, ROOT, bitmap, free_port, Gone, held, hyper, opaque, Peer, refused, remove, see, Server, stop, words,
 )
 
 NO_SPACE = "No space left on device (os error 28)"
@@ -31,12 +31,21 @@ def one_server(room, _):
         see("a trail in the store", said, (f"nfsd: trail\n{path}: it is a file of the store\n", 1))
 
 
+def home_refused(home):
+    """What a server says that can't serve a home, and its status."""
+    call = [Server.programs["nfsd"], "--port", str(free_port()), "--connections", "0", "--home", home]
+    ran = subprocess.run(call, capture_output=True, text=True, timeout=PATIENCE, check=False)
+    return ran.stderr, ran.returncode
+
+
 def no_folder(room, _):
     """A folder that can't be made, or is none."""
     see("no parent", refused(f"{room}/no/folder"), stop(f"{room}/no/folder", 2, ": it can't be made: No such file or directory (os error 2)"))
     with open(f"{room}/file", "wb"):
         pass
     see("a file", refused(f"{room}/file"), stop(f"{room}/file", 2, ": it can't be opened: not a directory"))
+    home = f"{room}/no/home"
+    see("a home without a parent", home_refused(home), stop(home, 2, ": it can't be made: No such file or directory (os error 2)"))
     os.mkdir(f"{room}/earlier")
     with open(f"{room}/earlier/tree.key", "wb") as it:
         it.write(bytes(16))
@@ -206,4 +215,6 @@ def full_disk(room, _):
         see("the spare is there again", os.path.getsize(f"{folder}/CURRENT.spare"), 64)
         remount(place, "ro")
         see("a disk that isn't written", refused(folder), stop(folder, 2, "/LOCK: it can't be opened: Read-only file system (os error 30)"))
+        for path, said in ((f"{place}/new", refused(f"{place}/new")), (f"{place}/home", home_refused(f"{place}/home"))):
+            see("a new folder there", said, stop(path, 2, ": it can't be made: Read-only file system (os error 30)"))
     return f"of {count} files on a full disk all are read and {removed} can be removed, and then a server {ends}"

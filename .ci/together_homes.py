@@ -9,7 +9,7 @@ import time
 from together_lab import PATIENCE, ROOT, Server, Session, book_text, create_of, free_port, lines_of, lookup, see, server_said, write_text
 
 GONE = "it isn't there, and an earlier start had it; put it back, or remove had-book beside it to serve without a book"
-UNNOTED = "had-book can't be written beside it, and no book counts without that"
+UNNOTED = "had-book can't be written beside it, and no book counts without that: Is a directory (os error 21)"
 
 
 def starts_not(program, home, why):

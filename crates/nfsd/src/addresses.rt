@@ -1,4 +1,4 @@
-//! The addresses that are listened on.
+//! The addresses that the server listens on.
 use crate::Fault;
 use crate::sockets::Sockets;
 use networks::needs_privileged;
@@ -7,7 +7,7 @@ use std::fmt::{Display, Formatter};
 use std::net::{IpAddr, Ipv4Addr, Net, SocketAddr};
 use std::{fmt, io};
 
-/// The address that is listened on where the options name none.
+/// The address that the server listens on if the options name none.
 const OWN: [IpAddr; 1] = [IpAddr::V4(Ipv4Addr::LOCALHOST)];
 
 /// The addresses of the options, at their port.
@@ -31,7 +31,7 @@ impl<'a> Addresses<'a> {
     }
 }
 
-/// Each with its port, and commas between them.
+/// The addresses with their port, separated by commas.
 impl Display for Addresses<'_> {
     fn fmt<W: fmt::Write>(&self, f: &mut Formatter<W>) -> fmt::Result {
         for (index, address) in self.all.iter().enumerate() {
@@ -54,13 +54,13 @@ pub(crate) fn listen_on_all(
         let privileged = needs_privileged(address, options.privileged_ports, options.any_port);
         let address = SocketAddr::new(*address, options.port);
         if let Err(error) = sockets.listen(net, address, privileged) {
-            return Err(Fault::Address(address, error.kind()));
+            return Err(Fault::Address(address, error));
         }
     }
     Ok(())
 }
 
-/// Says which addresses are listened on.
+/// Prints the addresses that the server listens on.
 pub(crate) fn announce<R: Print>(rt: &R, options: &Options<'_>) -> io::Result<()> {
     let addresses = Addresses::of(options);
     println!(rt; "listening on {addresses}")

@@ -1,4 +1,4 @@
-//! The file of the book, which is read again where it has changed.
+//! The file of the book, which is read again after it has changed.
 use crate::book_rule::{
     Change, FileId, FileTime, Plan, Stamp, Start, has_members, may_follow, plan_for,
 };
@@ -14,22 +14,22 @@ use std::rt::{Clock, Files};
 use std::{fs, io};
 use who_book::Book;
 
-/// A file that is held open, and its stamp as it was opened. While it is held, no other file gets
-/// its number, whatever becomes of its name.
+/// A file that is kept open, and its stamp when it was opened. Until it is closed the system gives its number to no
+/// other file, whatever happens to its name.
 #[derive(Drop)]
 struct Held<F> {
     file: F,
     stamp: Stamp,
 }
 
-/// The file that a name leads to, if there is one.
+/// The object that a name refers to.
 #[derive(Drop)]
 enum Found {
-    /// Nothing is there.
+    /// There is none.
     Nothing,
-    /// A regular file of this stamp.
+    /// A regular file with this stamp.
     File(Stamp),
-    /// No regular file, or what can't be looked at.
+    /// It isn't a regular file, or the system doesn't report its attributes.
     Other,
 }
 
@@ -41,9 +41,9 @@ pub(crate) struct BookFile<'a, R: Files> {
     path: Option<&'a str>,
     /// The home that the file is in.
     home: Option<&'a Home<'a>>,
-    /// The file that was read last, whether it was a book or not.
+    /// The file that was read last, whether it had a book or not.
     last: Option<Held<R::File>>,
-    /// It was said that there is no regular file that can be opened.
+    /// It was reported that no regular file can be opened.
     is_missed: bool,
     /// The home has the note that there was a book.
     is_noted: bool,
@@ -51,7 +51,7 @@ pub(crate) struct BookFile<'a, R: Files> {
     has_members: bool,
 }
 
-/// Which file it is.
+/// The number of a file, with its device.
 pub(crate) fn id_of(answer: &Metadata) -> FileId {
     FileId {
         device: answer.dev(),
@@ -59,7 +59,7 @@ pub(crate) fn id_of(answer: &Metadata) -> FileId {
     }
 }
 
-/// The stamp of a regular file. `None`: it is none; reading another one, such as a pipe, might never end.
+/// The stamp of a regular file. `None`: it isn't one. Reading a pipe, for example, might never end.
 fn stamp_of(answer: &Metadata) -> Option<Stamp> {
     if !answer.is_file() {
         return None;
@@ -78,7 +78,7 @@ fn stamp_of(answer: &Metadata) -> Option<Stamp> {
     })
 }
 
-/// Looks at what a name leads to.
+/// Finds the object that a name refers to.
 fn look(files: &impl Files, path: &str) -> Found {
     match fs::metadata(files, path) {
         Ok(answer) => match stamp_of(&answer) {
@@ -90,14 +90,14 @@ fn look(files: &impl Files, path: &str) -> Found {
     }
 }
 
-/// Opens a regular file to read. `None`: it can't be opened, or is none.
+/// Opens a regular file to read. `None`: it can't be opened, or isn't regular.
 fn open_at<R: Files>(rt: &R, path: &str) -> Option<Held<R::File>> {
     let file = fs::open(rt, path).ok()?;
     let stamp = stamp_of(&file.metadata().ok()?)?;
     Some(Held { file, stamp })
 }
 
-/// Whether a file that is held is as it was when it was opened.
+/// Whether an open file is unchanged since it was opened.
 fn is_as_opened<F: OpenFile>(held: &Held<F>) -> bool {
     match held.file.metadata() {
         Ok(answer) => stamp_of(&answer).is_some_and(|stamp| stamp.is(&held.stamp)),
@@ -105,7 +105,7 @@ fn is_as_opened<F: OpenFile>(held: &Held<F>) -> bool {
     }
 }
 
-/// The book of a text that may follow the one before.
+/// The book that was read, if it may follow the previous one.
 fn follower(book: Result<Book, Fault>, change: Change, had_members: bool) -> Result<Book, Fault> {
     match book {
         Ok(book) if may_follow(change, had_members, has_members(&book)) => Ok(book),
@@ -115,7 +115,7 @@ fn follower(book: Result<Book, Fault>, change: Change, had_members: bool) -> Res
 }
 
 impl<'a, R: Files + Alloc + Eprint + Clock> BookFile<'a, R> {
-    /// The file of this name, which isn't read yet; or no file. In a home there may be none yet.
+    /// The file of this name, which isn't read yet, or no file. In a home the file may be missing.
     pub(crate) fn new(
         rt: &'a R,
         alloc: Global,
@@ -134,7 +134,7 @@ impl<'a, R: Files + Alloc + Eprint + Clock> BookFile<'a, R> {
         }
     }
 
-    /// The book of the file as the server starts, or the book without names where there is no file.
+    /// The book of the file when the server starts. Without a file it is the book without names.
     pub(crate) fn read(&mut self) -> Result<Book, Fault> {
         let Some(path) = self.path else {
             return Ok(Book::default(self.alloc));
@@ -161,7 +161,7 @@ impl<'a, R: Files + Alloc + Eprint + Clock> BookFile<'a, R> {
         Ok(book)
     }
 
-    /// The book of a regular file. A mode that is most likely a slip is said on standard error.
+    /// The book of a regular file. Standard error gets a warning if the root's mode is most likely a mistake.
     fn read_from(&self, path: &str, file: &mut R::File) -> Result<Book, Fault> {
         let Ok(text) = io::read_to_string(self.alloc, file) else {
             return Err(Fault::File);
@@ -171,22 +171,21 @@ impl<'a, R: Files + Alloc + Eprint + Clock> BookFile<'a, R> {
         Ok(book)
     }
 
-    /// Has the home keep that it has a book, if there is a home. A book doesn't count before that.
+    /// Writes the note that the home has a book, if there is a home. A book doesn't count before that.
     fn note(&mut self) -> Result<(), Fault> {
         let Some(home) = self.home else {
             return Ok(());
         };
         if !self.is_noted {
-            home.note_book(self.rt).map_err(|_| Fault::Note)?;
+            home.note_book(self.rt).map_err(Fault::Note)?;
             self.is_noted = true;
         }
         Ok(())
     }
 
-    /// The book of the file, where the file has changed since its last read and its book may follow
-    /// the one before. Where the file can't be read, isn't a book or may not follow, that is said
-    /// on standard error, once for each change. Nothing is said of a home that had no book and has
-    /// none.
+    /// The book of the file, if the file has changed since its last read and its book may follow the previous one. If
+    /// the file can't be read, has no book or may not follow, standard error gets a line, once for each change. A home
+    /// that never had a book gets no line.
     pub(crate) fn changed(&mut self) -> Option<Book> {
         let path = self.path?;
         match look(self.rt, path) {
@@ -199,14 +198,14 @@ impl<'a, R: Files + Alloc + Eprint + Clock> BookFile<'a, R> {
         }
     }
 
-    /// The plan for a file of this stamp.
+    /// The plan for a file with this stamp.
     fn plan(&self, seen: &Stamp) -> Plan {
         let last = self.last.as_ref().map(|held| held.stamp);
         plan_for(&last, seen, second(self.rt))
     }
 
-    /// The book of the file that the name leads to, which had this stamp when it was looked at,
-    /// where it is to be read. Which file is read is known only once it is open.
+    /// The book of the file that the name refers to, if the plan is to read it. `seen` is the stamp that the name had.
+    /// Another file may be there by now, so the plan is made again for the file that is opened.
     fn follow(&mut self, path: &str, seen: &Stamp) -> Option<Book> {
         if let Plan::Load(_) = self.plan(seen) {
             let Some(opened) = open_at(self.rt, path) else {
@@ -220,7 +219,7 @@ impl<'a, R: Files + Alloc + Eprint + Clock> BookFile<'a, R> {
         None
     }
 
-    /// The book of a file that was opened, where it is to be read.
+    /// The book of an open file, if the plan is to read it.
     fn take(&mut self, path: &str, opened: Held<R::File>) -> Option<Book> {
         match self.plan(&opened.stamp) {
             Plan::Load(change) => self.load(path, opened, change),
@@ -228,8 +227,8 @@ impl<'a, R: Files + Alloc + Eprint + Clock> BookFile<'a, R> {
         }
     }
 
-    /// The book of a file that is to be read. Where the file is written meanwhile, it is no book
-    /// yet, and it is as written in place from then on.
+    /// Reads the book of an open file. A file that is written meanwhile has no book yet. From then on it counts as
+    /// written in place.
     fn load(&mut self, path: &str, opened: Held<R::File>, change: Change) -> Option<Book> {
         let mut opened = opened;
         let book = self.read_from(path, &mut opened.file);
@@ -250,14 +249,14 @@ impl<'a, R: Files + Alloc + Eprint + Clock> BookFile<'a, R> {
         }
     }
 
-    /// The book that counts from now on, where this one may follow the one before.
+    /// The book that counts from now on, if it may follow the previous one.
     fn counted(&mut self, book: Result<Book, Fault>, change: Change) -> Result<Book, Fault> {
         let book = follower(book, change, self.has_members)?;
         self.note()?;
         Ok(book)
     }
 
-    /// Says that there is no regular file that can be opened, once until there is one.
+    /// Reports that no regular file can be opened, once until one can be.
     fn miss(&mut self, path: &str) {
         if !self.is_missed {
             self.is_missed = true;
@@ -265,7 +264,7 @@ impl<'a, R: Files + Alloc + Eprint + Clock> BookFile<'a, R> {
         }
     }
 
-    /// Says why the book before stays.
+    /// Reports why the previous book stays.
     fn refuse(&self, path: &str, fault: &Fault) {
         let rt = self.rt;
         let _ = eprintln!(rt; "nfsd: {fault}; the book before stays");

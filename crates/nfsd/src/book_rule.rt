@@ -1,56 +1,55 @@
-//! When the file of the book is read again, which book follows the one before, and when a home is
-//! served.
+//! When the file of the book is read again, which book may follow the previous one, and when a home is served.
 ghost use Rattle.std.specs.Prelude.{◌≡◌, is_some};
 ghost use Rattle.nfsd.specs.Books.{is_fresh, is_near, is_one_file, is_one_time, is_unchanged, may_follow, plan, start};
 
 use rpc_record::Caller;
 use who_book::Book;
 
-/// Which file it is: by its device and its number there.
+/// The identity of a file: its device, and its number there.
 #[derive(Clone, Copy, Debug)]
 pub(crate) struct FileId {
     pub(crate) device: u64,
     pub(crate) node: u64,
 }
 
-/// A time that the system keeps of a file, since the epoch.
+/// A time of a file, as the system keeps it, since the epoch.
 #[derive(Clone, Copy, Debug)]
 pub(crate) struct FileTime {
     pub(crate) seconds: i64,
     pub(crate) nanoseconds: i64,
 }
 
-/// The stamp of a file: which file it is, the times of its last write and of the last change of
-/// anything about it, and its length. A file whose content has changed has another stamp, unless it
-/// was written twice in one tick of the system's clock and has its old length.
+/// The stamp of a file: its identity, the times of its last write and of its last change, and its length. A file whose
+/// content has changed has another stamp, unless it was written twice in one tick of the system's clock and has its old
+/// length.
 #[derive(Clone, Copy, Debug)]
 pub(crate) struct Stamp {
     pub(crate) id: FileId,
-    /// The last write. Whoever may write the file can set it.
+    /// The time of the last write. Each user with write access can set it.
     pub(crate) written: FileTime,
-    /// The last change of content, owner, mode, names or times. Nobody can set it. Where it isn't
-    /// known, it is the same each time.
+    /// The time of the last change of content, owner, mode, names or times. Nobody can set it. If the file system
+    /// doesn't keep it, it is always the same.
     pub(crate) changed: FileTime,
     pub(crate) len: u64,
 }
 
-/// The file of the book has become this since it was read last.
+/// How the file of the book has changed since it was read last.
 #[derive(Clone, Copy, Debug)]
 pub(crate) enum Change {
-    /// Another file is at its place.
+    /// Another file was moved to its place.
     Moved,
     /// The file was written in place.
     Written,
 }
 
-/// This is to be done about the file of the book.
+/// The plan for the file of the book.
 #[derive(Clone, Copy, Debug)]
 pub(crate) enum Plan {
-    /// Nothing: it is as it was when it was read last.
+    /// It isn't read, since it is unchanged.
     Stay,
-    /// Nothing yet: it was written just now, and more may be to come.
+    /// It isn't read yet: it was written just now, and further writes may follow.
     Wait,
-    /// It is read.
+    /// It is read now.
     Load(Change),
 }
 
@@ -59,14 +58,14 @@ pub(crate) enum Plan {
 pub(crate) enum Start {
     /// It reads the book.
     Read,
-    /// It serves without a book, until there is one.
+    /// It serves without a book until there is one.
     Await,
-    /// It serves nothing.
+    /// It doesn't serve.
     Refuse,
 }
 
 impl FileId {
-    /// Whether both are one file.
+    /// Whether both identities are of one file.
     pub(crate) fn is(&self, other: &FileId) -> bool
         ensures { result ≡ is_one_file self.now other.now }
     {
@@ -75,14 +74,14 @@ impl FileId {
 }
 
 impl FileTime {
-    /// Whether both are one time.
+    /// Whether both times are the same.
     fn is(&self, other: &FileTime) -> bool
         ensures { result ≡ is_one_time self.now other.now }
     {
         self.seconds == other.seconds && self.nanoseconds == other.nanoseconds
     }
 
-    /// Whether it isn't two seconds ago yet, by whole seconds of the clock.
+    /// Whether it is at most two seconds before or after `now`, in whole seconds.
     fn is_near(&self, now: i64) -> bool
         ensures { result ≡ is_near now self.now }
     {
@@ -91,7 +90,7 @@ impl FileTime {
 }
 
 impl Stamp {
-    /// Whether the file is as it was when it had the other stamp.
+    /// Whether the file is unchanged since it had the other stamp.
     pub(crate) fn is(&self, other: &Stamp) -> bool
         ensures { result ≡ is_unchanged self.now other.now }
     {
@@ -99,8 +98,7 @@ impl Stamp {
         self.id.is(&other.id) && same_times && self.len == other.len
     }
 
-    /// Whether the last write or the last change isn't two seconds ago yet, by whole seconds of the
-    /// clock.
+    /// Whether the last write or the last change is at most two seconds before or after `now`.
     fn is_fresh(&self, now: i64) -> bool
         ensures { result ≡ is_fresh now self.now }
     {
@@ -108,12 +106,12 @@ impl Stamp {
     }
 }
 
-/// Plans by the stamp of the file that was read last, the stamp of the file now, and the second of
-/// the clock. Another file is read at once. A file that was written in place is read once its last
-/// write and its last change are two seconds ago, since a front of a book can be a book.
+/// The plan, given the stamp of the file that was read last, the stamp of the file now, and the second of the clock.
+/// Another file is read at once. A file that was written in place is read after its last write and its last change are
+/// more than two seconds ago, since a prefix of a book can be a book.
 ///
-/// That a file of another number is another file is plain. One of the same number is the same file
-/// only while the file that was read last is held open: else its number may have been given away.
+/// A file with another number is another file. A file with the same number is the same file only if the file that was
+/// read last is still open. Otherwise the system may have given its number to another file.
 pub(crate) fn plan_for(last: &Option<Stamp>, seen: &Stamp, now: i64) -> Plan
     ensures { result ≡ plan last.now seen.now now }
 {
@@ -131,8 +129,8 @@ pub(crate) fn plan_for(last: &Option<Stamp>, seen: &Stamp, now: i64) -> Plan
     }
 }
 
-/// Whether a book may follow the one before: where the same file was written, a book without
-/// `members` doesn't follow one that has them.
+/// Whether a book may follow the previous one. If the same file was written, a book without `members` doesn't follow
+/// one that has them.
 pub(crate) fn may_follow(change: Change, had_members: bool, has_members: bool) -> bool
     ensures { result ≡ may_follow change had_members has_members }
 {
@@ -142,9 +140,9 @@ pub(crate) fn may_follow(change: Change, had_members: bool, has_members: bool) -
     }
 }
 
-/// How a start of a home treats its book, by whether the book is there and whether the home had one
-/// before. Without the `members` of a book each caller is in the groups that it claims. So a home
-/// that had a book isn't served without it.
+/// How a start of a home treats its book, given whether the book is there and whether the home had one before. Without
+/// the `members` of a book each caller is in the groups that it claims. Therefore a home that had a book isn't served
+/// without it.
 pub(crate) fn start_for(is_there: bool, was_there: bool) -> Start
     ensures { result ≡ start is_there was_there }
 {
@@ -157,8 +155,8 @@ pub(crate) fn start_for(is_there: bool, was_there: bool) -> Start
     }
 }
 
-/// Whether a book has `members`: whether two callers of one user that send different groups have
-/// the same ones by the book.
+/// Whether a book has `members`. If it has, two callers of one user have the same groups although they claim different
+/// ones.
 pub(crate) fn has_members(book: &Book) -> bool
     ensures { result ≡ is_some book.now.members }
 {

@@ -1,9 +1,9 @@
-//! `nfsd`: a file server over NFS version 4.1 (RFC 8881) that means what its access lists say.
+//! `nfsd`: a file server over NFS version 4.1 (RFC 8881) that enforces access control lists exactly.
 //!
-//! `nfsd` listens on 127.0.0.1, or on the addresses that its words name, and serves its
-//! connections, one after the other or several at a time. With `--bare` it serves one connection of the sample tree, without sessions, from standard
-//! input to standard output. The status is 0; 2 where the words aren't understood, with `clap`'s
-//! text on standard error; and else 1, with the fault on standard error.
+//! `nfsd` listens on 127.0.0.1, or on the addresses of its options. It serves its connections one after the other, or
+//! several at a time. With `--bare` it serves the sample tree to one connection, without sessions, from standard input
+//! to standard output. The status is 0, or 1 after a fault, which is reported on standard error. It is 2 if the words
+//! of the command line are refused; `clap`'s text is then on standard error.
 #![tactic(auto)]
 
 mod addresses;
@@ -21,8 +21,10 @@ mod words;
 
 use anyhow::Result;
 use book_file::BookFile;
+use clap::Error;
+use clap::error::ErrorKind;
 use clock::SystemClock;
-use home::Home;
+use home::{Home, Unmade};
 use listening::{serve_stored, serve_unstored};
 use nfs_hub::{Hub, HubFault, ServeEnd, serve};
 use nfsd_options::Options;
@@ -30,64 +32,72 @@ use std::alloc::Global;
 use std::fmt::{Display, Formatter};
 use std::fs::{File, OpenOptions};
 use std::hash::RandomState;
-use std::io::ErrorKind;
 use std::net::SocketAddr;
 use std::os::fd::AsRawFd;
 use std::process::ExitCode;
 use std::rt::Files;
 use std::{env, fmt, io};
 use store_words::Stop;
+use trail_file::TrailFault;
 use who_book::BookFault;
 
-/// The most turns of a connection: each reads some bytes of it.
+/// The most turns of a connection. Each turn reads some bytes of it.
 const TURNS: u64 = 1_000_000;
 
-/// The faults that keep `nfsd` from serving. While it serves, some of them keep a book from loading.
+/// The faults that keep `nfsd` from serving. Some of them keep a changed book from being loaded.
 #[derive(Drop)]
 enum Fault {
-    /// The home has no book, and had one.
+    /// The home had a book, and has none.
     Missing,
-    /// The book's file can't be read, is no regular file, or isn't UTF-8.
+    /// The book's file can't be read, isn't a regular file, or isn't UTF-8.
     File,
-    /// The home can't keep that it has a book.
-    Note,
+    /// The note that the home has a book can't be written.
+    Note(io::Error),
     /// The book has this fault.
     Book(BookFault),
-    /// The book was written in place of one with `members`, and has none.
+    /// The book was written over one with `members`, and has none.
     Members,
-    /// The hub can't be made, by a fault of this number.
+    /// The hub can't be made. This is the number of its fault.
     Hub(u8),
-    /// The store isn't gone on with.
+    /// The folder of the home can't be made.
+    Home(Unmade),
+    /// The store can't be used.
     Store(Stop),
-    /// The trail's file is that of the book, can't be opened, or can't be written.
-    Trail,
-    /// This address can't be listened on, for this reason.
-    Address(SocketAddr, ErrorKind),
-    /// The system gives no sockets, for this reason; or waiting for the streams failed.
-    Socket(Option<ErrorKind>),
+    /// The trail can't be kept in its file.
+    Trail(TrailFault),
+    /// The server can't listen on this address.
+    Address(SocketAddr, io::Error),
+    /// The system provides no sockets.
+    Sockets(io::Error),
+    /// Waiting for connections failed.
+    Waiting(Option<io::Error>),
+    /// Standard output can't be written.
+    Output(io::Error),
 }
 
 impl Display for Fault {
     fn fmt<W: fmt::Write>(&self, f: &mut Formatter<W>) -> fmt::Result {
         match self {
-            Fault::Missing | Fault::File | Fault::Note => f.write_str("file"),
+            Fault::Missing | Fault::File | Fault::Note(_) => f.write_str("file"),
             Fault::Book(fault) => write!(f, "book {}", *fault as u8),
             Fault::Members => write!(f, "book {}", BookFault::Shape as u8),
             Fault::Hub(number) => write!(f, "hub {number}"),
+            Fault::Home(_) => f.write_str("store 2"),
             Fault::Store(stop) => write!(f, "store {}", stop.number()),
-            Fault::Trail => f.write_str("trail"),
-            Fault::Address(..) | Fault::Socket(_) => f.write_str("socket"),
+            Fault::Trail(_) => f.write_str("trail"),
+            Fault::Address(..) | Fault::Sockets(_) | Fault::Waiting(_) => f.write_str("socket"),
+            Fault::Output(error) => write!(f, "standard output: {error}"),
         }
     }
 }
 
-/// There is no memory to begin with.
+/// The allocation for the hub failed.
 fn hub_fault() -> Fault {
     Fault::Hub(HubFault::Memory as u8)
 }
 
-/// Says on standard error how a connection ended that didn't end after a whole record. Whether it
-/// ended after one. What can't be said isn't said.
+/// Whether a connection ended after a whole record. If not, standard error gets a line about its end. A line that can't
+/// be written is dropped.
 fn ended<R: Eprint>(rt: &R, end: ServeEnd) -> bool {
     if end == ServeEnd::Ended {
         return true;
@@ -103,7 +113,7 @@ fn serve_bare(rt: &HostRuntime, hub: &mut Hub) -> bool {
     ended(rt, end)
 }
 
-/// Serves the sample tree by standard input and output.
+/// Serves the sample tree from standard input to standard output.
 fn serve_sample(rt: &HostRuntime, alloc: Global, hasher: RandomState) -> Result<bool, Fault> {
     match Hub::bare(alloc, alloc, hasher) {
         Ok(mut hub) => Ok(serve_bare(rt, &mut hub)),
@@ -111,8 +121,8 @@ fn serve_sample(rt: &HostRuntime, alloc: Global, hasher: RandomState) -> Result<
     }
 }
 
-/// Serves by the options. The value is whether all went well. `Err` of the outer result: there is no
-/// randomness, or standard output can't be written.
+/// Serves by the options. The value is whether each connection ended after a whole record. The outer result is an error
+/// if the system provides no randomness.
 fn serve_by<'r>(
     rt: &'r HostRuntime,
     alloc: Global,
@@ -128,14 +138,13 @@ fn serve_by<'r>(
         Ok(book) => book,
         Err(fault) => return Ok(Err(fault)),
     };
-    let served = match options.store {
-        Some(path) => serve_stored(rt, alloc, options, path, file, book, hasher)?,
-        None => serve_unstored(rt, alloc, options, file, book, hasher)?,
-    };
-    Ok(served)
+    Ok(match options.store {
+        Some(path) => serve_stored(rt, alloc, options, path, file, book, hasher),
+        None => serve_unstored(rt, alloc, options, file, book, hasher),
+    })
 }
 
-/// The status of the program, by what came of serving. A fault is said on standard error.
+/// The status of the program after serving. A fault is reported on standard error.
 fn status<R: Files + Alloc + Eprint>(
     rt: &R,
     alloc: Global,
@@ -152,7 +161,7 @@ fn status<R: Files + Alloc + Eprint>(
     }
 }
 
-/// Serves by the options, which may be those of a home. The status of the program.
+/// Serves by the options, which a home may have completed. The value is the status of the program.
 fn run_options<'r>(
     rt: &'r HostRuntime,
     alloc: Global,
@@ -163,9 +172,8 @@ fn run_options<'r>(
     Ok(status(rt, alloc, options, served))
 }
 
-/// Says on standard error what `clap` says of the words. A fault has the program's name in front,
-/// and help stays as it is.
-fn report_words<R: Eprint, E: Display>(rt: &R, alloc: Global, error: &E) -> Result<()> {
+/// Prints `clap`'s text on standard error. A fault begins with the program's name, and help is printed as it is.
+fn report_words<R: Eprint>(rt: &R, alloc: Global, error: &Error) -> Result<()> {
     let text = format!(in alloc; "{error}")?;
     match text.as_str().strip_prefix("error: ") {
         Some(fault) => eprint!(rt; "nfsd: {fault}")?,
@@ -174,7 +182,18 @@ fn report_words<R: Eprint, E: Display>(rt: &R, alloc: Global, error: &E) -> Resu
     Ok(())
 }
 
-/// Serves by the words of the command line.
+/// Prints the version on standard output. The value is the status of the program.
+fn report_version<R: Print + Eprint>(rt: &R, version: &Error) -> ExitCode {
+    match print!(rt; "{version}") {
+        Ok(()) => ExitCode::SUCCESS,
+        Err(error) => {
+            let _ = eprintln!(rt; "nfsd: {}", Fault::Output(error));
+            ExitCode::FAILURE
+        }
+    }
+}
+
+/// Serves by the words of the command line, or prints the version or help.
 fn run_words(rt: &HostRuntime, alloc: Global, words: &[String]) -> Result<ExitCode> {
     match Options::read(alloc, words) {
         Ok(options) => match options.home {
@@ -184,6 +203,7 @@ fn run_words(rt: &HostRuntime, alloc: Global, words: &[String]) -> Result<ExitCo
             }
             None => run_options(rt, alloc, &options, None),
         },
+        Err(error) if error.kind() == ErrorKind::DisplayVersion => Ok(report_version(rt, &error)),
         Err(error) => {
             let _ = report_words(rt, alloc, &error);
             Ok(ExitCode::from(2))
@@ -191,14 +211,14 @@ fn run_words(rt: &HostRuntime, alloc: Global, words: &[String]) -> Result<ExitCo
     }
 }
 
-/// The file that takes what is written to it and keeps nothing.
+/// The file that drops each byte that is written to it.
 const NOWHERE: &str = "/dev/null";
 
 /// The descriptors of standard input, output and error are below this one.
 const FIRST_DESCRIPTOR: i32 = 3;
 
-/// Opens a file that stands in for standard input, output or error, where one of them is closed.
-/// Else the next file or socket would have its descriptor, and get what is said there.
+/// Opens a file in place of standard input, output or error if one of them is closed. Otherwise the next file or socket
+/// would take its descriptor, and would get the lines that are meant for it.
 fn open_stand_in(rt: &HostRuntime) -> Option<File> {
     let file = OpenOptions::new().write(true).open(rt, NOWHERE).ok()?;
     if file.as_raw_fd() < FIRST_DESCRIPTOR {
@@ -208,7 +228,7 @@ fn open_stand_in(rt: &HostRuntime) -> Option<File> {
     }
 }
 
-/// Serves by the words that the program was started with.
+/// Runs the program. The value is its status.
 fn run(rt: &HostRuntime) -> Result<ExitCode> {
     let alloc = rt.alloc();
     let words: Vec<String> = env::args(rt)?.collect(alloc)?;

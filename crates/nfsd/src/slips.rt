@@ -1,4 +1,4 @@
-//! Modes of the root that are most likely slips.
+//! Modes of the root that are most likely mistakes.
 
 /// The bits of a mode for reading, writing and executing.
 const PERMISSIONS: u32 = 0o777;
@@ -24,7 +24,7 @@ fn as_octal(mode: u32) -> Option<u32> {
     Some(octal)
 }
 
-/// Whether a line of a book gives the root's mode in decimal digits.
+/// Whether a line of a book has the root's mode in decimal digits.
 fn is_decimal(line: &str) -> bool {
     let Some(rest) = line.trim().strip_prefix("root_mode") else {
         return false;
@@ -38,8 +38,8 @@ fn is_decimal(line: &str) -> bool {
     )
 }
 
-/// Says on standard error that a book's mode of the root is most likely a slip. It does so where
-/// the mode is given in decimal digits that mean another mode in octal: 755 is 0o1363.
+/// Warns on standard error if a book's mode of the root is most likely a mistake: its decimal digits are those of
+/// another mode in octal. For example, 755 is 0o1363.
 pub(crate) fn report<R: Eprint>(rt: &R, path: &str, text: &str, mode: u32) {
     let Some(octal) = as_octal(mode) else {
         return;

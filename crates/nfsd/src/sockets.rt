@@ -1,4 +1,4 @@
-//! Listeners and their sockets, with the system's word which of them are ready.
+//! Listeners and their sockets, and which of them the system reports as ready.
 ghost use Rattle.std.specs.Prelude.{length};
 ghost use Rattle.nfs_streams.specs.Acts.{IsWithin};
 
@@ -14,32 +14,32 @@ use std::io::{ErrorKind, Read, Write};
 use std::net::{Net, SocketAddr};
 use std::time::Duration;
 
-/// The token of the first listener: a number that no place has. Those of the others follow.
+/// The token of the first listener: a number that no place has. The tokens of the others follow.
 const LISTENERS: usize = MAX_CONNECTIONS;
 
 /// The most listeners.
 const MOST_LISTENERS: usize = 8;
 
-/// The most events of one wait: one of each listener and of each stream.
+/// The most events of one wait: one for each listener and each stream.
 const EVENTS: usize = MAX_CONNECTIONS + MOST_LISTENERS;
 
-/// The most streams that are let go unread before the others are looked at again.
+/// The most streams that are closed unread before the other streams have their turn.
 const MOST_TURNED_AWAY: u32 = 64;
 
 /// Whether streams wait to be accepted.
 #[derive(Clone, Copy, PartialEq, Eq)]
 enum Calls {
-    /// None does.
+    /// None waits.
     None,
-    /// Some may: it wasn't looked yet.
+    /// Some may wait.
     Some,
-    /// Many did that were turned away, and more may.
+    /// Many were turned away, and more may wait.
     More,
-    /// One does, and can't be accepted now.
+    /// One waits, and can't be accepted now.
     Stuck,
 }
 
-/// A stream, and whether it may go on: from the event that says so until the stream would block.
+/// A stream, and whether it is ready to be read and written: from the system's event until the stream would block.
 #[derive(Drop)]
 struct Socket {
     stream: TcpStream,
@@ -48,7 +48,7 @@ struct Socket {
 }
 
 impl Socket {
-    /// Notes an event. A stream that failed or was closed tells so at the next read or write.
+    /// Records an event. After a stream has failed or was closed, its next read or write returns that.
     fn note(&mut self, event: &Event) {
         let is_over = event.is_error() || event.is_read_closed() || event.is_write_closed();
         self.readable = self.readable || is_over || event.is_readable();
@@ -61,7 +61,7 @@ impl Socket {
 struct Listener {
     listener: TcpListener,
     calls: Calls,
-    /// Streams from ports that aren't privileged are closed as they come.
+    /// Streams from ports that aren't privileged are closed when they are accepted.
     privileged: bool,
 }
 
@@ -75,8 +75,8 @@ impl Listener {
         }
     }
 
-    /// Accepts the next stream that is served, if one waits. Others are closed as they come, before
-    /// a byte of them is read.
+    /// Accepts the next stream that is served, if one waits. Others are closed when they are accepted, before a byte of
+    /// them is read.
     fn accept(&mut self, networks: &[Network]) -> Option<TcpStream> {
         self.calls = Calls::More;
         for _stream in 0..MOST_TURNED_AWAY {
@@ -107,18 +107,19 @@ impl Listener {
 pub(crate) struct Sockets {
     poll: Poll,
     events: Events<Global>,
-    /// None: nothing listens yet.
     listeners: Vec<Listener>,
-    /// The listener that is looked at first when a stream is wanted.
+    /// The listener that accepts the next stream, if one waits there.
     next: usize,
     /// The networks from which streams are served, beside the machine itself.
     networks: Vec<Network>,
     /// A stream that was accepted, and has no place yet.
     accepted: Option<TcpStream>,
     places: Vec<Option<Socket>>,
+    /// Why the last wait failed.
+    failure: Option<io::Error>,
 }
 
-/// The outcome of a read or a write with this result. `ready` is unset where the stream would block.
+/// The outcome of a read or a write with this result. `ready` becomes false if the stream would block.
 fn moved(gave: io::Result<usize>, most: usize, ready: &mut bool) -> Moved
     ensures { IsWithin result most }
 {
@@ -155,7 +156,7 @@ fn longest(how: Wait, calls: Calls) -> Option<Duration> {
 }
 
 impl Sockets {
-    /// No listener, and no stream. Streams from the machine itself and from these networks will be served.
+    /// No listener, and no stream. Only streams from the machine itself and from these networks will be served.
     pub(crate) fn new(net: &impl Net, alloc: Global, networks: &[Network]) -> io::Result<Self> {
         Ok(Sockets {
             poll: Poll::new(net)?,
@@ -165,10 +166,11 @@ impl Sockets {
             networks: Vec::from_slice(alloc, networks)?,
             accepted: None,
             places: free_places(alloc)?,
+            failure: None,
         })
     }
 
-    /// Listens on an address too; on any free port of it, where the port's number is 0. With `privileged` only streams
+    /// Also listens on an address; if the port's number is 0, on any free port of it. With `privileged` only streams
     /// from ports below 1024 are served there.
     pub(crate) fn listen(
         &mut self,
@@ -194,7 +196,7 @@ impl Sockets {
         self.places.get_mut(place)?.as_mut()
     }
 
-    /// Notes the events of the last wait.
+    /// Records the events of the last wait.
     fn note(&mut self) {
         for event in &self.events {
             let place = event.token().0;
@@ -206,7 +208,7 @@ impl Sockets {
         }
     }
 
-    /// Has the system tell of a stream as the stream of a place. Whether the system does so.
+    /// Asks the system for the events of a stream, as the stream of a place. Whether the system agrees.
     fn is_watched(&self, stream: &mut TcpStream, place: usize) -> bool {
         let both = Interest::READABLE | Interest::WRITABLE;
         self.poll
@@ -215,25 +217,31 @@ impl Sockets {
             .is_ok()
     }
 
-    /// Waits for the system to tell which streams may go on. `false`: the wait failed.
+    /// Waits until the system reports streams that are ready. `false`: the wait failed.
     pub(crate) fn wait(&mut self, how: Wait) -> bool {
         let calls = if self.accepted.is_some() {
             Calls::None
         } else {
             self.calls()
         };
-        if self
-            .poll
-            .poll(&mut self.events, longest(how, calls))
-            .is_err()
-        {
-            return false;
+        match self.poll.poll(&mut self.events, longest(how, calls)) {
+            Ok(()) => {
+                self.note();
+                true
+            }
+            Err(error) => {
+                self.failure = Some(error);
+                false
+            }
         }
-        self.note();
-        true
     }
 
-    /// Whether streams wait to be accepted, by the listener that should be looked at first.
+    /// Takes the reason why the last wait failed.
+    pub(crate) fn take_failure(&mut self) -> Option<io::Error> {
+        self.failure.take()
+    }
+
+    /// Whether streams wait to be accepted, by the listener that comes first.
     fn calls(&self) -> Calls {
         for calls in [Calls::More, Calls::Stuck, Calls::Some] {
             if self
@@ -247,7 +255,7 @@ impl Sockets {
         Calls::None
     }
 
-    /// Accepts the next stream that is served, if one waits, of the listeners in turn.
+    /// Accepts the next stream that is served, if one waits. The listeners have their turns.
     fn accept(&mut self) {
         let count = self.listeners.len();
         for _listener in 0..count {
@@ -263,7 +271,7 @@ impl Sockets {
         }
     }
 
-    /// Whether a stream has come that has no place yet.
+    /// Whether an accepted stream has no place yet, or streams wait to be accepted.
     pub(crate) fn arrival(&mut self) -> Arrival {
         if self.accepted.is_none() {
             self.accept();
@@ -275,7 +283,7 @@ impl Sockets {
         }
     }
 
-    /// Gives a place to the stream that has come.
+    /// Gives a place to the accepted stream.
     pub(crate) fn admit(&mut self, place: usize) {
         let Some(mut stream) = self.accepted.take() else {
             return;
@@ -292,14 +300,14 @@ impl Sockets {
         }
     }
 
-    /// Lets the stream of a place go.
+    /// Closes the stream of a place.
     pub(crate) fn close(&mut self, place: usize) {
         if let Some(taken) = self.places.get_mut(place) {
             *taken = None;
         }
     }
 
-    /// Reads of the stream of a place what is there, as far as it fits.
+    /// Reads available bytes of the stream of a place, as many as fit.
     pub(crate) fn read(&mut self, place: usize, buf: &mut [u8]) -> Moved
         ensures { IsWithin result (length buf.new) }
     {
@@ -313,7 +321,7 @@ impl Sockets {
         moved(socket.stream.read(buf), most, &mut socket.readable)
     }
 
-    /// Writes a front of the bytes to the stream of a place, as far as it takes them.
+    /// Writes a prefix of the bytes to the stream of a place, as many as it accepts.
     pub(crate) fn write(&mut self, place: usize, bytes: &[u8]) -> Moved
         ensures { IsWithin result (length bytes.now) }
     {

@@ -1,4 +1,4 @@
-//! The folder of a store, and why it isn't gone on with.
+//! The folder of a store, and why the server can't use it.
 use crate::Fault;
 use call_store::StoreFault;
 use std::alloc::Global;
@@ -8,7 +8,7 @@ use store_words::Stop;
 /// The folder of a store, on the host's file system.
 pub(crate) type Folder<'r> = StoreFolder<&'r HostRuntime>;
 
-/// Opens the folder of a store. One that is refused is left as it was.
+/// Opens the folder of a store. A refused folder is left as it was.
 pub(crate) fn open_folder<'r>(rt: &'r HostRuntime, path: &str) -> Result<Folder<'r>, Fault> {
     match StoreFolder::open(rt, path) {
         Ok(folder) => Ok(folder),
@@ -16,7 +16,7 @@ pub(crate) fn open_folder<'r>(rt: &'r HostRuntime, path: &str) -> Result<Folder<
     }
 }
 
-/// Why a store isn't opened, begun or gone on with.
+/// Why a store can't be opened, and why an entry can't be logged.
 pub(crate) fn stop_of(alloc: Global, folder: &mut Folder<'_>, fault: StoreFault) -> Fault {
     Fault::Store(Stop::of(alloc, folder, fault))
 }

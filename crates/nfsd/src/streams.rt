@@ -5,7 +5,7 @@ use crate::book_file::BookFile;
 use crate::listening::open_trail;
 use crate::sockets::Sockets;
 use crate::stored::{Folder, stop_of};
-use crate::trail_file::TrailFile;
+use crate::trail_file::{TrailFault, TrailFile};
 use call_store::StoreFault;
 use compound_run::Server;
 use kept_server::Site;
@@ -21,34 +21,26 @@ use store_journal::{Disk, Identity, LoadFault, Slot};
 use store_words::Stop;
 use who_book::Book;
 
-/// Why it isn't listened.
-#[derive(Drop)]
-enum Unready {
-    /// This keeps `nfsd` from serving.
-    Fault(Fault),
-    /// Standard output can't be written.
-    Output(io::Error),
-}
-
-/// Sockets, once they listen, and the file of the book. Beside these stand the folder of the store,
-/// if there is one, and the file in which the trail is kept, if it is kept.
+/// The sockets, once they listen; the folder of the store and the file of the trail, if the options name them; and the
+/// file of the book.
 #[derive(Drop)]
 pub(crate) struct Served<'a, R: Files> {
     rt: &'a R,
     alloc: Global,
     options: &'a Options<'a>,
-    /// `None`: nothing listens yet.
+    /// `None`: the server doesn't listen yet.
     sockets: Option<Sockets>,
     folder: Option<Folder<'a>>,
     trail: Option<TrailFile<'a, R>>,
     book: BookFile<'a, R>,
     /// Each connection so far ended after a whole record.
     are_whole: bool,
-    unready: Option<Unready>,
+    /// Why the server can't listen.
+    unready: Option<Fault>,
 }
 
 impl<'a, R: Files + Eprint> Served<'a, R> {
-    /// These, before it is listened, and before the trail is opened.
+    /// The streams, before the server listens and before the trail is opened.
     pub(crate) fn new(
         rt: &'a R,
         alloc: Global,
@@ -79,16 +71,12 @@ impl<'a, R: Files + Eprint> Served<'a, R> {
         self.folder.as_ref()?.new_identity()
     }
 
-    /// Why it isn't listened.
-    pub(crate) fn unready(&mut self) -> io::Result<Fault> {
-        match self.unready.take() {
-            Some(Unready::Fault(fault)) => Ok(fault),
-            Some(Unready::Output(error)) => Err(error),
-            None => Ok(Fault::Socket(None)),
-        }
+    /// Why the server can't listen.
+    pub(crate) fn unready(&mut self) -> Fault {
+        self.unready.take().unwrap_or(Fault::Waiting(None))
     }
 
-    /// Why the store isn't opened, or begun.
+    /// Why the store can't be opened or begun.
     pub(crate) fn unopened(&mut self, fault: StoreFault) -> Fault {
         match &mut self.folder {
             Some(folder) => stop_of(self.alloc, folder, fault),
@@ -96,7 +84,7 @@ impl<'a, R: Files + Eprint> Served<'a, R> {
         }
     }
 
-    /// Why nothing more is stored: the disk has failed; or, where it hasn't, there is no memory.
+    /// Why the store can't be written any more: the disk has failed, or else an allocation.
     pub(crate) fn store_stop(&mut self) -> Fault {
         Fault::Store(Stop::Folder(match &mut self.folder {
             Some(folder) => match folder.take_failure() {
@@ -107,9 +95,21 @@ impl<'a, R: Files + Eprint> Served<'a, R> {
         }))
     }
 
-    /// Says on standard error how a connection ended that didn't end after a whole record. What
-    /// can't be said isn't said. Of those that were open when serving ended the end of serving is
-    /// said.
+    /// Why the last wait for connections failed.
+    pub(crate) fn take_wait_failure(&mut self) -> Option<io::Error> {
+        self.sockets.as_mut()?.take_failure()
+    }
+
+    /// Why the trail can't be kept any more.
+    pub(crate) fn take_trail_fault(&mut self) -> TrailFault {
+        match self.trail.take() {
+            Some(trail) => trail.into_fault(),
+            None => TrailFault::Unwritten(None),
+        }
+    }
+
+    /// Reports the end of a connection on standard error, unless it ended after a whole record. A line that can't be
+    /// written is dropped. Connections that are open when serving ends get no line: the end of serving has one.
     fn note(&mut self, end: StreamEnd) {
         if matches!(end, StreamEnd::Ended | StreamEnd::Stopped) {
             return;
@@ -121,20 +121,20 @@ impl<'a, R: Files + Eprint> Served<'a, R> {
 }
 
 impl<R: Files + Net + Alloc + Print + Eprint + Clock> Served<'_, R> {
-    /// Opens the trail, listens on each address, and says so.
-    fn listen(&mut self) -> Result<(), Unready> {
-        self.trail = open_trail(self.rt, self.options).map_err(Unready::Fault)?;
+    /// Opens the trail, listens on each address, and prints the addresses.
+    fn listen(&mut self) -> Result<(), Fault> {
+        self.trail = open_trail(self.rt, self.options)?;
         let mut sockets = match Sockets::new(self.rt, self.alloc, &self.options.allow) {
             Ok(sockets) => sockets,
-            Err(error) => return Err(Unready::Fault(Fault::Socket(Some(error.kind())))),
+            Err(error) => return Err(Fault::Sockets(error)),
         };
-        listen_on_all(self.rt, &mut sockets, self.options).map_err(Unready::Fault)?;
+        listen_on_all(self.rt, &mut sockets, self.options)?;
         self.sockets = Some(sockets);
-        announce(self.rt, self.options).map_err(Unready::Output)
+        announce(self.rt, self.options).map_err(Fault::Output)
     }
 }
 
-/// The files of the store. Where there is none, each call fails.
+/// The files of the store. Without a store each call fails.
 impl<R: Files> Disk for Served<'_, R> {
     fn load_current<A: Allocator>(&mut self, alloc: A) -> Result<Option<Vec<u8, A>>, LoadFault> {
         match &mut self.folder {

@@ -2,37 +2,91 @@
 use crate::book_file::id_of;
 use crate::book_rule::FileId;
 use crate::clock::second;
+use crate::home::FILE_MODE;
 use access_guard::Guard;
+use nfsd_options::Options;
+use std::fmt::{Display, Formatter};
 use std::fs::{OpenFile, OpenOptions};
-use std::io::{Read, Seek, SeekFrom};
-use std::os::unix::fs::MetadataExt;
+use std::io::{Read, Seek, SeekFrom, Write};
+use std::os::unix::fs::{MetadataExt, OpenOptionsExt};
 use std::rt::{Clock, Files};
-use std::{fs, io};
+use std::{fmt, fs, io};
 use store_folder::{Bounded, Part, file_limit};
 use trail_keeper::{TrailKeeper, moment_text};
 
-/// The file that a name leads to, opened to append to, and which file it is.
+/// Why the trail can't be kept in a file. The text follows the file's path.
+#[derive(Drop)]
+pub(crate) enum TrailFault {
+    /// It is the file of the book.
+    Book,
+    /// It is a file of the store.
+    Store,
+    /// The system doesn't open it, for this reason.
+    Unopened(io::Error),
+    /// The system doesn't write it, for this reason. `None`: it reported no reason.
+    Unwritten(Option<io::Error>),
+}
+
+impl Display for TrailFault {
+    fn fmt<W: fmt::Write>(&self, f: &mut Formatter<W>) -> fmt::Result {
+        match self {
+            TrailFault::Book => f.write_str(": it is the file of the book"),
+            TrailFault::Store => f.write_str(": it is a file of the store"),
+            TrailFault::Unopened(error) => write!(f, ": it can't be opened: {error}"),
+            TrailFault::Unwritten(Some(error)) => write!(f, ": it can't be written: {error}"),
+            TrailFault::Unwritten(None) => f.write_str(": it can't be written"),
+        }
+    }
+}
+
+/// A writer, and the reason of its last write that failed.
+#[derive(Drop)]
+struct Watched<W> {
+    out: W,
+    failure: Option<io::Error>,
+}
+
+impl<W: Write> Write for Watched<W> {
+    ghost contents = { λ b. W.contents b.out };
+
+    fn write(&mut self, buf: &[u8]) -> io::Result<usize> {
+        match self.out.write(buf) {
+            Ok(count) => Ok(count),
+            Err(error) => {
+                let kind = error.kind();
+                self.failure = Some(error);
+                Err(kind.into())
+            }
+        }
+    }
+
+    fn flush(&mut self) -> io::Result<()> {
+        self.out.flush()
+    }
+}
+
+/// The file that a name refers to, opened to append to, and its number.
 #[derive(Drop)]
 struct Opened<F> {
-    file: Bounded<F>,
+    file: Watched<Bounded<F>>,
     id: FileId,
 }
 
-/// The file in which the trail is kept, and whatever file its name leads to later.
+/// The file in which the trail is kept, and each file that its name refers to later.
 #[derive(Drop)]
 pub(crate) struct TrailFile<'a, R: Files> {
     rt: &'a R,
     path: &'a str,
-    /// The name of the book's file, which is no file of a trail.
-    book: Option<&'a str>,
-    /// Each line begins with its moment.
-    is_stamped: bool,
-    /// Which file is written.
+    options: &'a Options<'a>,
+    /// The file that is written.
     id: FileId,
-    keeper: TrailKeeper<Bounded<R::File>>,
+    keeper: TrailKeeper<Watched<Bounded<R::File>>>,
+    /// Why the file that the name refers to now can't be opened.
+    fault: Option<TrailFault>,
 }
 
-/// The last byte of a file, where it is regular and not empty; another byte than a newline, where it can't be read.
+/// The last byte of a file. `None`: the file is empty or isn't regular. A byte that can't be read counts as one that
+/// isn't a newline.
 fn last_byte<R: Files>(rt: &R, path: &str) -> Option<u8> {
     let answer = fs::metadata(rt, path).ok()?;
     if !answer.is_file() || answer.len() == 0 {
@@ -50,7 +104,7 @@ fn read_last<R: Files>(rt: &R, path: &str) -> io::Result<u8> {
     Ok(byte[0])
 }
 
-/// Whether a name leads to this file.
+/// Whether a name refers to this file.
 fn is_at<R: Files>(rt: &R, path: &str, id: &FileId) -> bool {
     match fs::metadata(rt, path) {
         Ok(answer) => id_of(&answer).is(id),
@@ -58,16 +112,23 @@ fn is_at<R: Files>(rt: &R, path: &str, id: &FileId) -> bool {
     }
 }
 
-/// Whether two names lead to one file.
-pub(crate) fn is_same_file<R: Files>(rt: &R, path: &str, other: &str) -> bool {
+/// Whether two names refer to one file.
+fn is_same_file<R: Files>(rt: &R, path: &str, other: &str) -> bool {
     match fs::metadata(rt, other) {
         Ok(answer) => is_at(rt, path, &id_of(&answer)),
         Err(_) => false,
     }
 }
 
-/// Whether a name leads to a file of the store in a folder.
-pub(crate) fn is_of_store<R: Files + Alloc>(rt: &R, path: &str, folder: &str) -> bool {
+/// Whether a name refers to the file of the book.
+fn is_of_book<R: Files>(rt: &R, path: &str, options: &Options<'_>) -> bool {
+    options
+        .book
+        .is_some_and(|book| is_same_file(rt, book, path))
+}
+
+/// Whether a name refers to a file of the store in a folder.
+fn is_of_store<R: Files + Alloc>(rt: &R, path: &str, folder: &str) -> bool {
     for part in [
         Part::Lock,
         Part::Current,
@@ -84,10 +145,13 @@ pub(crate) fn is_of_store<R: Files + Alloc>(rt: &R, path: &str, folder: &str) ->
     false
 }
 
-/// Opens a file to append to. It is made where there is none.
-fn open_at<R: Files + Alloc>(rt: &R, path: &str) -> io::Result<Opened<R::File>> {
+/// Opens a file to append to. It is made if it is missing; `is_private`: only for its owner.
+fn open_at<R: Files + Alloc>(rt: &R, path: &str, is_private: bool) -> io::Result<Opened<R::File>> {
     let mut how = OpenOptions::new();
     how.append(true).create(true);
+    if is_private {
+        how.mode(FILE_MODE);
+    }
     let file = how.open(rt, path)?;
     let answer = file.metadata()?;
     let room = if answer.is_file() {
@@ -96,54 +160,84 @@ fn open_at<R: Files + Alloc>(rt: &R, path: &str) -> io::Result<Opened<R::File>> 
         u64::MAX
     };
     Ok(Opened {
-        file: Bounded::new(file, room),
+        file: Watched {
+            out: Bounded::new(file, room),
+            failure: None,
+        },
         id: id_of(&answer),
     })
 }
 
-/// Opens the file of a trail, unless it is that of the book.
-fn open_trail<R: Files + Alloc>(rt: &R, path: &str, book: Option<&str>) -> Option<Opened<R::File>> {
-    let opened = open_at(rt, path).ok()?;
-    match book {
-        Some(book) if is_at(rt, book, &opened.id) => None,
-        _ => Some(opened),
+/// Opens the file of a trail, unless it is the file of the book. In a home it is made only for its owner.
+fn open_trail<R: Files + Alloc>(
+    rt: &R,
+    path: &str,
+    options: &Options<'_>,
+) -> Result<Opened<R::File>, TrailFault> {
+    match open_at(rt, path, options.home.is_some()) {
+        Err(_) if is_of_book(rt, path, options) => Err(TrailFault::Book),
+        Err(error) => Err(TrailFault::Unopened(error)),
+        Ok(opened) => match options.book {
+            Some(book) if is_at(rt, book, &opened.id) => Err(TrailFault::Book),
+            _ => Ok(opened),
+        },
+    }
+}
+
+impl<R: Files> TrailFile<'_, R> {
+    /// Why the trail can't be kept any more.
+    pub(crate) fn into_fault(self) -> TrailFault {
+        let TrailFile { keeper, fault, .. } = self;
+        match fault {
+            Some(fault) => fault,
+            None => TrailFault::Unwritten(keeper.into_inner().failure),
+        }
     }
 }
 
 impl<'a, R: Files + Alloc + Clock> TrailFile<'a, R> {
-    /// Opens the file, ends its last line, and writes the line of a start, where lines have their
-    /// moments. `None`: it is the file of the book, or can't be opened or written.
+    /// Opens the file, ends its last line, and writes the line of a start if lines have their times. A file of the
+    /// book or of the store is refused.
     pub(crate) fn start(
         rt: &'a R,
         path: &'a str,
-        book: Option<&'a str>,
-        is_stamped: bool,
-    ) -> Option<Self> {
-        let Opened { file, id } = open_trail(rt, path, book)?;
+        options: &'a Options<'a>,
+    ) -> Result<Self, TrailFault> {
+        if options
+            .store
+            .is_some_and(|folder| is_of_store(rt, path, folder))
+        {
+            return Err(TrailFault::Store);
+        }
+        let Opened { file, id } = open_trail(rt, path, options)?;
         let mut trail = TrailFile {
             rt,
             path,
-            book,
-            is_stamped,
+            options,
             id,
             keeper: TrailKeeper::new(file),
+            fault: None,
         };
-        if trail.begin() { Some(trail) } else { None }
+        if trail.begin() {
+            Ok(trail)
+        } else {
+            Err(trail.into_fault())
+        }
     }
 
-    /// Ends the file's last line, and writes the line of a start, where lines have their moments.
+    /// Ends the file's last line, and writes the line of a start if lines have their times.
     fn begin(&mut self) -> bool {
         if !self.keeper.end_line(last_byte(self.rt, self.path)) {
             return false;
         }
-        if !self.is_stamped {
+        if !self.options.stamped {
             return true;
         }
         self.keeper.start(&moment_text(second(self.rt)))
     }
 
-    /// Keeps the lines that aren't kept yet. Where the name leads to another file than the one that
-    /// was written, that one is gone on with. `false`: they can't be kept.
+    /// Appends the lines that aren't appended yet. If the name refers to another file than before, they go to that
+    /// file. `false`: they can't be appended.
     pub(crate) fn keep(&mut self, guard: &Guard) -> bool {
         if !self.keeper.has_new(guard) {
             return self.keeper.keep(guard);
@@ -151,27 +245,30 @@ impl<'a, R: Files + Alloc + Clock> TrailFile<'a, R> {
         if !self.follow() {
             return false;
         }
-        if self.is_stamped {
+        if self.options.stamped {
             self.keeper.keep_after(guard, &moment_text(second(self.rt)))
         } else {
             self.keeper.keep(guard)
         }
     }
 
-    /// Goes on with the file that the name leads to.
+    /// Continues with the file that the name refers to.
     fn follow(&mut self) -> bool {
         is_at(self.rt, self.path, &self.id) || self.open_anew()
     }
 
-    /// Opens the file that the name leads to now, and goes on with it.
+    /// Opens the file that the name refers to now, and continues with it.
     fn open_anew(&mut self) -> bool {
-        match open_trail(self.rt, self.path, self.book) {
-            Some(opened) => self.go_on(opened),
-            None => false,
+        match open_trail(self.rt, self.path, self.options) {
+            Ok(opened) => self.go_on(opened),
+            Err(fault) => {
+                self.fault = Some(fault);
+                false
+            }
         }
     }
 
-    /// Goes on with this file, whose last line is ended.
+    /// Continues with this file, whose last line is ended.
     fn go_on(&mut self, opened: Opened<R::File>) -> bool {
         let Opened { file, id } = opened;
         self.keeper.replace(file);

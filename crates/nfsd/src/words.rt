@@ -1,26 +1,37 @@
-//! The second line of a fault: what it is about, what is wrong, and what would do.
+//! The second line of a fault: what it is about, what is wrong, and what would help.
 use crate::Fault;
 use crate::addresses::Addresses;
-use crate::trail_file::{is_of_store, is_same_file};
 use book_words::explain;
 use nfsd_options::Options;
 use std::alloc::Global;
-use std::fs;
+use std::fmt::Display;
 use std::io::ErrorKind;
 use std::net::SocketAddr;
 use std::rt::Files;
+use std::{fs, io};
 use who_book::BookFault;
 
-/// Says why there is no file of a book.
-fn report_file<R: Files + Eprint>(rt: &R, path: &str) {
+/// Reports why a regular file gives no text. It is read again to find the reason.
+fn report_text<R: Files + Alloc + Eprint>(rt: &R, path: &str) -> io::Result<()> {
+    match fs::read_to_string(rt, path) {
+        Err(error) if error.kind() == ErrorKind::InvalidData => {
+            eprintln!(rt; "{path}: it isn't UTF-8")
+        }
+        Err(error) => eprintln!(rt; "{path}: it can't be read: {error}"),
+        Ok(_) => eprintln!(rt; "{path}: it can't be read, or isn't UTF-8"),
+    }
+}
+
+/// Reports why a file gives no book.
+fn report_file<R: Files + Alloc + Eprint>(rt: &R, path: &str) {
     let _ = match fs::metadata(rt, path) {
         Err(error) => eprintln!(rt; "{path}: {error}"),
         Ok(metadata) if !metadata.is_file() => eprintln!(rt; "{path}: it is no regular file"),
-        Ok(_) => eprintln!(rt; "{path}: it can't be read, or isn't UTF-8"),
+        Ok(_) => report_text(rt, path),
     };
 }
 
-/// Says what is wrong with a book that has this fault.
+/// Reports what is wrong with a book that has this fault.
 fn report_book<R: Files + Alloc + Eprint>(rt: &R, alloc: Global, path: &str, fault: BookFault) {
     let Ok(text) = fs::read_to_string(rt, path) else {
         return;
@@ -30,7 +41,7 @@ fn report_book<R: Files + Alloc + Eprint>(rt: &R, alloc: Global, path: &str, fau
     }
 }
 
-/// Says why the file of a name gives no book, by the fault that was found.
+/// Reports why the file of a name gives no book, by the fault that was found.
 pub(crate) fn report_no_book<R: Files + Alloc + Eprint>(
     rt: &R,
     alloc: Global,
@@ -45,9 +56,9 @@ pub(crate) fn report_no_book<R: Files + Alloc + Eprint>(
             );
         }
         Fault::File => report_file(rt, path),
-        Fault::Note => {
+        Fault::Note(error) => {
             let _ = eprintln!(rt;
-                "{path}: had-book can't be written beside it, and no book counts without that"
+                "{path}: had-book can't be written beside it, and no book counts without that: {error}"
             );
         }
         Fault::Book(fault) => report_book(rt, alloc, path, *fault),
@@ -56,45 +67,40 @@ pub(crate) fn report_no_book<R: Files + Alloc + Eprint>(
                 "{path}: members: the key is missing, which the book before has; members = {{}} says nobody"
             );
         }
-        Fault::Hub(_) | Fault::Store(_) | Fault::Trail | Fault::Address(..) | Fault::Socket(_) => {}
+        _ => {}
     }
 }
 
-/// Says why the trail isn't kept in the file of a name.
-fn report_trail<R: Files + Alloc + Eprint>(rt: &R, path: &str, options: &Options<'_>) {
-    let _ = match (options.book, options.store) {
-        (Some(book), _) if is_same_file(rt, book, path) => {
-            eprintln!(rt; "{path}: it is the file of the book")
+/// Reports why the server can't listen on an address.
+fn report_address<R: Eprint>(rt: &R, address: SocketAddr, error: &io::Error) {
+    let _ = match error.kind() {
+        ErrorKind::AddrInUse => eprintln!(rt; "{address}: in use"),
+        ErrorKind::PermissionDenied => eprintln!(rt; "{address}: only root may listen there"),
+        ErrorKind::AddrNotAvailable => {
+            eprintln!(rt; "{address}: this machine has no such address")
         }
-        (_, Some(folder)) if is_of_store(rt, path, folder) => {
-            eprintln!(rt; "{path}: it is a file of the store")
-        }
-        _ => eprintln!(rt; "{path}: it can't be opened, or can't be written"),
+        _ => eprintln!(rt; "{address}: it can't be listened on: {error}"),
     };
 }
 
-/// Says why an address isn't listened on.
-fn say_address<R: Eprint>(rt: &R, address: SocketAddr, kind: ErrorKind) {
-    let why = match kind {
-        ErrorKind::AddrInUse => "in use",
-        ErrorKind::PermissionDenied => "only root may listen there",
-        ErrorKind::AddrNotAvailable => "this machine has no such address",
-        _ => "it can't be listened on",
-    };
-    let _ = eprintln!(rt; "{address}: {why}");
-}
-
-/// Says why no address is served.
-fn report_socket<R: Eprint>(rt: &R, options: &Options<'_>, kind: Option<ErrorKind>) {
-    let why = match kind {
-        Some(_) => "it can't be listened on",
-        None => "no connection can be waited for",
-    };
+/// Reports why no connection can be waited for.
+fn report_wait<R: Eprint>(rt: &R, options: &Options<'_>, error: &Option<io::Error>) {
     let addresses = Addresses::of(options);
-    let _ = eprintln!(rt; "{addresses}: {why}");
+    let _ = match error {
+        Some(error) => { eprintln!(rt; "{addresses}: no connection can be waited for: {error}") }
+        None => eprintln!(rt; "{addresses}: no connection can be waited for"),
+    };
 }
 
-/// Says a fault that keeps `nfsd` from serving, in two lines on standard error. What can't be said isn't said.
+/// Reports why the file or folder of an option can't be used. The reason follows its path.
+fn report_path<R: Eprint, W: Display>(rt: &R, path: Option<&str>, why: &W) {
+    if let Some(path) = path {
+        let _ = eprintln!(rt; "{path}{why}");
+    }
+}
+
+/// Reports a fault that keeps `nfsd` from serving, on standard error. The first line is for programs. The second one is
+/// for people: it names the file or the address, and has the reason. A line that can't be written is dropped.
 pub(crate) fn report<R: Files + Alloc + Eprint>(
     rt: &R,
     alloc: Global,
@@ -103,7 +109,7 @@ pub(crate) fn report<R: Files + Alloc + Eprint>(
 ) {
     let _ = eprintln!(rt; "nfsd: {fault}");
     match fault {
-        Fault::Missing | Fault::File | Fault::Note | Fault::Book(_) | Fault::Members => {
+        Fault::Missing | Fault::File | Fault::Note(_) | Fault::Book(_) | Fault::Members => {
             if let Some(path) = options.book {
                 report_no_book(rt, alloc, path, fault);
             }
@@ -111,17 +117,15 @@ pub(crate) fn report<R: Files + Alloc + Eprint>(
         Fault::Hub(_) => {
             let _ = eprintln!(rt; "there is no memory to begin with");
         }
-        Fault::Store(stop) => {
-            if let Some(path) = options.store {
-                let _ = eprintln!(rt; "{path}{stop}");
-            }
+        Fault::Home(why) => report_path(rt, options.home, why),
+        Fault::Store(stop) => report_path(rt, options.store, stop),
+        Fault::Trail(why) => report_path(rt, options.trail, why),
+        Fault::Address(address, error) => report_address(rt, *address, error),
+        Fault::Sockets(error) => {
+            let addresses = Addresses::of(options);
+            let _ = eprintln!(rt; "{addresses}: it can't be listened on: {error}");
         }
-        Fault::Trail => {
-            if let Some(path) = options.trail {
-                report_trail(rt, path, options);
-            }
-        }
-        Fault::Address(address, kind) => say_address(rt, *address, *kind),
-        Fault::Socket(kind) => report_socket(rt, options, *kind),
+        Fault::Waiting(error) => report_wait(rt, options, error),
+        Fault::Output(_) => {}
     }
 }

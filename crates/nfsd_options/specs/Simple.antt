@@ -1,8 +1,8 @@
 -- The command of `nfsd` as `clap` sees a simple command:
 -- `nfsd [--book FILE] [--bare] [--port N] [--connections N] [--concurrent] [--trail FILE]
 -- [--stamped] [--privileged-ports] [--store FOLDER] [--leases] [--home FOLDER] [--listen ADDRESS]..
--- [--allow NETWORK].. [--any-port]`.
-use Rattle.std.specs.Prelude.{codes, Some, pos}
+-- [--allow NETWORK].. [--any-port]`, or `nfsd --version`.
+use Rattle.std.specs.Prelude.{codes, Some, pos, true}
 use Rattle.clap.specs.Words.{App, Rule, Text, new_app, new_rule, with_rule}
 use Rattle.clap.specs.declared.builder.action.ArgAction.TheVariants.{Append, SetTrue}
 use Rattle.clap.specs.declared.builder.value_parser.ValueParser.TheVariants as vp
@@ -83,9 +83,13 @@ allow_rule = list_rule (codes "allow")
 abbrev pub any_port_rule : Rule
 any_port_rule = flag_rule (codes "any-port")
 
+-- the command has a version, so `-V` and `--version` ask for it
+abbrev pub with_version : App → App
+with_version app = record app { top = record app.top { has_version = true } }
+
 abbrev pub nfsd : App
 nfsd =
-    let prefix = with_rule (with_rule (new_app (codes "nfsd")) book_rule) bare_rule in
+    let prefix = with_rule (with_rule (with_version (new_app (codes "nfsd"))) book_rule) bare_rule in
     let numbers = with_rule (with_rule prefix port_rule) connections_rule in
     let serving = with_rule (with_rule numbers concurrent_rule) trail_rule in
     let keeping = with_rule (with_rule (with_rule serving stamped_rule) privileged_rule) store_rule in

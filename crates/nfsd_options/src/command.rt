@@ -6,23 +6,25 @@ ghost use Rattle.nfsd_options.specs.Simple.{connections_rule, file_rule, flag_ru
 ghost use Rattle.nfsd_options.specs.Simple.{list_rule, listen_rule, nfsd, port_rule, privileged_rule};
 ghost use Rattle.nfsd_options.specs.Simple.{stamped_rule, store_rule, trail_rule};
 
+use build_record::version;
 use clap::builder::ValueParser;
 use clap::{Arg, ArgAction, Command, value_parser};
 use std::alloc::{AllocError, Global};
 
 /// The files that are served, and the address.
 const ABOUT: &str = "\
-Serves files over NFS version 4.1, and means what their access control lists say.
+Serves files over NFS version 4.1, and enforces their access control lists exactly.
 
-It listens on 127.0.0.1, prints 'listening on 127.0.0.1:PORT', serves its connections, one after the
-other unless told else, and ends. With '--listen ADDRESS' it listens on that address, and with
-'--allow NETWORK' it serves whoever connects from that network. The files are kept in memory: an empty root at first, which
-belongs to whom the book says. With '--store FOLDER' they are kept in that folder too, and outlive
-the server: nothing that was answered is lost, whatever ends it.";
+It listens on 127.0.0.1, prints 'listening on 127.0.0.1:PORT', serves its connections one after the
+other, and ends. With '--concurrent' it serves several at the same time. With '--listen ADDRESS' it
+listens on that address, and with '--allow NETWORK' it serves connections from that network. The
+files are kept in memory. There is an empty root at first, and the book names its owner. With
+'--store FOLDER' the files are kept in that folder too, and outlive the server: no acknowledged
+operation is lost, whatever ends it.";
 
 /// The form of a book, with an example.
 const BOOK: &str = "\
-A book gives users and groups their names, and may say which users are in which groups. It is a file
+A book gives users and groups their names, and may list the members of groups. It is a file
 in TOML with these seven keys, of which 'members' may be missing, and no others:
 
     domain = \"example.org\"
@@ -37,18 +39,18 @@ Without a book there are no names, the domain is 'localdomain', and the root bel
 group 0, with mode 0o755.
 
 With 'members' a user is in the groups whose array names it, at most 17, and in no others; without
-it, in those that its calls say.
+it, in the groups that its calls claim.
 
-Where the file of the book changes, it is loaded anew: with the next call where another file was
-moved into its place, else once the file hasn't changed for two seconds. Where it can't be read or
-isn't a book, or has no 'members' while the book before has them, a line on standard error says so,
-and the book before stays.
+When the file of the book changes, it is loaded again: with the next call if another file was moved
+to its place, or else after two seconds without a change. If it can't be read, isn't a book, or
+lacks the 'members' that the previous book has, standard error gets a line, and the previous book
+stays.
 
-Nobody overrides a list, root neither: an object whose list grants nobody to change it (WRITE_ACL)
-is locked, for its owner too, as long as the server runs, and with '--store' for good. Sticky,
-setuid and setgid bits are kept and shown, and have no effect. A change of the mode cuts the entries
-of named users and groups: those that allow keep no right to read, write or execute that the group's
-bits lack.
+Nobody overrides a list, not even root. If the list of an object allows nobody to change it
+(WRITE_ACL), the object is locked, also for its owner, as long as the server runs, and with
+'--store' for ever. Sticky, setuid and setgid bits are kept and shown, and have no effect. A change
+of the mode restricts the entries of named users and groups: an entry that allows keeps no right to
+read, write or execute that the group's bits lack.
 
 For example, two connections on port 12049:
 
@@ -62,12 +64,12 @@ and the same with files that are there again after a restart:
 
     nfsd --concurrent --trail trail.txt --store tree
 
-and all of it in one folder, with the book where it is there:
+and all of it in one folder, with the book if it is there:
 
     nfsd --home office
 
-and that for the machines of a network. The server believes each of them about who its users are,
-and nothing on the way is encrypted:
+and the same for the machines of a network. The server trusts each of them about its users, and
+nothing is encrypted on the way:
 
     nfsd --home office --listen 192.0.2.7 --allow 192.0.2.0/24";
 
@@ -76,6 +78,7 @@ pub(crate) fn command<'a>(alloc: Global) -> Result<Command<'a>, AllocError>
     ensures { IfOk result (λ c. app_of c ≡ nfsd) }
 {
     let command = Command::new(alloc, "nfsd")
+        .version(version())
         .about(ABOUT)
         .after_help(BOOK)
         .arg(book(alloc))?
@@ -95,7 +98,7 @@ pub(crate) fn command<'a>(alloc: Global) -> Result<Command<'a>, AllocError>
     Ok(command)
 }
 
-/// An option that names a file or a folder, and not by an empty name.
+/// An option that names a file or a folder. The empty name is refused.
 fn file<'a>(alloc: Global, name: &'a str, what: &'a str, help: &'a str) -> Arg<'a>
     ensures { (rule_of result ≡ file_rule name.entry.now) × (result.global ≡ false) }
 {
@@ -106,6 +109,7 @@ fn file<'a>(alloc: Global, name: &'a str, what: &'a str, help: &'a str) -> Arg<'
         .help(help)
 }
 
+/// An option without a value.
 fn flag<'a>(alloc: Global, name: &'a str, help: &'a str) -> Arg<'a>
     ensures { (rule_of result ≡ flag_rule name.entry.now) × (result.global ≡ false) }
 {
@@ -139,7 +143,7 @@ fn bare<'a>(alloc: Global) -> Arg<'a>
     flag(
         alloc,
         "bare",
-        "Serves a sample tree, without sessions, from standard input to standard output, whatever the book",
+        "Serves a sample tree, without sessions and without a book, from standard input to standard output",
     )
 }
 
@@ -192,7 +196,7 @@ fn stamped<'a>(alloc: Global) -> Arg<'a>
     flag(
         alloc,
         "stamped",
-        "Begins each line of the trail's file with its moment, in UTC, and writes a line START at each start; \
+        "Begins each line of the trail's file with its time in UTC, and writes a line START at each start; \
          only with --trail",
     )
 }
@@ -214,7 +218,7 @@ fn store<'a>(alloc: Global) -> Arg<'a>
         alloc,
         "store",
         "FOLDER",
-        "Keeps the files in this folder, which is made where it isn't there, before the replies go out; \
+        "Keeps the files in this folder, which is made if it is missing, before the replies go out; \
          not with --bare",
     )
 }
@@ -225,8 +229,8 @@ fn leases<'a>(alloc: Global) -> Arg<'a>
     flag(
         alloc,
         "leases",
-        "Lets a client go of which nothing was heard for more than 90 seconds, where more than half of the clients, \
-         sessions or open files that may be there are",
+        "Expires a client that was silent for more than 90 seconds, if more than half of the permitted clients, \
+         sessions or open files are in use",
     )
 }
 
@@ -238,7 +242,7 @@ fn home<'a>(alloc: Global) -> Arg<'a>
         "home",
         "FOLDER",
         "One folder for all: stands for '--concurrent --leases --store FOLDER/store --trail FOLDER/trail.txt \
-         --stamped', and '--book FOLDER/book.toml' where that file is there",
+         --stamped', and '--book FOLDER/book.toml' if that file is there",
     )
 }
 
@@ -249,7 +253,7 @@ fn listen<'a>(alloc: Global) -> Arg<'a>
         alloc,
         "listen",
         "ADDRESS",
-        "Listens on this IPv4 or IPv6 address; up to 8 times, and where it is no loopback address with '--allow'; \
+        "Listens on this IPv4 or IPv6 address; up to 8 times; an address that isn't loopback needs '--allow'; \
          not with --bare [default: 127.0.0.1]",
     )
 }
@@ -262,7 +266,8 @@ fn allow<'a>(alloc: Global) -> Arg<'a>
         "allow",
         "NETWORK",
         "Serves connections from this network too, as 192.0.2.0/24, 2001:db8::/32 or an address; up to 64 times. \
-         Others are closed before anything is read of them, but for the machine's own; not with --bare",
+         Other connections are closed before anything is read of them, except those of the machine itself; \
+         not with --bare",
     )
 }
 
@@ -272,7 +277,7 @@ fn any_port<'a>(alloc: Global) -> Arg<'a>
     flag(
         alloc,
         "any-port",
-        "Serves connections from ports of 1024 and above on addresses that aren't loopback ones too, where '--listen' \
-         means '--privileged-ports'; not with that, nor with --bare",
+        "Serves connections from ports of 1024 and above also on addresses that aren't loopback, where \
+         '--privileged-ports' is the default; not with that option, nor with --bare",
     )
 }

@@ -1,6 +1,6 @@
-//! The words of `nfsd`: `nfsd [--book FILE] [--bare] [--port N] [--connections N] [--concurrent]
-//! [--trail FILE] [--stamped] [--privileged-ports] [--store FOLDER] [--leases] [--home FOLDER]
-//! [--listen ADDRESS].. [--allow NETWORK].. [--any-port]`.
+//! The command line of `nfsd`: `nfsd [--book FILE] [--bare] [--port N] [--connections N] [--concurrent] [--trail FILE]
+//! [--stamped] [--privileged-ports] [--store FOLDER] [--leases] [--home FOLDER] [--listen ADDRESS]..
+//! [--allow NETWORK].. [--any-port]`, or `nfsd --version`.
 #![tactic(auto)]
 
 mod command;

@@ -17,7 +17,7 @@ use std::net::IpAddr;
 /// Options that can't be given together.
 #[derive(Clone, Copy, Debug, PartialEq, Eq)]
 pub(crate) enum Mistake {
-    /// `--home` with `--bare`, or with an option that it means.
+    /// `--home` with `--bare`, or with an option that it stands for.
     HomeWithOthers,
     /// `--trail` with `--bare`.
     TrailOfBare,
@@ -29,21 +29,21 @@ pub(crate) enum Mistake {
     ListeningOfBare,
     /// `--any-port` with `--privileged-ports`.
     AnyIsPrivileged,
-    /// More addresses or networks than there may be.
+    /// More addresses or networks than permitted.
     TooMany,
-    /// An address that other machines reach, without `--allow`.
+    /// An address that other machines can reach, without `--allow`.
     NobodyAllowed,
     /// `--stamped` without `--trail`.
     NothingToStamp,
 }
 
-/// The most addresses that are listened on.
+/// The most addresses that the server listens on.
 const MOST_ADDRESSES: usize = 8;
 
 /// The most networks that are allowed.
 const MOST_NETWORKS: usize = 64;
 
-/// Whether an option is given that a home means.
+/// Whether an option is given that a home stands for.
 fn is_meant(options: &Options<'_>) -> bool
     ensures { result ≡ is_meant (together options.now) }
 {
@@ -53,28 +53,28 @@ fn is_meant(options: &Options<'_>) -> bool
                 || (options.stamped || (options.store.is_some() || options.leases))))
 }
 
-/// Whether an option is given that says where it listens, or to whom.
+/// Whether an option is given for where the server listens, or for who may connect.
 fn is_for_listening(options: &Options<'_>) -> bool
     ensures { result ≡ is_for_listening (together options.now) }
 {
     !options.listen.is_empty() || (!options.allow.is_empty() || options.any_port)
 }
 
-/// Whether there are more addresses or networks than there may be.
+/// Whether there are more addresses or networks than permitted.
 fn are_many(options: &Options<'_>) -> bool
     ensures { result ≡ (together options.now).many }
 {
     options.listen.len() > MOST_ADDRESSES || options.allow.len() > MOST_NETWORKS
 }
 
-/// Whether other machines reach one of the addresses.
+/// Whether other machines can reach one of the addresses.
 fn is_beyond(addresses: &[IpAddr]) -> bool
     ensures { result ≡ list_any (λ a. not (is_loopback a)) addresses.now }
 {
     addresses.iter().any(|address| !is_loopback(address))
 }
 
-/// Whether other machines reach an address, and nobody is allowed.
+/// Whether other machines can reach an address, and no network is allowed.
 fn is_nobody_allowed(options: &Options<'_>) -> bool
     ensures { result ≡ ((together options.now).beyond && not (together options.now).allow) }
 {
@@ -82,7 +82,7 @@ fn is_nobody_allowed(options: &Options<'_>) -> bool
 }
 
 impl Mistake {
-    /// The first mistake of options that aren't those of the sample tree.
+    /// The first mistake of the options for listening, and of `--stamped`.
     fn of_listening(options: &Options<'_>) -> Option<Mistake>
         ensures { option_map kind_at result ≡ listening_mistake (together options.now) }
     {
@@ -120,6 +120,7 @@ impl Mistake {
         }
     }
 
+    /// The kind of the error in `clap`.
     fn kind(self) -> ErrorKind
         ensures { result ≡ kind_at self }
     {
@@ -152,8 +153,8 @@ impl Mistake {
                 "the argument '--store <FOLDER>' cannot be used with '--bare', whose tree is kept nowhere"
             }
             Mistake::ListeningOfBare => {
-                "the arguments '--listen <ADDRESS>', '--allow <NETWORK>' and '--any-port' cannot be used with '--bare', \
-                 which listens on no port"
+                "the arguments '--listen <ADDRESS>', '--allow <NETWORK>' and '--any-port' cannot be used with \
+                 '--bare', which listens on no port"
             }
             Mistake::AnyIsPrivileged => {
                 "the argument '--any-port' cannot be used with '--privileged-ports'"

@@ -1,4 +1,4 @@
-//! The options of the words of `nfsd`.
+//! The options of `nfsd`.
 ghost use Rattle.std.specs.Prelude.{◌≡◌, ◌||◌, IfOk, is_some, map};
 ghost use Rattle.nfsd_options.specs.Given.{AreReadOr, IsTakenOr, OptionsOf, default_connections};
 
@@ -11,16 +11,16 @@ use std::alloc::Global;
 use std::convert::AsStr;
 use std::net::IpAddr;
 
-/// The port, where the words name none.
+/// The port without `--port`.
 const PORT: u16 = 2049;
 
-/// How many connections are served where the words have no number, one after the other.
+/// How many connections are served without `--connections`, one after the other.
 const CONNECTIONS: u32 = 1;
 
-/// How many connections are served where the words have no number, several at a time.
+/// How many connections are served without `--connections`, several at a time.
 const CONCURRENT_CONNECTIONS: u32 = 4_294_967_295;
 
-/// The options of the words of `nfsd`.
+/// The options of `nfsd`.
 #[derive(Debug, PartialEq, Eq, Drop)]
 pub struct Options<'a> {
     /// The file of the book.
@@ -29,31 +29,32 @@ pub struct Options<'a> {
     pub bare: bool,
     /// The port to listen on, 1 to 65535.
     pub port: u16,
-    /// How many connections are served in all. Where no number is given: 1, or the most with `concurrent` or `home`.
+    /// How many connections are served in all. Without `--connections` it is 1, or the most with `concurrent` or
+    /// `home`.
     pub connections: u32,
     /// Whether several connections are served at the same time.
     pub concurrent: bool,
     /// The file to which the lines of the trail are appended.
     pub trail: Option<&'a str>,
-    /// Whether each line in the trail's file begins with its moment.
+    /// Whether each line in the trail's file begins with its time.
     pub stamped: bool,
     /// Whether connections are served only from ports below 1024.
     pub privileged_ports: bool,
-    /// The folder of the store, in which all is kept that outlives a restart.
+    /// The folder of the store, which has the state that outlives a restart.
     pub store: Option<&'a str>,
-    /// Whether a client that is silent for longer than a lease is let go where many are known.
+    /// Whether a client expires that is silent for longer than a lease, if there are many clients.
     pub leases: bool,
-    /// The folder of all: of the store, the trail and the book.
+    /// The folder of the store, the trail and the book.
     pub home: Option<&'a str>,
-    /// The addresses to listen on, at most 8; 127.0.0.1 where there is none.
+    /// The addresses to listen on, at most 8. If there are none, it is 127.0.0.1.
     pub listen: Vec<IpAddr>,
     /// The networks from which connections are served, at most 64, beside the machine itself.
     pub allow: Vec<Network>,
-    /// Whether connections from ports of 1024 and above are served on addresses that aren't loopback ones too.
+    /// Whether connections from ports of 1024 and above are also served on addresses that aren't loopback.
     pub any_port: bool,
 }
 
-/// How many connections are served where the words have no number.
+/// How many connections are served without `--connections`.
 fn connections_of(concurrent: bool) -> u32
     ensures { result ≡ default_connections concurrent }
 {
@@ -64,7 +65,7 @@ fn connections_of(concurrent: bool) -> u32
     }
 }
 
-/// Whether several connections are served at the same time, also since a home means it.
+/// Whether several connections are served at the same time, as in each home.
 fn are_many(concurrent: bool, home: Option<&str>) -> bool
     ensures { result ≡ (concurrent || is_some home.entry) }
 {
@@ -72,7 +73,7 @@ fn are_many(concurrent: bool, home: Option<&str>) -> bool
 }
 
 impl<'a> Options<'a> {
-    /// Takes what `clap` reads of the words, whether or not it can be given together.
+    /// Reads the words by `clap`. The options may be ones that can't be given together.
     fn taken<S: AsStr>(alloc: Global, words: &'a [S]) -> Result<Options<'a>, Error>
         ensures options_are { IfOk result (OptionsOf (map S.text words.entry.now)) }
         ensures refused { AreReadOr (map S.text words.entry.now) result }
@@ -111,14 +112,13 @@ impl<'a> Options<'a> {
         })
     }
 
-    /// Reads the words, of which the first is the program's name, as in `env::args`.
+    /// Reads the words. The first one is the program's name, as in `env::args`.
     ///
-    /// An error is `clap`'s own. It is a mistake in the words, a call for help, an address or a
-    /// network that isn't one, options that can't be given together (`--home` with an option that it
-    /// means or with `--bare`; `--bare` with `--trail`, `--store` or an option for what listens;
-    /// `--any-port` with `--privileged-ports`; an address that isn't loopback without `--allow`;
-    /// `--stamped` without `--trail`), too many of them, or want of memory. Its `Display` is the text
-    /// for the user.
+    /// An error is `clap`'s own, and its `Display` is the text for the user. These are the errors: a mistake in the
+    /// words, a request for help or for the version, a text that is no address or no network, and a failed allocation.
+    /// So are too many addresses or networks, and options that can't be given together: `--home` with an option that it
+    /// stands for or with `--bare`; `--bare` with `--trail`, `--store` or an option for listening; `--any-port` with
+    /// `--privileged-ports`; an address that isn't loopback without `--allow`; `--stamped` without `--trail`.
     pub fn read<S: AsStr>(alloc: Global, words: &'a [S]) -> Result<Options<'a>, Error>
         ensures options_are { IfOk result (OptionsOf (map S.text words.entry.now)) }
         ensures refused { IsTakenOr (map S.text words.entry.now) result }

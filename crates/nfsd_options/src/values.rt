@@ -11,7 +11,7 @@ use std::alloc::{AllocError, Global};
 use std::fmt::Display;
 use std::str::FromStr;
 
-/// The error of a text that an option doesn't take.
+/// The error of a text that is no value of an option.
 fn wrong_value<E: Display>(
     alloc: Global,
     option: &str,
@@ -24,7 +24,8 @@ fn wrong_value<E: Display>(
     command(alloc)?.error(ErrorKind::ValueValidation, message.as_str())
 }
 
-/// The values that the texts of an option write. An error is that of the first text that writes none, or want of memory.
+/// The values of an option, in the order of their texts. An error is that of the first text that is no value, or of a
+/// failed allocation.
 pub(crate) fn values<T: FromStr + Drop>(
     alloc: Global,
     option: &str,

@@ -1,12 +1,15 @@
 use Rattle.std.proofs.Common.{◌∙◌, ◌≡◌, ap, ap₂, codes}
 use Rattle.clap.specs.Simple.{app_of_fields}
 use Rattle.clap.specs.Words.{app_of, new_app, with_rule}
+use Rattle.nfsd_options.specs.Simple.{with_version}
 use Rattle.nfsd_options.proofs.command.command.Goals as goal
 
 pub returns : goal.returns
 returns c =
-    let bare_app : app_of c.after_help.result ≡ new_app (codes "nfsd") =
-    ap app_of_fields c.after_help.ensures ∙ (ap app_of_fields c.about.ensures ∙ c.new.ensures.app) in
+    let versioned : app_of c.version-2.result ≡ with_version (new_app (codes "nfsd")) =
+    ap app_of_fields c.version-2.ensures ∙ ap with_version c.new.ensures.app in
+    let bare_app : app_of c.after_help.result ≡ with_version (new_app (codes "nfsd")) =
+    ap app_of_fields c.after_help.ensures ∙ (ap app_of_fields c.about.ensures ∙ versioned) in
     let first = c.in_ok-arg.ensures.shape c.book.ensures.1 ∙ ap₂ with_rule bare_app c.book.ensures.0 in
     let second = c.in_ok-arg-2.ensures.shape c.bare.ensures.1 ∙ ap₂ with_rule first c.bare.ensures.0 in
     let third = c.in_ok-arg-3.ensures.shape c.port.ensures.1 ∙ ap₂ with_rule second c.port.ensures.0 in

@@ -25,7 +25,7 @@ fn between<'a>(text: &'a str, prefix: &str, back: &str) -> Option<&'a str> {
 }
 
 /// Texts of help: the files that are served, the address, the options with their ranges and defaults, and an example.
-static TEXTS: [&str; 37] = [
+static TEXTS: [&str; 38] = [
     "NFS version 4.1",
     "access control lists",
     "127.0.0.1",
@@ -41,20 +41,21 @@ static TEXTS: [&str; 37] = [
     "--trail <FILE>",
     "before the replies go out; not with --bare",
     "-h, --help",
+    "-V, --version",
     "in TOML with these seven keys, of which 'members' may be missing, and no others:",
     "in the groups whose array names it, at most 17, and in no others",
-    "Where the file of the book changes, it is loaded anew",
-    "and the book before stays",
-    "hasn't changed for two seconds",
+    "When the file of the book changes, it is loaded again",
+    "standard error gets a line, and the previous book",
+    "after two seconds without a change",
     "--stamped ",
     "--privileged-ports ",
-    "Nobody overrides a list, root neither",
+    "Nobody overrides a list, not even root.",
     "setuid and setgid bits are kept and shown, and have no effect.",
     "nfsd --book names.toml --port 12049 --connections 2\n",
     "nfsd --concurrent --trail trail.txt\n",
     "--store <FOLDER>",
-    "made where it isn't there, before the replies go out; not with --bare",
-    "nothing that was answered is lost, whatever ends it.",
+    "made if it is missing, before the replies go out; not with --bare",
+    "operation is lost, whatever ends it.",
     "nfsd --concurrent --trail trail.txt --store tree\n",
     "--leases ",
     "--home <FOLDER>",

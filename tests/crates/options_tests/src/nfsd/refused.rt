@@ -13,7 +13,7 @@ fn refusal(alloc: Global, line: &str) -> Result<Option<ErrorKind>, AllocError> {
     }
 }
 
-static ROWS: [(&str, ErrorKind); 56] = [
+static ROWS: [(&str, ErrorKind); 61] = [
     ("nfsd --port 0", ErrorKind::ValueValidation),
     ("nfsd --port 65536", ErrorKind::ValueValidation),
     ("nfsd --port=-1", ErrorKind::ValueValidation),
@@ -97,6 +97,14 @@ static ROWS: [(&str, ErrorKind); 56] = [
     ),
     ("nfsd --help", ErrorKind::DisplayHelp),
     ("nfsd -h", ErrorKind::DisplayHelp),
+    ("nfsd --version", ErrorKind::DisplayVersion),
+    ("nfsd -V", ErrorKind::DisplayVersion),
+    (
+        "nfsd --home h --trail t --version",
+        ErrorKind::DisplayVersion,
+    ),
+    ("nfsd --version --no-option", ErrorKind::DisplayVersion),
+    ("nfsd --no-option --version", ErrorKind::UnknownArgument),
 ];
 
 fn rows() -> &'static [(&'static str, ErrorKind)] {
