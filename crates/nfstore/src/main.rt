@@ -30,6 +30,8 @@ use backup_words::{print_made, report_refused};
 use call_store::Looked;
 use calls::Broken;
 use checking::check;
+use clap::Error;
+use clap::error::ErrorKind;
 use exporting::write_tree;
 use fault::Stopped;
 use importing::{Unmade, import};
@@ -38,7 +40,6 @@ use options::{Options, Task};
 use places::{Source, Target};
 use std::alloc::Global;
 use std::env;
-use std::fmt::Display;
 use std::hash::RandomState;
 use std::process::ExitCode;
 use store_words::Stop;
@@ -220,25 +221,26 @@ fn copy(
     }
 }
 
-/// Prints `clap`'s text about the words on standard error. A fault has the program's name before it, and help is
-/// unchanged.
-fn report_words<R: Eprint, E: Display>(rt: &R, alloc: Global, error: &E) -> Result<()> {
-    let text = format!(in alloc; "{error}")?;
-    match text.as_str().strip_prefix("error: ") {
-        Some(fault) => eprint!(rt; "nfstore: {fault}")?,
-        None => eprint!(rt; "{text}")?,
+/// Prints `clap`'s text about the words. Help and the version go to standard output, with status 0. A fault goes to
+/// standard error with the program's name before it, with status 2.
+fn print_words<R: Print + Eprint>(rt: &R, alloc: Global, error: &Error) -> Result<ExitCode> {
+    if matches!(error.kind(), ErrorKind::DisplayHelp | ErrorKind::DisplayVersion) {
+        print!(rt; "{error}")?;
+        return Ok(ExitCode::SUCCESS);
     }
-    Ok(())
+    let text = format!(in alloc; "{error}")?;
+    let _ = match text.as_str().strip_prefix("error: ") {
+        Some(fault) => eprint!(rt; "nfstore: {fault}"),
+        None => eprint!(rt; "{text}"),
+    };
+    Ok(ExitCode::from(2))
 }
 
 /// Runs the words of the command line.
 fn run_words(rt: &HostRuntime, alloc: Global, words: &[String]) -> Result<ExitCode> {
     let options = match Options::read(alloc, words) {
         Ok(options) => options,
-        Err(error) => {
-            let _ = report_words(rt, alloc, &error);
-            return Ok(ExitCode::from(2));
-        }
+        Err(error) => return print_words(rt, alloc, &error),
     };
     let hasher = RandomState::new(rt)?;
     let folder = options.folder;

@@ -1,4 +1,5 @@
 //! The words of `nfstore`.
+use build_record::version;
 use clap::error::ErrorKind;
 use clap::{Arg, ArgAction, Command, Error, value_parser};
 use std::alloc::{AllocError, Global};
@@ -73,6 +74,7 @@ const BACKUP: &str =
 fn command<'a>(alloc: Global) -> Result<Command<'a>, AllocError> {
     let command = Command::new(alloc, "nfstore")
         .about(ABOUT)
+        .version(version())
         .arg(folder(alloc))?
         .arg(flag(alloc, "tree", TREE))?
         .arg(flag(alloc, "calls", CALLS))?

@@ -28,6 +28,8 @@ mod store_now;
 mod words;
 
 use asking::{Refusal, choice_of};
+use clap::Error;
+use clap::error::ErrorKind as WordsKind;
 use fault::Fault;
 use following::{Stop, follow};
 use home::{Home, Part};
@@ -160,20 +162,37 @@ fn trail_of<R: Files<File = File> + Eprint>(home: &Home<'_, R>) -> Option<File> 
     }
 }
 
+/// Prints help or the version on standard output.
+fn print_asked_words<R: Print + Eprint>(rt: &R, text: &Error) -> ExitCode {
+    match print!(rt; "{text}") {
+        Ok(()) => ExitCode::SUCCESS,
+        Err(error) => {
+            let _ = eprintln!(rt; "nfstrail: standard output: {error}");
+            ExitCode::FAILURE
+        }
+    }
+}
+
+/// Prints `clap`'s text about the words. Help and the version go to standard output, with status 0. A fault goes to
+/// standard error with the program's name before it, with status 2.
+fn print_words<R: Print + Eprint>(rt: &R, alloc: Global, error: &Error) -> ExitCode {
+    if matches!(error.kind(), WordsKind::DisplayHelp | WordsKind::DisplayVersion) {
+        return print_asked_words(rt, error);
+    }
+    if let Ok(text) = format!(in alloc; "{error}") {
+        let _ = match text.as_str().strip_prefix("error: ") {
+            Some(fault) => eprint!(rt; "nfstrail: {fault}"),
+            None => eprint!(rt; "{text}"),
+        };
+    }
+    ExitCode::from(2)
+}
+
 /// Runs the words of the command line.
 fn run_words(rt: &HostRuntime, alloc: Global, words: &[String], hasher: RandomState) -> ExitCode {
     let options = match Options::read(alloc, words) {
         Ok(options) => options,
-        Err(error) => {
-            // help is printed unchanged, and a fault has the program's name before it
-            if let Ok(text) = format!(in alloc; "{error}") {
-                let _ = match text.as_str().strip_prefix("error: ") {
-                    Some(fault) => eprint!(rt; "nfstrail: {fault}"),
-                    None => eprint!(rt; "{text}"),
-                };
-            }
-            return ExitCode::from(2);
-        }
+        Err(error) => return print_words(rt, alloc, &error),
     };
     let home = Home {
         rt,

@@ -1,4 +1,5 @@
 //! The words of `nfstrail`.
+use build_record::version;
 use clap::{Arg, ArgAction, Command, Error, value_parser};
 use std::alloc::{AllocError, Global};
 
@@ -52,6 +53,7 @@ const FOLLOW: &str = "Prints each line that the server adds, too, until it is st
 fn command<'a>(alloc: Global) -> Result<Command<'a>, AllocError> {
     let command = Command::new(alloc, "nfstrail")
         .about(ABOUT)
+        .version(version())
         .arg(folder(alloc))?
         .arg(valued(alloc, "user", "NAME|UID", USER))?
         .arg(valued(alloc, "path", "PATH", PATH))?
