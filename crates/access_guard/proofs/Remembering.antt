@@ -99,7 +99,7 @@ agrees_kept pairs book epoch old new keeps agrees = record {
       agrees.now key sum is under number j (keeps.same number j at (omega arith)) same;
 }
 
--- another book with the next epoch, of which no summary is remembered, keeps the agreement
+-- another book keeps the agreement under the next epoch, for which no summary is remembered
 pub agrees_anew : (pairs : List (Key × Summary)) (old new : Content) (epoch : ℕ) (w : World) → Agrees pairs old epoch w → Agrees pairs new (epoch + 1) w
 agrees_anew pairs old new epoch w agrees = record {
   known = agrees.known;

@@ -20,7 +20,7 @@ is_earlier index Unmatched = false
 is_earlier index (AllowedBy other) = nat_lt other index
 is_earlier index (DeniedBy other) = nat_lt other index
 
--- there is an ACE at the index, which applies and has the bit
+-- an ACE is at the index, applies and has the bit
 abbrev pub counts_at : (Who → Bool) → Option Entry → ℕ → Bool
 counts_at names None place = false
 counts_at names (Some e) place = counts_for names place e

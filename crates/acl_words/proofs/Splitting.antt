@@ -16,7 +16,7 @@ pub split_at_nowhere : (byte : ℕ) (text : List ℕ) → ((k : ℕ) → k < len
 split_at_nowhere byte [] none = refl
 split_at_nowhere byte (x ∷ xs) none = rw (ne_eqb x byte (none 0 (omega arith)), split_at_nowhere byte xs (λ k h. none (suc k) (omega arith))) refl
 
--- the last byte is here if there is none after it
+-- the place of the last such byte, if none follows it
 last_here : (byte : ℕ) (text : List ℕ) (i : ℕ) → i < length text → get_or text i 0 ≡ byte → split_at_last byte (drop (suc i) text) ≡ None
     → split_at_last byte text ≡ Some (take i text, drop (suc i) text)
 last_here byte [] i lt here none = absurd (omega arith)

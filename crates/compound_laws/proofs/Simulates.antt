@@ -78,7 +78,7 @@ span_in slot qs ps p c there = of (slice_get qs slot) refl (subst (λ y. PlaceFo
     of None is covers = absurd covers
     of (Some q) is covers = ap (λ (o : Option Place). last_of o / MOST_AHEAD) (place_after slot lagging qs q is) ∙ span_of q p covers.kept
 
--- the last sequence ID of a slot among these sessions, if there is one
+-- the last sequence ID of a slot among these sessions, if any
 abbrev last_in : (ℕ → Bool) → ℕ → List (ℕ × Session) → ℕ
 last_in test slot sessions = last_of (option_and_then (λ (s : Session). slice_get s.slots slot) (lookup test sessions))
 

@@ -33,7 +33,7 @@ use Rattle.compound_laws.specs.RowsAsked.{first_of, second_of}
 pub data Step : Type 0 where
   -- a test; if it fails, the answer is this status
   Tests : Status → Step
-  -- a check that has several statuses; the answer is its fault, if there is one
+  -- a check that has several statuses; the answer is its fault, if any
   Checks : (Sight → Option Status) → Step
   -- a row of demands; if it isn't granted, the answer is ACCESS
   Asks : (Sight → Demands) → Step

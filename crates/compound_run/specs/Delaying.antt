@@ -98,7 +98,7 @@ DelaysAnswer refused (Retries kept) call old reply ran new answers = Unit {0}
 DelaysAnswer refused (Fails refusal) call old reply ran new answers = Unit {0}
 
 -- A call has this reply, and its record these facts. The operation at this place after SEQUENCE fails its allocation,
--- if there is one.
+-- if any.
 abbrev pub AnswersDelaying : Option ℕ → State → Call → Reply → Ran → State → Type 0
 AnswersDelaying refused old call reply ran new =
     (answers : Answers old call reply ran new) × DelaysAnswer refused (fate old call) call old reply ran new answers

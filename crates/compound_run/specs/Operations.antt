@@ -173,7 +173,7 @@ body c h (Unsupported n) = refusing c h n statuses.NotSupp tt
 body c h Illegal = refusing c h illegal statuses.OpIllegal tt
 body c h (Bad n) = refusing c h n statuses.BadXdr tt
 
--- a meaning after a fault, if there is one
+-- a meaning after a fault, if any
 abbrev pub entered : (fault : Option Status) → MayFault fault → Meaning → Meaning
 entered fault may m = record m { questions = is_valid fault may ∷ m.questions }
 

@@ -20,7 +20,7 @@ pub(crate) struct Context<'t> {
     /// The caller, as sent.
     pub caller: &'t Caller,
     pub now: Moment,
-    /// The session, if there is one.
+    /// The session, if any.
     pub calling: Option<Calling>,
     /// The number of operations before it.
     pub position: u32,

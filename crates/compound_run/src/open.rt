@@ -149,7 +149,7 @@ impl<A: Allocator + Copy> Realm<A> {
         }
     }
 
-    /// The object of the name, if there is one.
+    /// The object of the name, if any.
     fn found(&self, handles: FileHandles, directory: u64, claim: &OpenClaim<'_>) -> Option<u64>
         requires here { handles.current ≡ Some directory }
         requires there { IsSome (object self.now.tree.world directory) }

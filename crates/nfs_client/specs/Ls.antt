@@ -133,7 +133,7 @@ PutsEntries old new entries (Err Reply) = lines_in old.ends entries ≡ None
 PutsEntries old new entries (Err Memory) = Unit {0}
 PutsEntries old new entries (Err fault) = ⊥
 
--- a page's lines, if there is one, and whether it is the last
+-- a page's lines, if any, and whether it is the last
 abbrev pub PutsPage : {A : Type 0} → Listing A → Listing A → Option Page → Result Bool ToolFault → Type 0
 PutsPage old new page (Ok eof) =
     (text : List ℕ) × (cookies : List ℕ) × (page ≡ Some (page_with text cookies eof)) × GoesOn old new text cookies

@@ -56,7 +56,7 @@ of_entries Acl entries = record of_nothing { entries = Some entries }
 of_entries Dacl entries = record of_nothing { dacl = Some (0, entries) }
 of_entries Sacl entries = record of_nothing { sacl = Some (0, entries) }
 
--- the size alone, if there is one
+-- the size alone, if any
 abbrev pub with_size : Option ℕ → Seen
 with_size size = record of_nothing { size = size }
 

@@ -50,7 +50,7 @@ pub(crate) fn handle_bytes<A: Allocator>(
     Ok(bytes)
 }
 
-/// The filehandle in a result, if there is one.
+/// The filehandle in a result, if any.
 fn reached<A: Allocator>(alloc: A, found: Option<OpResult<'_>>) -> Result<Vec<u8, A>, ToolFault>
     ensures { TakeGives (λ v. v.items) (option_and_then handle_of (option_map read_view found.entry)) result }
 {

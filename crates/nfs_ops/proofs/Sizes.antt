@@ -18,12 +18,12 @@ use Rattle.nfs_ops.specs.Rows.{row}
 use Rattle.nfs_ops.specs.declared.OpKind.{OpKind}
 use Rattle.nfs_ops.specs.declared.OpKind.TheVariants.{Create, GetAttr, Open, Read, ReadDir, ReadLink, SetAttr}
 
--- n bytes or fewer are written if there is room for n
+-- n bytes or fewer are written if n bytes fit
 pub fits : {E : Type 0} (old new : Buffer) (item : List ℕ) (r : Result (Unit {0}) E) (n : ℕ) → Puts old new item r → length item ≤ n → n ≤ old.room → IsTrue (is_ok r)
 fits old new item (Ok x) n puts short room = refl
 fits old new item (Err e) n puts short room = absurd (omega (arith, puts.0, short, room))
 
--- an item of n bytes or fewer is written if there is room for n
+-- an item of n bytes or fewer is written if n bytes fit
 pub written_within : {E : Type 0} (i : Item) (n : ℕ) (old new : Buffer) (r : Result (Unit {0}) E) → OnOk r (ItemHasSpelling i) → OnOk r (ItemIsNormal i) → Puts old new (item_spelling i) r
     → length (item_spelling i) ≤ n → IsWrittenWithin i n old new r
 unfolding IsWrittenWithin

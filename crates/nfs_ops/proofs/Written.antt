@@ -158,7 +158,7 @@ ended {R} limit room all old new then most begin start rest (Ok done) s fits is 
     ∙ given_listing limit s.given [] true le (λ e others f. absurd cc) (λ f. refl) refl (none_left (length s.given)) in
     listed limit room all old new then most begin rest true s fits whole e.0 e.1
 
--- there is no entry, and a result without entries doesn't fit
+-- no entry is left, and a result without entries doesn't fit
 pub nothing_fits : {R : Type 0} (limit : ℕ) (all : List (Judged R)) (old new then : Buffer) (most begin start : ℕ) (rest : List (Judged R)) (r : Result (Unit {0}) (ListFault R)) → HasWritten limit all old new most begin rest → start ≡ length old.bytes
     → rest ≡ [] → EndsAs start most true new r then → IfErr r (λ fault. (listing limit all ≡ Err fault) × (then ≡ old))
 nothing_fits {R} limit all old new then most begin start rest (Ok done) s at is e = tt

@@ -109,7 +109,7 @@ IsWithin moved.Failed most = Unit {0}
 
 -- ---- values of a list of acts, the newest first
 
--- the number of the connection at a place, if there is one
+-- the number of the connection at a place, if any
 abbrev pub conn_at : List Act → ℕ → Option ℕ
 conn_at [] place = None
 conn_at (Admitted at id ∷ acts) place = if place == at then Some id else conn_at acts place

@@ -29,7 +29,7 @@ EndReason Keep limits start acts s = Just Lost acts
 EndReason Store limits start acts s = Just Unstored acts
 EndReason Memory limits start acts s = acts ≡ []
 
--- what serving is given: its limits; its store, if there is one; and the history of the store's files
+-- what serving is given: its limits; its store, if any; and the history of the store's files
 pub record Means : Type 0 where
   pub limits : Limits
   pub store : Option CallStore

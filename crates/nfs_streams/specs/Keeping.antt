@@ -82,7 +82,7 @@ KeepsLog p hub (Some store) result (Some store') =
     → (done : Result (Unit {0}) StoreFault) × (result ≡ is_ok done)
     × KeepGives p store log s.served.state done store'
 
--- A mark is appended to the store, if there is one.
+-- A mark is appended to the store, if any.
 abbrev pub MarksStore : {D : Type 0} → Passage D → Option Store → Bool → Option Store → Type 0
 MarksStore p None result None = (result ≡ true) × Unchanged p
 MarksStore p None result (Some store') = ⊥

@@ -56,7 +56,7 @@ pub record AreSeats {A : Type 0} (start : ℕ) (hub : Hub A) (places : List (Opt
     (machine : State) : Type 0 where
   pub is : IsHub hub machine
   pub fresh : IsFresh machine
-  -- the place of a number's connection, if there is one
+  -- the place of a number's connection, if any
   pub owner : ℕ → ℕ
   pub each : (id : ℕ) → Seat start id (place_at places (owner id)) (machine.connection id)
   pub seated : (index : ℕ) → IsSeated owner acts index (place_at places index)

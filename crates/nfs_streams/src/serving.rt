@@ -97,7 +97,7 @@ fn load_book<A: Allocator + Copy>(hub: &mut Hub<A>, book: Book) -> Option<Book>
     }
 }
 
-/// Loads the book that waits, if there is one. Returns whether none waits now.
+/// Loads the book that waits, if any. Returns whether none waits now.
 fn load_waiting<A: Allocator + Copy>(hub: &mut Hub<A>, accept: &mut AcceptState<A>) -> bool
     ensures moves { (n : ℕ) (places : List (Option (Peer A))) (now : Option (List Act)) →
         Moves (Listening n) (Listening n) accept.old.limits
@@ -133,8 +133,8 @@ fn ask_book<A: Allocator + Copy, S: Streams<A>>(
     accept.book.is_none()
 }
 
-/// Loads the book that waits, if there is one, and then another one that has arrived. `false`: one still waits, and no
-/// bytes may be given.
+/// Loads the book that waits, if any, and then another one that has arrived. `false`: one still waits, and no bytes may
+/// be given.
 fn load_books<A: Allocator + Copy, S: Streams<A>>(
     hub: &mut Hub<A>,
     streams: &mut S,
@@ -200,7 +200,7 @@ fn expire<A: Allocator + Copy, C: Clock>(hub: &mut Hub<A>, clock: &C, limits: Li
     let _ = hub.expire_client(clock.now());
 }
 
-/// Keeps what the hub has logged in the store, if there is one. Returns whether it is kept.
+/// Keeps what the hub has logged in the store, if any. Returns whether it is kept.
 fn keep_log<A: Allocator + Copy, S: Streams<A>>(
     hub: &Hub<A>,
     streams: &mut S,
@@ -261,7 +261,7 @@ fn is_due(unmarked: Option<u64>, now: u64) -> bool {
     }
 }
 
-/// Marks the store, if there is one: everything up to here is durable.
+/// Marks the store, if any: everything up to here is durable.
 fn mark_store<A: Allocator + Copy, S: Streams<A>>(
     streams: &mut S,
     alloc: A,

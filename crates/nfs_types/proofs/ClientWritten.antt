@@ -13,12 +13,12 @@ use Rattle.nfs_types.specs.Sendable.{CanBeSent, IsSendable}
 use Rattle.nfs_types.proofs.Numbers.{by_word}
 use Rattle.nfs_types.proofs.Within.{StayBelow, one_word, all_words}
 
--- a value that is there, or none, is read back
+-- a value that is present, or none, is read back
 sent_again : (there : Bool) (t : Xdr) (o : Option (Value t)) (rest : List ℕ) → there ≡ is_some o → CanBeSent t o → chosen_at there t (optional_spelling t o ++ rest) ≡ Ok (o, rest)
 sent_again there t None rest is can = rw is refl
 sent_again there t (Some v) rest is can = rw (is, again t v (spelling t v) rest (spelled t v can)) refl
 
--- ---- the set, for each choice of the values that are there
+-- ---- the set, for each choice of the values that are present
 
 abbrev first_word : Bool → Bool → Bool → Bool → ℕ
 first_word a b c d = cond a 2 0 + cond b 16 0 + cond c 2048 0 + cond d 4096 0
@@ -43,7 +43,7 @@ are_same false false e = refl
 abbrev is_set : ℕ → ℕ → Bool
 is_set word i = nat_eq (bit_at word i) 1
 
--- a word has the bits of the values that are there, and otherwise only bits that a client knows
+-- a word has the bits of the values that are present, and otherwise only bits that a client knows
 abbrev first_test : Bool → Bool → Bool → Bool → Bool
 first_test a b c d =
     let word = first_word a b c d in

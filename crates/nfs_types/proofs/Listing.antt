@@ -15,7 +15,7 @@ use Rattle.nfs_types.specs.Attributes.{ace, ace_of, acl, acl41}
 abbrev pub entry_bytes : Content → Entry → List ℕ
 entry_bytes book e = spelling ace (ace_of book e)
 
--- the item takes at most this many bytes
+-- the item takes at most the given number of bytes
 abbrev pub IsShort : {X : Type 0} → (X → List ℕ) → ℕ → X → Type 0
 IsShort bytes_of most x = length (bytes_of x) ≤ most
 
@@ -62,7 +62,7 @@ list_bytes book entries =
     let count : length (map (ace_of book) entries) ≡ length entries = simp length-map in
     rw (count, mapped (ace_of book) (spelling ace) entries) refl
 
--- ---- items of which any fact holds
+-- ---- items, each with a fact that holds of it
 
 put_ok : {X E : Type 0} (bytes_of : X → List ℕ) (P : X → Type 0) (now then : Buffer) (x : X) (r : Result (Unit {0}) E) → is_err r ≡ false → OnOk r (P x) → Puts now then (bytes_of x) r → P x × Appends now then (bytes_of x)
 put_ok bytes_of P now then x (Ok u) is fits puts = (fits, puts)

@@ -2,7 +2,7 @@
 use Rattle.std.proofs.Common.{◌≡◌, ◌∙◌, ℕ, suc, ◌+◌, ◌<◌, ◌≤◌, List, [], ◌∷◌, ◌++◌, length, take, map, set, sym, ap, append_assoc, arith}
 use Rattle.std.proofs.lemmas.List.{take_more_set, length-set, append-nil}
 
--- Some of the items are in their places, and there are places for those that are left.
+-- Some of the items are in their places, and those that are left have places too.
 pub record Filled {X Y : Type 0} (f : X → Y) (all : List X) (places : List Y) (count : ℕ) (left : List X) : Type 0 where
   pub room : count + length left ≤ length places
   pub joined : take count places ++ map f left ≡ map f all

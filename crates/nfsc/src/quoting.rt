@@ -39,7 +39,7 @@ impl Words {
         }
     }
 
-    /// Ends the word, if there is one.
+    /// Ends the word, if any.
     fn end(&mut self) -> Result<(), AllocError> {
         if let Some(word) = self.word.take() {
             self.words.push(word)?;

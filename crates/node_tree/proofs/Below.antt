@@ -20,7 +20,7 @@ use Rattle.node_tree.proofs.Ways.{here_is_met, step_up}
 use Rattle.node_tree.proofs.Moving.{parents_of}
 
 module _ (kinds : ℕ → Option Kind) (names : List Name) (rooted : IsRooted kinds names) where
-  -- there is one way up
+  -- the way up is unique
   unique : (s t k : ℕ) → kinds k ≡ Some Directory → Climbs names s k → Climbs names t k → s ≡ t
   unique zero zero k is a b = refl
   unique zero (suc t) k is a (n, present, at, up) = absurd (rooted.root_has_no_name n present (at ∙ a))
@@ -119,7 +119,7 @@ module _ (kinds : ℕ → Option Kind) (names : List Name) (rooted : IsRooted ki
             let f = found (λ n. n.directory) (λ n. n.child == ROOT) names m.directory (ap (option_map (λ (n : Name). n.directory)) it) in
             absurd (rooted.root_has_no_name f.name f.present ((Decides-eqb f.name.child ROOT).0 f.passes))
 
-    -- the walk meets the directory only from an object below it, if there are enough steps
+    -- the walk meets the directory only from an object below it, if the steps suffice
     lies_below : (s k : ℕ) → Climbs names s k → kinds k ≡ Some Directory → (fuel : ℕ) → s < fuel → is_met parents fuel directory k ≡ true → LiesWithin names directory k
     lies_below zero k climbs is zero less h = absurd (omega (arith, less))
     lies_below zero k climbs is (suc fuel) less h = by_number k directory

@@ -38,7 +38,7 @@ but_named low high (m ∷ names) d t k rises one is =
           ap (λ b. cond (not b) (m ∷ but k names) (but k names)) (apart m.cookie k (omega arith)) ∙ ap (λ l. m ∷ l) (but_named (m.cookie + 1) high names d t k rises.1 (omega (arith, e, one)) h)
     ] (step (is_named d t) m names) is
 
--- the names without the name of a cookie, if there is one
+-- the names without the name of a cookie, if any
 abbrev pub dropped : Option ℕ → List Name → List Name
 dropped k names = option_map_or (λ k. but k names) k names
 

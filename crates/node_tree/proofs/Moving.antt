@@ -178,7 +178,7 @@ directory_at w k is = there (object w k) is
 pub parents_of : (w : World) (k : ℕ) → kind_of w k ≡ Some Directory → parent_of w k ≡ option_map (λ (n : Name). n.directory) (find (λ n. n.child == k) w.names)
 parents_of w k is = ap (λ b. cond b (option_map (λ (n : Name). n.directory) (find (λ n. n.child == k) w.names)) None) (directory_at w k is)
 
--- ---- whether there is room
+-- ---- room for the new name
 
 -- why the directory has room: it loses the old name, or the target's, or it wasn't full
 pub data Room (w : World) (from to : ℕ) (target : Option ℕ) : Type 0 where
@@ -313,7 +313,7 @@ unrefused_move w sound from to child target below replaces moves =
     let m = moves_in w from to target moves in
     record { clear = cleared w child to below; empty = emptied w sound child target replaces; room = m.0; cookie = m.1 }
 
--- a target that isn't the child is another object, if there is one
+-- a target that isn't the child is another object, if any
 pub another : (child : ℕ) (target : Option ℕ) → is_one (Some child) target ≡ false → target ≡ Some child → ⊥
 another child target differs equal =
     let same : is_one (Some child) target ≡ true = ap (λ o. is_one (Some child) o) equal ∙ (Decides-eqb child child).1 refl in cc

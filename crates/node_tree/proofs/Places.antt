@@ -253,11 +253,11 @@ module _ (nodes new : Slab Object) (places now : List (ℕ × ℕ)) (is : IsPlac
 pub roomier : (nodes new : Slab Object) (places : List (ℕ × ℕ)) → new ≡ record nodes { capacity = new.capacity } → IsPlaced nodes places → IsPlaced new places
 roomier nodes new places same is = subst (λ n. IsPlaced n places) (sym same) (record { ordered = is.ordered; held = is.held; apart = is.apart; counted = is.counted })
 
--- if there was no object under the number, there is one more object
+-- an object under a number that had none is one more object
 pub as_long : (places now : List (ℕ × ℕ)) (old : Option ℕ) → old ≡ None → length now ≡ length places + cond (is_some old) 0 1 → length now ≡ length places + 1
 as_long places now old none len = len ∙ ap (λ (o : Option ℕ). length places + cond (is_some o) 0 1) none
 
--- if there was an object under the number, there is one object less
+-- removing the object of a number leaves one object less
 pub shorter : (places now : List (ℕ × ℕ)) (old : Option ℕ) (place : ℕ) → old ≡ Some place → length now + cond (is_some old) 1 0 ≡ length places → length now + 1 ≡ length places
 shorter places now old place there len = ap (λ (o : Option ℕ). length now + cond (is_some o) 1 0) (sym there) ∙ len
 

@@ -8,6 +8,6 @@ pub record Moving : Type 0 where
   -- the directory of the new name, and the new name
   pub to : ℕ
   pub new : List ℕ
-  -- the child, and the target that has the new name, if there is one
+  -- the child, and the target that has the new name, if any
   pub child : ℕ
   pub target : Option ℕ

@@ -1,5 +1,5 @@
--- The reason to refuse a change, if there is one: the first in the order of the standard's operations (RFC 8881,
--- section 18). Each test takes the parts that it reads. So it means the same of a world and of a view of one.
+-- The reason to refuse a change, if any: the first in the order of the standard's operations (RFC 8881, section 18).
+-- Each test takes only the parts that it reads. It therefore means the same for a world and for a view of one.
 use Rattle.std.specs.Prelude.{ℕ, ◌+◌, ◌^◌, ◌==◌, Bool, true, ◌&&◌, ◌||◌, not, nat_lt, if◌then◌else◌, List, length}
 use Rattle.std.specs.Prelude.{Option, Some, None, is_some}
 use Rattle.std.specs.Option.{option_map_or, option_or}
@@ -21,7 +21,7 @@ has_left next = nat_lt next (2 ^ 63)
 abbrev pub has_room : ℕ → Bool
 has_room names = nat_lt names MAX_NAMES
 
--- whether there is room for one more object beside `objects` others
+-- whether one more object fits beside `objects` others
 abbrev pub has_object_room : ℕ → Bool
 has_object_room objects = nat_lt objects MAX_OBJECTS
 
@@ -53,8 +53,8 @@ may_replace kinds has_entries child (Some target) =
     if is_directory_in kinds child then is_directory_in kinds target
     && not (has_entries target) else not (is_directory_in kinds target)
 
--- Whether there is space for a child's new name in a directory with `names` names; the target may be absent. A
--- directory that loses a name by the move is never too full.
+-- Whether a child's new name fits into a directory with `names` names; the target may be absent. A directory that loses
+-- a name by the move is never too full.
 abbrev pub may_move : (names next_cookie from to : ℕ) → Option ℕ → Bool
 may_move names next_cookie from to None = ((from == to) || has_room names) && has_left next_cookie
 may_move names next_cookie from to (Some target) = has_left next_cookie

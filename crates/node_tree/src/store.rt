@@ -164,7 +164,7 @@ impl<A: Allocator + Copy> Store<A> {
     }
 }
 
-// Whether there is space.
+// Tests for space.
 impl<A: Allocator + Copy> Store<A> {
     /// Whether a directory has room for one more name.
     pub fn has_room(&self, directory: u64) -> bool
@@ -180,7 +180,7 @@ impl<A: Allocator + Copy> Store<A> {
         self.link_count(number) < MAX_LINKS
     }
 
-    /// Whether there is room for one more object.
+    /// Whether one more object fits.
     pub fn has_object_room(&self) -> bool
         ensures { result ≡ has_object_room (length self.now.objects) }
     {
@@ -284,7 +284,7 @@ impl<A: Allocator + Copy> Store<A> {
         }
     }
 
-    /// Whether there is space for a child's new name; its target may be absent.
+    /// Whether a child's new name fits; its target may be absent.
     pub fn may_move(&self, from: u64, to: u64, target: Option<u64>) -> bool
         ensures { result ≡ may_move (name_count self.now.names to) self.now.next_cookie from to target }
     {
@@ -435,7 +435,7 @@ impl<A: Allocator + Copy> Store<A> {
         Ok(())
     }
 
-    /// Whether an object, if there is one, has a name.
+    /// Whether an object, if any, has a name.
     fn has_link(&self, number: Option<u64>) -> bool
         ensures { result ≡ option_map_or (λ number. has_name self.now.names number) number false }
     {

@@ -130,12 +130,12 @@ impl<A: Allocator + Copy> Tree<A> {
     }
 
     /// Plans that a child gets a new name, in the same directory or in another (RENAME: RFC 8881, section 18.26).
-    /// Between two names of one object there is nothing to do, [`Plan::Same`].
+    /// If both names belong to one object, nothing changes, [`Plan::Same`].
     ///
-    /// Refused for the first of these reasons. There is no child of the old name, [`TreeFault::NoEnt`]. The child is a
-    /// directory, and the directory of the new name is the child or is below it, [`TreeFault::Inval`]. There is a
-    /// target that the child can't replace, [`TreeFault::Exist`]. A directory can replace only an empty directory. Any
-    /// other object can replace only an object that isn't a directory.
+    /// Refused for the first of these reasons. The old name doesn't exist, [`TreeFault::NoEnt`]. The child is a
+    /// directory, and the directory of the new name is the child or is below it, [`TreeFault::Inval`]. The child can't
+    /// replace the target, [`TreeFault::Exist`]. A directory can replace only an empty directory. Any other object can
+    /// replace only an object that isn't a directory.
     pub fn plan_rename<'a>(
         &self,
         from: u64,
@@ -266,7 +266,7 @@ impl<A: Allocator + Copy> Tree<A> {
     /// sections 18.4 and 18.16). It takes a number, a stamp and a cookie. The directory's times are set.
     ///
     /// Refused for the first of these reasons. The name is taken, [`TreeFault::Exist`]. The directory has
-    /// [`crate::MAX_NAMES`] names, there are [`crate::MAX_OBJECTS`] objects, or a number, stamp or cookie would be
+    /// [`crate::MAX_NAMES`] names, the tree has [`crate::MAX_OBJECTS`] objects, or a number, stamp or cookie would be
     /// 2^63, [`TreeFault::NoSpc`]. An allocation fails, [`TreeFault::Memory`].
     pub fn add(
         &mut self,

@@ -115,7 +115,7 @@ pub call_len_is : (xid : ℕ) (caller : Option Identity) → length (call_bytes 
 call_len_is xid None = ap length (null_words xid)
 call_len_is xid (Some caller) = ap length (compound_words xid caller (20 + 4 * length (further_groups caller)) refl) ∙ omega (arith, length_words (further_groups caller), length-append (flat_map (to_be_bytes w32) (further_groups caller)) (flat_map (to_be_bytes w32) (0 ∷ 0 ∷ [])))
 
--- ---- parts that are written one after the other, if there is room for all
+-- ---- parts that are written one after the other, if all of them fit
 
 pub appended : {E : Type 0} (old new : Buffer) (item : List ℕ) (r : Result (Unit {0}) E) → Puts old new item r → length item ≤ old.room → Appends old new item
 appended old new item (Ok done) h fits = h

@@ -239,7 +239,7 @@ set_more groups sent g s = record {
 
 -- ---- the steps of the code
 
--- after one more group there is one zero less
+-- one more group leaves one zero less
 pub zeros_after : (old new : List ℕ) (len : ℕ) → drop len old ≡ replicate (17 - len) 0 → drop (len + 1) new ≡ drop (len + 1) old → drop (len + 1) new ≡ replicate (17 - (len + 1)) 0
 zeros_after old new len zeros rest =
     rest ∙ sym (drop-drop 1 len old) ∙ ap (drop 1) zeros ∙ drop-replicate 1 (17 - len) 0 ∙ ap (λ (n : ℕ). replicate n 0) (let e : 17 - len - 1 ≡ 17 - (len + 1) = omega arith in e)

@@ -1,4 +1,4 @@
--- Runs by two wrong rules, of which the law is false.
+-- Runs by two wrong rules, for which the law is false.
 use Rattle.std.proofs.Common.{◌≡◌, ◌≢◌, inl, inr, ℕ, ◌+◌, ◌==◌, Bool, true, false, if◌then◌else◌, List, [], ◌∷◌, length, Option, Some, None, zero, suc, refl, sym, ◌∙◌, ap, subst, arith, lit≤, lit<}
 use Rattle.session_slots.specs.declared.slot.Turn.{Turn}
 use Rattle.session_slots.specs.declared.slot.Turn.TheVariants as turns
@@ -73,7 +73,7 @@ run_twice = (
   (found (once 1), refl, (twice, (twice.now, (twice.now, runs_twice, refl), refl), refl)),
 )
 
--- one call stands, and the number was raised twice
+-- one call is in effect, and the number was raised twice
 not_once : IsMadeOf counts 0 twice.now.calls twice.now.world → ⊥
 unfolding twice
 not_once (a, is, one) = no_sum (subst (λ (a : ℕ). 2 ≡ a + 1) is one)
@@ -84,7 +84,7 @@ not_once (a, is, one) = no_sum (subst (λ (a : ℕ). 2 ≡ a + 1) is one)
 pub slots_are_lost : ((events : List Event) (last : Server ℕ) → Steps (forgets_slots ℕ) counts events (begun 0) last → IsMadeOf counts 0 last.now.calls last.now.world) → ⊥
 slots_are_lost law = not_once (law same_call twice run_twice)
 
--- ---- turns with one call each, on one slot, and then a restart
+-- ---- turns of one call each, on one slot, and then a restart
 
 many : ℕ → List Entry
 many zero = []
@@ -164,7 +164,7 @@ all_turns m (suc n) = (
     one_more : (n m : ℕ) → n + suc m ≡ suc n + m
     one_more n m = omega arith
 
--- the number after as many calls as a slot may lag is refused
+-- the sequence ID after as many calls as a slot may lag is refused
 too_far : (o : Option Cached) (n : ℕ) → o ≡ None → n ≡ MOST_AHEAD → turn_of true o (call_of (due n)) ≡ turns.New → ⊥
 too_far o n none is new =
     let refused : turn_of true None (call_of (due MOST_AHEAD)) ≡ turns.New = subst (λ (n : ℕ). turn_of true None (call_of (due n)) ≡ turns.New) is (subst (λ (o : Option Cached). turn_of true o (call_of (due n)) ≡ turns.New) none new) in cc

@@ -1,4 +1,4 @@
--- Records of clients, and the histories of CREATE_SESSION calls that they stand for.
+-- Records of clients, and the histories of CREATE_SESSION calls that they represent.
 use Rattle.std.proofs.Common.{◌≡◌, ℕ, ◌+◌, ◌%◌, ◌^◌, ◌<◌, ◌==◌, ◌&&◌, Bool, true, false, if◌then◌else◌, List, [], ◌∷◌, length, Option, Some, None, Result, IfSome, nat_lt, zero, suc, refl, sym, ◌∙◌, ap, subst, arith}
 use Rattle.session_slots.specs.declared.client.Created.{Created}
 use Rattle.session_slots.specs.declared.client.Creation.{Creation}
@@ -9,12 +9,12 @@ use Rattle.session_slots.specs.Orderly.{is_cached_result, has_creation_form, has
 use Rattle.session_slots.specs.Registry.{Client, Registry}
 use Rattle.session_slots.proofs.Histories.{represents_history, same_number}
 
--- a result that is kept is that of a call that was accepted (`_` is `Status` of `nfs_types`, which this crate does
--- not use)
+-- a result that is cached is that of a call that was accepted (`_` is `Status` of `nfs_types`, which this crate doesn't
+-- use)
 kept_is_accepted : (result : Result Created _) → is_cached_result result ≡ true → is_accepted result ≡ true
 kept_is_accepted result h = grind (arith, h)
 
--- n calls with this result and the numbers from 1 on, the newest first
+-- n calls with this result and the sequence IDs from 1 on, the newest first
 count_up : Creation → ℕ → List Creation
 count_up c zero = []
 count_up c (suc n) = record c { number = due n } ∷ count_up c n
@@ -31,7 +31,7 @@ all_accepted c ok (suc n) =
     length_if (due n == due (length (accepted number_of keeps (count_up c n)))) (is_accepted c.result) (record c { number = due n }) (accepted number_of keeps (count_up c n)) n
     (same_number (due n) (due (length (accepted number_of keeps (count_up c n)))) (ap due (sym (all_accepted c ok n)))) ok (all_accepted c ok n)
 
--- how many calls came before the call of this number
+-- the number of calls before the call with this sequence ID
 count_before : ℕ → ℕ
 count_before number = (number + 4294967295) % 2 ^ 32
 
@@ -44,7 +44,7 @@ newest_if true true x acc e f = refl
 newest_if true false x acc e f = cc
 newest_if false k x acc e f = cc
 
--- a call that is kept, after calls with the numbers before it
+-- a call that is cached, after calls with the sequence IDs before it
 pub some_history : (last : Option Creation) → has_creation_form last ≡ true → last_number number_of last < 2 ^ 32 → (history : List Creation) × RecordRepresents last history
 some_history None form h = ([], record { kept = refl; number = refl })
 some_history (Some c) form h = (

@@ -1,4 +1,4 @@
--- Over turns and restarts what changes the world acts once.
+-- Over turns and restarts, each change of the world acts once.
 use Rattle.std.proofs.Common.{◌≡◌, ◌≢◌, inl, inr, ℕ, ◌+◌, ◌%◌, ◌^◌, ◌<◌, ◌≤◌, ◌==◌, Bool, true, false, if◌then◌else◌, List, [], ◌∷◌, ◌++◌, length, Option, Some, zero, suc, refl, sym, ◌∙◌, ap, subst, arith}
 use Rattle.session_slots.specs.declared.slot.Turn.{Turn}
 use Rattle.session_slots.specs.declared.slot.Turn.TheVariants as turns
@@ -11,7 +11,7 @@ use Rattle.session_slots.proofs.Lagging.{retry_is_not_next, below, next_between}
 use Rattle.session_slots.proofs.Numbered.{newest_is, not_again, is_new, never_new}
 use Rattle.session_laws.specs.Turns.{Server, IsNear, stores_turns, begun, RunsIn, IfNew, Runs, MOST_IN_TURN, Ends, found, Event, Serves, Restarts, Step, Steps}
 
--- ---- numbers
+-- ---- sequence IDs
 
 equal : (m n : ℕ) → m ≡ n → (m == n) ≡ true
 equal m n h = grind (arith, h)
@@ -25,7 +25,7 @@ is_equal m n h = grind (arith, h)
 is_apart : (m n : ℕ) → (m == n) ≡ false → n ≢ m
 is_apart m n h = grind (arith, h)
 
--- ---- the calls of a slot, with whether they were stored
+-- ---- the calls of a slot, and whether each was stored
 
 abbrev entries : ℕ → List Entry → List Entry
 entries slot [] = []
@@ -68,13 +68,13 @@ rest_there slot other (e ∷ newer) older lost is apart = ap (λ (rest : List En
 
 -- ---- the stored call of a slot, and the calls after it
 
--- n of these calls came after the stored one, each in a turn that stored nothing
+-- n of these calls follow the stored one, each in a turn that stored nothing
 abbrev After : Option Cached → List Entry → ℕ → Type 0
 After stored calls zero = stored ≡ newest (keeps calls)
 After stored [] (suc n) = ⊥
 After stored (e ∷ calls) (suc n) = (e.written ≡ false) × After stored calls n
 
--- how many calls were stored, by the number of the stored one
+-- the number of stored calls, by the sequence ID of the stored one
 record Counted (stored : Option Cached) (calls : List Entry) (n : ℕ) : Type 0 where
   before : ℕ
   number : last_number number_of stored ≡ before % 2 ^ 32
@@ -97,13 +97,13 @@ counted stored (e ∷ calls) (suc n) numbered after =
     let c = counted stored calls n numbered.1 after.1 in
     record { before = c.before; number = c.number; count = one_after c.before n (length (keeps calls)) c.count }
 
--- fewer than so many calls came after the stored one
+-- fewer than `most` calls follow the stored one
 record Lags (stored : Option Cached) (calls : List Entry) (most : ℕ) : Type 0 where
   count : ℕ
   after : After stored calls count
   few : count < most
 
--- ---- what holds in a turn
+-- ---- facts in a turn
 
 -- of one slot
 record Holds (stores : Bool) (m : Memory) (calls : List Entry) (ran : ℕ) : Type 0 where
@@ -112,13 +112,13 @@ record Holds (stores : Bool) (m : Memory) (calls : List Entry) (ran : ℕ) : Typ
   waiting : stores ≡ false → Lags m.stored calls (MOST_AHEAD + ran)
 
 module _ {World : Type 0} (run : Call → World → List ℕ → World → Type 0) (first : World) where
-  -- after so many calls of a turn
+  -- after `count` calls of a turn
   record Lives (stores : Bool) (s : State World) (count : ℕ) : Type 0 where
     ran : Ran run first s.calls s.world
     numbered : (slot : ℕ) → AreNumbered (keeps (entries slot s.calls))
     holds : (slot : ℕ) → Holds stores (s.slots slot) (entries slot s.calls) count
 
-  -- before a new call, without one that was given up
+  -- before a new call, without an abandoned one
   record Ready (stores : Bool) (s : State World) (slot : ℕ) (before : List Entry) (count : ℕ) : Type 0 where
     ran : Ran run first before s.world
     numbered : (other : ℕ) → AreNumbered (keeps (entries other before))
@@ -176,7 +176,7 @@ module _ {World : Type 0} (run : Call → World → List ℕ → World → Type 
         holds = λ k. subst (λ (cs : List Entry). Holds stores (new.slots k) (entries k cs) (suc count)) (sym r.holds) (added_if stores slot call old new count r ready k (slot == k) refl);
       }
 
-  -- ---- what a new call finds, where all calls stand
+  -- ---- the state for a new call, if all calls are in effect
 
   ready_after : (stores : Bool) (s : State World) (slot : ℕ) (before : List Entry) (count : ℕ) → before ≡ s.calls → Lives stores s count →
       Ready stores s slot before count
@@ -184,13 +184,13 @@ module _ {World : Type 0} (run : Call → World → List ℕ → World → Type 
       subst (λ (cs : List Entry). Ready stores s slot cs count) (sym is)
       (record { ran = l.ran; numbered = l.numbered; here = (l.holds slot).waiting; there = λ k apart. l.holds k })
 
-  -- ---- and where one was given up, which wasn't stored
+  -- ---- and if one was abandoned, which wasn't stored
 
   ran_without : (world : World) (newer older : List Entry) (lost : Entry) → lost.written ≡ false → Ran run first (newer ++ (lost ∷ older)) world → Ran run first (newer ++ older) world
   ran_without world [] older lost quiet h = subst (λ w. Ran run first older w) (sym (h.3 quiet)) h.1
   ran_without world (e ∷ newer) older lost quiet h = (h.0, ran_without h.0 newer older lost quiet h.1, h.2, h.3)
 
-  -- the calls of a slot and of others, with the one that was given up
+  -- the calls of a slot and of others, with the abandoned one
   record Parts (slot : ℕ) (calls before : List Entry) (lost : Entry) : Type 0 where
     here : entries slot calls ≡ lost ∷ entries slot before
     there : (other : ℕ) → other ≢ slot → entries other calls ≡ entries other before
@@ -202,7 +202,7 @@ module _ {World : Type 0} (run : Call → World → List ℕ → World → Type 
     there = λ k apart. ap (λ (cs : List Entry). entries k cs) g.parts ∙ sym (rest_there slot k g.newer g.older g.lost g.is_of_slot apart) ∙ ap (λ (cs : List Entry). entries k cs) (sym g.rest);
   }
 
-  -- the stored call isn't the one that was given up
+  -- the stored call isn't the abandoned one
   one_less : (stored : Option Cached) (lost : Entry) (calls : List Entry) (count most : ℕ) → (stored ≡ Some lost.kept → ⊥) → After stored (lost ∷ calls) count → count < most → (lost.written ≡ false) × Lags stored calls most
   one_less stored lost calls zero most apart after few = absurd (apart after)
   one_less stored lost calls (suc n) most apart after few = (after.0, record { count = n; after = after.1; few = fewer n most few })
@@ -230,7 +230,7 @@ module _ {World : Type 0} (run : Call → World → List ℕ → World → Type 
         there = λ k apart. subst (λ (cs : List Entry). Holds stores (s.slots k) cs count) (p.there k apart) (l.holds k);
       }
 
-  -- ---- the numbers of a call that was given up and of the one in its place
+  -- ---- the sequence IDs of an abandoned call and of the one in its place
 
   lost_number : (slot : ℕ) (calls before : List Entry) (lost : Entry) → Parts slot calls before lost → AreNumbered (keeps (entries slot calls)) → lost.kept.call.number ≡ due (length (keeps (entries slot before)))
   lost_number slot calls before lost p h = (subst (λ (cs : List Entry). AreNumbered (keeps cs)) p.here h).0
@@ -241,7 +241,7 @@ module _ {World : Type 0} (run : Call → World → List ℕ → World → Type 
   due_before : (slot number : ℕ) (before : List Entry) → number ≡ due (length (of_slot slot before)) → number ≡ due (length (keeps (entries slot before)))
   due_before slot number before h = h ∙ ap (λ (cs : List Cached). due (length cs)) (keeps_all slot before)
 
-  -- A slot that doesn't lag takes none in the place of its last call.
+  -- A slot that doesn't lag accepts no call in the place of its last one.
   in_turn : (stores : Bool) (slot : ℕ) (call : Call) (old new : State World) (count : ℕ) → Lives stores old count →
       RunsIn (stores_turns World) run stores (slot, call) old new → (call.number == due (last_number number_of (newest (keeps (entries slot old.calls))))) ≡ true → Lives stores new (suc count)
   in_turn stores slot call old new count l r is_due =
@@ -253,7 +253,7 @@ module _ {World : Type 0} (run : Call → World → List ℕ → World → Type 
             (lost_count slot old.calls r.before g.lost (parts_of slot old.calls r.before g)) (due_before slot call.number r.before r.sent.is_due) number)
       ]
 
-  -- The call that a slot that lags takes isn't in the place of the stored one.
+  -- The call that a lagging slot accepts isn't in the place of the stored one.
   not_stored : (slot number : ℕ) (s : State World) (before : List Entry) (g : GivesUp slot s.calls before) → AreNumbered (keeps (entries slot s.calls)) → number ≡ due (length (of_slot slot before)) →
       is_next true (last_number number_of (s.slots slot).stored) number ≡ true → (s.slots slot).stored ≡ Some g.lost.kept → ⊥
   not_stored slot number s before g numbered sent next is =
@@ -445,7 +445,7 @@ module _ {World : Type 0} (run : Call → World → List ℕ → World → Type 
     stored = refl;
   }
 
-  -- ---- the next number is new
+  -- ---- the next sequence ID is new
 
   next_if : (lags : Bool) (m : Memory) (calls : List Entry) (call : Call) → m.lags ≡ lags → AreNumbered (keeps calls) → Holds false m calls 0 → call.number ≡ due (length (keeps calls)) → is_next lags (last_number number_of m.kept) call.number ≡ true
   next_if false m calls call is numbered h number =

@@ -163,7 +163,7 @@ record Lives {World : Type 0} (run : Call → World → List ℕ → World → T
   stored : (slot : ℕ) → (s.slots slot).stored ≡ stored_in slot s.calls
   kept : (slot : ℕ) → (s.slots slot).kept ≡ (if (s.slots slot).lags then stored_in slot s.calls else newest (of_slot slot s.calls))
 
--- what a new call requires of the calls before it
+-- the facts about earlier calls that a new call requires
 record Ready {World : Type 0} (run : Call → World → List ℕ → World → Type 0) (first world : World) (slots : ℕ → Memory) (slot : ℕ) (before : List Entry) : Type 0 where
   ran : Ran run first before world
   numbered : (other : ℕ) → AreNumbered (of_slot other before)

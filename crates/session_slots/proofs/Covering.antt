@@ -131,7 +131,7 @@ session_found test (d ∷ qs) (e ∷ ss) c =
     subst (λ x. SessionFound (lookup test (d ∷ qs)) x) (sym (lookup_by test e ss (test d.0) (ap test (sym c.0))))
     (found_step (test d.0) d.1 e.1 (lookup test qs) (lookup test ss) c.1 (session_found test qs ss c.2))
 
--- ---- how many there are
+-- ---- the numbers of entries
 
 pub same_length : (qs ss : List (ℕ × Session)) → SessionsCover qs ss → length qs ≡ length ss
 same_length [] [] c = refl

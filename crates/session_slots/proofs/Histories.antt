@@ -23,7 +23,7 @@ pub newest_number : {X : Type 0} (number_of : X → ℕ) (keeps : X → Bool) (h
 newest_number number_of keeps [] = refl
 newest_number number_of keeps (call ∷ before) = number_if number_of keeps call (accepted number_of keeps before) (newest_number number_of keeps before)
 
--- so a slot represents a history that ends with the cached call
+-- a slot therefore represents a history that ends with the cached call
 pub represents_history : {X : Type 0} (number_of : X → ℕ) (keeps : X → Bool) (last : Option X) (history : List X) → last ≡ newest (accepted number_of keeps history) → RepresentsHistory number_of keeps last history
 represents_history number_of keeps last history h = record { kept = h; number = ap (last_number number_of) h ∙ newest_number number_of keeps history }
 

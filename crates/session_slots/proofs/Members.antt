@@ -1,4 +1,4 @@
--- Entries of maps by number: which are there, and which are found, after a change.
+-- Entries of maps by number: those that exist and those that are found, after a change.
 use Rattle.std.proofs.Common.{◌≡◌, ◌≢◌, ◌⊎◌, inl, inr, ℕ, ◌==◌, Bool, true, false, ◌||◌, cond, List, [], ◌∷◌, filter, find, Option, Some, None, IsSome, refl, sym, ap, ◌∙◌, arith, ◌<◌, ◌≤◌, ◌+◌, suc, length}
 use Rattle.std.specs.List.{list_any}
 use Rattle.std.specs.Option.{option_map_or}
@@ -35,7 +35,7 @@ lookup_in_step : {X : Type 0} (k : ℕ) (b : Bool) (e : ℕ × X) (es : List (�
 lookup_in_step k true e es v t h ih = let same : e.1 ≡ v = cc in inl (pair_is k v e (is_same k e.0 t) (sym same))
 lookup_in_step k false e es v t h ih = inr (ih h)
 
--- an entry that is found is there
+-- an entry that is found exists
 pub lookup_in : {X : Type 0} (k : ℕ) (es : List (ℕ × X)) (v : X) → lookup (is_at (nat_cmp k)) es ≡ Some v → IsIn (k, v) es
 lookup_in k [] v h = cc
 lookup_in k (e ∷ es) v h = lookup_in_step k (is_at (nat_cmp k) e.0) e es v refl h (lookup_in k es v)
@@ -199,7 +199,7 @@ pub none_of : {X : Type 0} (p : X → Bool) (es : List (ℕ × X)) (e : ℕ × X
 none_of p [] e h m = absurd m
 none_of p (x ∷ es) e h m = none_of_step p (p x.1) (list_any p (values_of es)) x es e refl refl h m (none_of p es e)
 
--- ---- how many entries there are
+-- ---- the number of entries
 
 length_filter_step : {X : Type 0} (p : X → Bool) (b : Bool) (x : X) (xs : List X) → length (filter p xs) ≤ length xs → length (cond b (x ∷ filter p xs) (filter p xs)) ≤ length (x ∷ xs)
 length_filter_step p true x xs h = omega (arith, h)

@@ -367,7 +367,7 @@ made_orderly leaving r a short room o = record {
   sessions_end = o.sessions_end;
 }
 
--- a record is created if there is room
+-- a record is created if it fits
 
 new_if : (b : Bool) (other goes : Option ℕ) → (if b then decisions.Refuses statuses.NoSpc else decisions.Makes other) ≡ decisions.Makes goes → (other ≡ goes) × (b ≡ false)
 new_if true other goes h = cc
@@ -465,7 +465,7 @@ granted_within asked enough = record {
   slots = at_most_one_of asked.slots MOST_SLOTS (lit≤ tt);
 }
 
--- there is no room for another session
+-- another session doesn't fit
 abbrev has_no_place : Registry → Bool
 has_no_place r = nat_le MOST_SESSIONS (length r.sessions) || nat_le END r.next_session
 

@@ -1,4 +1,5 @@
--- What is read out of a registry and restored makes the registry, in which every slot lags.
+-- Restoring the parts that are read out of a registry makes the registry, except that every slot
+-- lags.
 use Rattle.std.proofs.Common.{◌≡◌, ◌≢◌, ◌⊎◌, inl, inr, ℕ, ◌+◌, ◌<◌, ◌≤◌, ◌&&◌, Bool, true, false, not, nat_lt, nat_le, cond, List, [], ◌∷◌, ◌++◌, map, find, length, slice_get, set, replicate, suc, Option, Some, None, is_some, is_none, All, refl, sym, ap, ◌∙◌, subst, arith}
 use Rattle.std.specs.Option.{option_map, option_map_or, option_and_then, IfSome}
 use Rattle.std.specs.Map.{lookup, set_value, keys_of, values_of}

@@ -1,4 +1,4 @@
--- Retries change nothing, so a run without them is a run.
+-- Retries change nothing. A run without them is therefore a run.
 use Rattle.std.proofs.Common.{◌≡◌, Bool, true, false, not, List, [], ◌∷◌, cond, refl, ap, sym, subst}
 use Rattle.std.specs.Prelude.{map}
 use Rattle.session_slots.specs.Retrying.{Fate, Runs, Retries, Fails, is_retry, AnswersBy, AnswersAll, Answering, Exchange, first_ones, AreAnswered, WithoutRetries}

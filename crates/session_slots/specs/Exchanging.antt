@@ -68,7 +68,7 @@ with_client removed r a = record r {
 abbrev pub is_full : Option ℕ → Registry → Exchanging → Bool
 is_full removed r a = nat_le MOST_CLIENTS (length (filter (stays removed a.owner) r.clients)) || nat_le END r.next_client
 
--- a new record, unless there are too many, or no client ID is left
+-- a new record, unless the limit of records is reached, or no client ID is left
 abbrev pub decision_for_new : Option ℕ → Registry → Exchanging → ExchangeDecision
 decision_for_new removed r a = if is_full removed r a then Refuses statuses.NoSpc else Makes removed
 

@@ -199,9 +199,9 @@ impl<A: Allocator + Copy> Clients<A> {
         true
     }
 
-    /// Restores the record of a client, whose lease begins in this second. It is `Misfit` if its client ID wasn't
-    /// given yet, or has a record; its owner has another confirmed record, or more than 1,024 bytes; it caches a
-    /// refusal that is never cached; or there are 64 records.
+    /// Restores the record of a client, whose lease begins in this second. It is `Misfit` in these cases. Its client ID
+    /// wasn't given yet, or has a record. Its owner has another confirmed record, or more than 1,024 bytes. It caches a
+    /// refusal that is never cached. Or 64 records exist.
     pub fn restore_record(&mut self, kept: Record<'_>, now: u64) -> Result<(), RestoreFault>
         ensures fits { OnOk result (record_fits self.old (client_of kept.entry) ≡ true) }
         ensures misfit { result ≡ Err RestoreFault.Misfit → record_fits self.old (client_of kept.entry) ≡ false }
@@ -218,8 +218,8 @@ impl<A: Allocator + Copy> Clients<A> {
         Ok(())
     }
 
-    /// Restores a session, whose slots lag and cache no call yet. It is `Misfit` if its number wasn't given yet, or
-    /// is in use; its client has no confirmed record; more is granted than may be; or there are 64 sessions.
+    /// Restores a session, whose slots lag and cache no call yet. It is `Misfit` in these cases. Its number wasn't
+    /// given yet, or is in use. Its client has no confirmed record. More is granted than may be. Or 64 sessions exist.
     #[tactic(auto, using(crate::proofs::Restored::session_has_slots))]
     pub fn restore_session(&mut self, number: u64, held: Held) -> Result<(), RestoreFault>
         ensures fits { OnOk result (session_fits self.old number held ≡ true) }
@@ -267,7 +267,7 @@ impl<A: Allocator + Copy> Clients<A> {
         self.registry.session_from(number)
     }
 
-    /// How many records and sessions there are, at most 64 of each. Both are in the order of rising numbers.
+    /// The numbers of records and of sessions, at most 64 of each. Both are in the order of rising numbers.
     pub fn counts(&self) -> (usize, usize)
         ensures counts { result ≡ (length self.now.clients, length self.now.sessions) }
         ensures rising { IsRising self.now.clients × IsRising self.now.sessions }

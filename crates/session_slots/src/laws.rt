@@ -35,7 +35,7 @@ pub trait World {
     ghost run: { Call → Self → List ℕ → Self → Type 0 };
 }
 
-/// For every run over a list of calls there is one over the list without the retries. The replies to the rest are
+/// For every run over a list of calls a run over the list without the retries exists. The replies to the rest are
 /// equal, and so is the state, whatever running a call does.
 #[tactic(auto, using(crate::proofs::Retrying::retries_go))]
 pub fn retries_change_nothing<W: World>()
@@ -86,8 +86,8 @@ pub fn what_is_read_out_is_restored()
     ensures { (r : Registry) → IsReadable r → IsRestored r }
 {}
 
-/// A written value is of one record that has a form, of one session, or of one call on one slot. So the value that is
-/// read is the written one, by the laws of [`xdr_wire`].
+/// A written value is of one record that has a form, of one session, or of one call on one slot. By the laws of
+/// [`xdr_wire`], the value that is read is the written one.
 pub fn what_is_written_is_of_one()
     ensures clients { (c d : Client) → has_form c ≡ true → has_form d ≡ true → client_value c ≡ client_value d → c ≡ d }
     ensures sessions { (m n : ℕ) (c d : Held) → session_value m c ≡ session_value n d → (m ≡ n) × (c ≡ d) }

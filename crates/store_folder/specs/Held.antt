@@ -119,7 +119,7 @@ without_spare h = record h { spare = None }
 abbrev pub bar_of : ℕ → Held → Option ErrorKind
 bar_of n h = if h.may_write then (if nat_lt h.limit n then Some FileTooLarge else None) else Some ReadOnlyFilesystem
 
--- CURRENT was replaced by a file with these bytes. The next spare has the same length, if there is one.
+-- CURRENT was replaced by a file with these bytes. The next spare has the same length, if any.
 pub record IsTurned (bytes : Bytes) (old new : Held) : Type 0 where
   pub allowed : bar_of (length bytes) old ≡ None
   pub stays : new ≡ record old { current = new.current; spare = new.spare }

@@ -219,7 +219,7 @@ impl<R, A: Allocator> StoreFolder<R, A> {
         self.held.identity
     }
 
-    /// Takes the system's error of a failed call of the disk, if there is one. It is returned once.
+    /// Takes the system's error of a failed call of the disk, if any. It is returned once.
     pub fn take_failure(&mut self) -> Option<Failure>
         ensures result { result ≡ self.old.held.failure }
         ensures after { self.new ≡ without_failure self.old }

@@ -138,7 +138,7 @@ one_less k (x ∷ ks) h =
     ] h
 
 module _ (kinds : ℕ → Option Kind) (names : List Name) (rooted : IsRooted kinds names) where
-  -- there is one path to the root
+  -- the path to the root is unique
   unique : (s t k : ℕ) → kinds k ≡ Some Directory → Climbs names s k → Climbs names t k → s ≡ t
   unique zero zero k is a b = refl
   unique zero (suc t) k is a (n, present, at, up) = absurd (rooted.root_has_no_name n present (at ∙ a))

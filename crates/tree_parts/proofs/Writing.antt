@@ -49,7 +49,7 @@ same_object o p kind_is bytes_is owner_is group_is list_is high_is change_is tim
     ∙ ap (λ (x : Moment). let y : Object = record { kind = p.kind; bytes = p.bytes; owner = p.owner; group = p.group; list = p.list; high = p.high; change = p.change; time_modify = p.time_modify; time_metadata = x; stamp = o.stamp } in y) time_metadata_is
     ∙ ap (λ (x : ℕ). let y : Object = record { kind = p.kind; bytes = p.bytes; owner = p.owner; group = p.group; list = p.list; high = p.high; change = p.change; time_modify = p.time_modify; time_metadata = p.time_metadata; stamp = x } in y) stamp_is
 
--- ---- what is taken
+-- ---- the parts that are taken
 
 pub object_taken : (r : Result Begun RestoreFault) (old : Begun) (number : ℕ) (o : Object) (v : Value forms.new_object) (last : _) → IfOk r (λ b. b ≡ with_object old number o) → (object_fits old number o ≡ false → r ≡ Err Unsound)
     → object_value number o ≡ inr (inl (number, (v, last))) → IfOk r (λ more. Takes (Some old) (inr (inl (number, (v, last)))) more)

@@ -94,7 +94,7 @@ rolls_in value = as_table value >>= rolls
 abbrev pub rolls_at : List ℕ → Members → Option (Option Rolls)
 rolls_at key document = if_there rolls_in (get_member key document)
 
--- the keys of a document, if each has its type, none but `members` is missing, and there is no other key
+-- the keys of a document, if each has its type, none but `members` is missing, and no other key occurs
 unfoldable pub outline : Members → Option Outline
 outline document = if not (has_known_keys document) then None else do
   domain ← text_at (codes "domain") document
@@ -201,7 +201,7 @@ abbrev pub Answers : List ℕ → Result Content BookFault → Type 0
 Answers text (Ok book) = book_of text ≡ Ok book
 Answers text (Err fault) = (fault ≡ Memory) ⊎ (book_of text ≡ Err fault)
 
--- the same for a text that may be missing
+-- a reader's result for a text that may be missing
 abbrev pub AnswersFrom : Option (List ℕ) → Result Content BookFault → Type 0
 AnswersFrom text (Ok book) = book_from text ≡ Ok book
 AnswersFrom text (Err fault) = (fault ≡ Memory) ⊎ (book_from text ≡ Err fault)

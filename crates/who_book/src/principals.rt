@@ -151,7 +151,7 @@ fn special(identifier: &[u8]) -> Spelling
     spelling
 }
 
-/// Whether there are digits, without a leading zero unless it is the only digit.
+/// Whether the text has digits, without a leading zero unless it is the only digit.
 fn is_short(digits: &[u8]) -> bool
     ensures { result ≡ is_short digits.now }
 {

@@ -68,7 +68,7 @@ option_link read f (Ok (false, rest)) = refl
 option_link read f (Ok (true, rest)) = option_item f (read rest)
 option_link read f (Err e) = refl
 
--- a chain is optional data, followed by a chain if the data is there
+-- a chain is optional data, followed by a chain if the data is present
 pub chain_by_options : (t : Xdr) (bytes : List ℕ) → read_at (chain t) bytes ≡ (read_at (optional t) bytes >>= chained (read_at (chain t)))
 chain_by_options t bytes = chain_step t bytes ∙ option_link (read_at t) (read_at (chain t)) (boolean_at bytes)
 

@@ -31,7 +31,7 @@ step {V} spelling_of fits old now then begin all left rest v is h a f = record {
   fitting = λ g. h.fitting (subst (AllByRecursion fits) (sym is) (f, g));
 }
 
--- if there isn't room for the next item, there isn't room for all
+-- if the next item doesn't fit, not all items fit
 pub too_little : {V : Type 0} (spelling_of : V → List ℕ) (fits : V → Type 0) (old now : Buffer) (begin : List ℕ) (all left rest : List V) (v : V)
     → left ≡ v ∷ rest → Going spelling_of fits old begin all now left → now.room < length (spelling_of v) → old.room < length (begin ++ flat_map spelling_of all)
 too_little {V} spelling_of fits old now begin all left rest v is h lt =
@@ -76,7 +76,7 @@ put_nothing : {E : Type 0} (old new : Buffer) (item : List ℕ) (r : Result (Uni
 put_nothing old new item (Err e) h is = h
 put_nothing old new item (Ok u) h is = absurd cc
 
--- if there is no room for the next item, the buffer is truncated to what it was
+-- if the next item doesn't fit, the buffer is truncated to its earlier content
 pub cut_back : {V E : Type 0} (spelling_of : V → List ℕ) (fits : V → Type 0) (old now after cut : Buffer) (begin : List ℕ) (all left rest : List V) (v : V) (r : Result (Unit {0}) E) (start : ℕ)
     → start ≡ length old.bytes → left ≡ v ∷ rest → Going spelling_of fits old begin all now left → Puts now after (spelling_of v) r → is_err r ≡ true
     → cut.bytes ≡ take start after.bytes → cut.room + start ≡ after.room + length after.bytes → (old.room < length (begin ++ flat_map spelling_of all)) × (cut ≡ old)

@@ -106,7 +106,7 @@ abbrev pub name_in : Claim → List ℕ
 name_in (ByName name) = name
 name_in ByHandle = []
 
--- the object of that name, if there is one
+-- the object of that name, if any
 abbrev pub found_by : Claim → FileHandles → Sight → Option ℕ
 found_by (ByName name) h s = child s (here h) name
 found_by ByHandle h s = h.current
@@ -137,7 +137,7 @@ file_of wanted = record { kind = File; text = resized [] (unwrap_or wanted.size 
 abbrev pub is_opened_by : ℕ → List ℕ → ℕ → Opened → Bool
 is_opened_by client owner file o = (o.client == client) && pointwise nat_eq o.owner owner && (o.object == file)
 
--- the owner's open of the object, if there is one: then OPEN upgrades it
+-- the owner's open of the object, if any: then OPEN upgrades it
 abbrev pub joined : Context → Value open_args → Option ℕ → List Opened → Option Opened
 joined c v None opens = None
 joined c v (Some file) opens = find (is_opened_by (client_of c) (open_owner v) file) opens
