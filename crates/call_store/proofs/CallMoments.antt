@@ -62,7 +62,7 @@ renews_moments store store' s t acts acts' (Err fault) v lasting last (j', stops
     wider_through (Some v.log ∷ []) [] (t ∷ s ∷ []) (s ∷ t ∷ []) acts acts' (no_none v.log) (swapped s t)
     (writes_moments store.journal (Some v.log) (Some v.log ∷ []) (s ∷ []) t acts (serving_represents store s acts v) (inl refl) v.serves.matches v.serves.going lasting acts' (swap_after (Some v.log ∷ []) s t acts' last) (Err stops.why) j' stops.writes)
 
--- ---- what was logged
+-- ---- the logged events
 
 module _ (store store' : Store) (old new : Served) (acts acts' : List Act) (v : Serving store old.state acts) (l : Logs [] old new) (lasting : IsLasting new.state) (last : KeptRepresent (old.state ∷ new.state ∷ []) acts') where
   abbrev both : List State

@@ -41,7 +41,7 @@ equal m n e = grind (arith, e)
 pub machine_of : (store : Store) (s : State) (acts : List Act) → (v : Serving store s acts) → store.journal.current.machine ≡ MACHINE → v.log.current.machine ≡ MACHINE
 machine_of store s acts v is = sym (ap (λ (c : Current). c.machine) v.serves.matches.current_is) ∙ is
 
--- ---- what was logged
+-- ---- the logged events
 
 module _ (store store' : Store) (old new : Served) (acts acts' : List Act) (v : Serving store old.state acts) (l : Logs [] old new) (lasting : IsLasting new.state) where
   nothing_kept : new.log ≡ Some [] → IsAsBefore (of_acts acts acts') store store' → Serving store' new.state acts'

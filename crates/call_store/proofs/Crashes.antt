@@ -15,7 +15,7 @@ use Rattle.store_journal.proofs.Stepping.{new_law, none_isnt}
 use Rattle.compound_run.specs.State.{State}
 use Rattle.call_store.specs.Crash.{LogsRepresent, IsFinished, Leaves, Survives, CrashLaw, EmptyLaw, FinishedLaw, WipedLaw}
 
--- what is found of a log is one of the contents that represent a state
+-- the content that is found of a log is one of those that represent a state
 abbrev pub content_of : Log → List Frame → Content
 content_of log prefix = record { parts = log.content.parts; records = log.content.records ++ records_in prefix }
 
@@ -56,7 +56,7 @@ nothing_there states = record {
   ];
 }
 
--- ---- what is kept is never new
+-- ---- a kept store is never taken for a new one
 
 finished_by : (acts : List Act) (logs : List (Option Log)) → ((log : Log) → IsIn (Some log) logs → IsLog log acts) → (IsIn None logs → ⊥) → (o : Option Log) (found : Option Bytes) → IsIn o logs → Names acts o found → IsFinished found
 finished_by acts logs written some None found is names = absurd (some is)

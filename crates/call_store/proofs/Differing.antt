@@ -73,7 +73,7 @@ module _ (c : Called) (made : Call) (q r q' r' : State) (a : Alike q r) (first :
   over : Covers r (ready made q)
   over = covers c made q r q' a first
 
-  -- the call runs there too
+  -- the call runs in that state too
   runs_too : fate (ready made r) made ≡ Runs
   runs_too = (simulates r (ready made q) made (Some first.results) q' over first.numbered was.fate_is was.runs.0).replays.fate
 

@@ -1,4 +1,4 @@
--- A start goes on with what was kept, and is never refused.
+-- A start continues from the kept content, and is never refused.
 use Rattle.std.proofs.Common.{◌≡◌, ◌≢◌, ◌∙◌, ℕ, List, [], ◌∷◌, inl, inr, sym, ap, subst}
 use Rattle.std.specs.Prelude.{◌⊎◌, Option, Some, None, Result, Ok, Err}
 use Rattle.store_journal.specs.declared.current.Current.{Current}
@@ -23,7 +23,7 @@ use Rattle.call_store.specs.Opening.{IsUnfinished, fault_of_load}
 use Rattle.call_store.specs.Starting.{AfterOpen, StaysNew}
 use Rattle.call_store.proofs.Reading.{current_read, current_unread, file_read, file_unread, none_seen, none_unseen}
 
--- ---- what was loaded
+-- ---- the loaded content
 
 none_left : (c : Current) → c.generation ≢ 0 → c.generation ≡ 0 → ⊥
 none_left c some none = some none
@@ -99,7 +99,7 @@ module _ (states : List State) (logs : List (Option Log)) (acts : List Act) (all
     | inr some ↦ absurd (some.0 unfinished)
   ]
 
--- ---- what was chosen
+-- ---- the chosen content
 
 -- CURRENT names one of the logs, whose file was read
 pub record Chosen (states : List State) (logs : List (Option Log)) (acts mid : List Act) (c : Current) (file : Bytes) : Type 0 where

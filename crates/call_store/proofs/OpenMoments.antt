@@ -186,7 +186,7 @@ module _ (states : List State) (logs : List (Option Log)) (acts mid acts' : List
         let m2 : three.after ≡ Synced log.current.slot ∷ wrote = three.two ∙ ap (λ (l : List Act). Synced log.current.slot ∷ l) three.one in
         then_one logs states acts three.after acts' _ three.three (to_acts logs states acts (Synced log.current.slot ∷ wrote) three.after m2 after_sync) last
 
-  -- what the disk represents at the end
+  -- the states that the disk represents at the end
   kept_is : (j : Running) (on : serving.GoesOn j log (Some x.content) acts') (d : Content) → HasAll (all_kept (with_later log on.prefix on.at Going)) (Some d) → HasAll log (Some d)
   kept_is j on d h =
       let kept = all_kept (with_later log on.prefix on.at Going) in

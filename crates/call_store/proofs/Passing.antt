@@ -1,4 +1,4 @@
--- What the disk represents at each moment, act by act.
+-- The states that the disk represents at each moment, act by act.
 use Rattle.std.proofs.Common.{◌≡◌, ◌∙◌, List, [], ◌∷◌, ◌++◌, length, sym, ap, subst, arith, length-append}
 use Rattle.std.proofs.lemmas.List.{nil_from_length}
 use Rattle.std.specs.Prelude.{Option, None}

@@ -263,7 +263,7 @@ module _ (store store' : Store) (s t : State) (acts acts' : List Act) (v : Servi
   renewed_closed (size, writes, then_is) =
       written store.journal store'.journal (Some v.log) (Some v.log ∷ []) (s ∷ []) t acts acts' (serving_represents store s acts v) (inl refl) v.serves.matches v.serves.going lasting store' size writes then_is
 
-  -- the store goes on as before
+  -- the store continues as before
   goes_on : (j' : Journal) (parts : List Bytes) → OldCounts store.journal (Some v.log) parts acts j' acts' → Serving (with_journal j' store) s acts'
   goes_on j' parts (inl stays) = serving_on store (with_journal j' store) s acts acts' stays.0 (ap (λ (j : Journal). with_journal j store) stays.1) v
   goes_on j' parts (inr writes) = record { log = v.log; serves = writes.1.serves; represents = v.represents; own = v.own; records = v.records }

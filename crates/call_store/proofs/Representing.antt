@@ -1,4 +1,4 @@
--- What is stored represents a server after each change.
+-- The stored content represents a server after each change.
 use Rattle.std.proofs.Common.{◌≡◌, ◌∙◌, List, [], ◌∷◌, ◌++◌, Some, refl, sym, ap, subst}
 use Rattle.std.specs.List.{flat_map}
 use Rattle.store_journal.specs.Disk.{Bytes}
@@ -31,7 +31,7 @@ records_alike (bytes ∷ records) q r q' r' a one other =
     let first = subst (λ (es : List Entry). ReplaysAll es q one.1) same one.3 in
     records_alike records one.1 other.1 q' r' (entries_alike other.0 q r one.1 other.1 a first other.3) one.4 other.4
 
--- the same parts restore one state
+-- equal parts restore one state
 pub one_base : (parts : List Bytes) (p q : State) → Restores parts p → Restores parts q → p ≡ q
 one_base parts p q one other =
     one.state_is ∙ (ap (λ (k : Kept). restored k.world k.clients k.book REMEMBERED) (holds_one parts one.kept other.kept one.holds other.holds) ∙ sym other.state_is)

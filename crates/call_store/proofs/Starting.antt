@@ -1,4 +1,4 @@
--- A start over a disk that represents some states. It goes on, or only a checksum collision refuses it.
+-- A start over a disk that represents some states. It continues, or only a checksum collision refuses it.
 use Rattle.std.proofs.Common.{◌≡◌, ◌∙◌, ℕ, true, false, List, [], ◌∷◌, ◌++◌, inl, inr, refl, sym, ap, subst, append_assoc}
 use Rattle.std.specs.Prelude.{◌⊎◌, not, Option, Some, None, Result, Ok, Err}
 use Rattle.store_journal.specs.declared.current.Current.{Current}
@@ -99,7 +99,7 @@ module _ (states : List State) (logs : List (Option Log)) (acts mid acts' : List
   keeps : HasAll log (Some x.content) → Keeps states log x.content
   keeps has = all.each log x.content ch.of_these has
 
-  -- what the disk represents after reading
+  -- the states that the disk represents after reading
   pub read_represents : RepresentAfter logs states mid
   read_represents = (all_seen logs, subst (LogsRepresent states (all_seen logs)) (sym ch.finds.acts_are) (read_both states logs acts all log ch.finds.found file), none_unseen logs)
 

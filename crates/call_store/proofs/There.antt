@@ -1,4 +1,4 @@
--- If there is a log, CURRENT exists.
+-- If a log is active, CURRENT exists.
 use Rattle.std.proofs.Common.{◌≡◌, ◌∙◌, true, false, List, [], ◌∷◌, ◌++◌, refl, sym, subst}
 use Rattle.std.specs.Prelude.{Option, Some, None}
 use Rattle.store_journal.specs.declared.checksum.Identity.{Identity}

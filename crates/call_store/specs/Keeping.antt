@@ -33,13 +33,13 @@ IsAsBefore p store store' = Unchanged p × (store' ≡ store)
 abbrev pub HadStopped : {D : Type 0} → Passage D → Store → Result (Unit {0}) StoreFault → Store → Type 0
 HadStopped p store result store' = (result ≡ Err Failed) × IsAsBefore p store store'
 
--- there is nothing to do
+-- nothing is to be done
 abbrev pub IsIdle : {D : Type 0} → Passage D → Store → Result (Unit {0}) StoreFault → Store → Type 0
 IsIdle p store result store' = (result ≡ Ok tt) × IsAsBefore p store store'
 
 -- ---- a record
 
--- after a refused frame: the store goes on if an allocation failed, and stops for any other reason
+-- after a refused frame: the store continues if an allocation failed, and stops for any other reason
 abbrev pub after_refusal : JournalFault → Store → Store
 after_refusal journal.TooLong store = stopped store
 after_refusal journal.Memory store = store
@@ -80,7 +80,8 @@ is_memory (writing.Refused journal.Full) = false
 is_memory (writing.Refused journal.NoCheckpoint) = false
 is_memory (writing.Refused journal.Failed) = false
 
--- After a failed checkpoint: if an allocation failed before the checkpoint was begun, the store goes on. Else it stops.
+-- After a failed checkpoint: if an allocation failed before the checkpoint was begun, the store continues. Else it
+-- stops.
 abbrev pub after_stop : WriteFault → Journal → Store → Store
 after_stop why old store =
     if is_memory why && store.journal.current.begun == old.current.begun then store else stopped store

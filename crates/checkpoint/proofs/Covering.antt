@@ -35,7 +35,7 @@ passed n e es other = ap (λ b. cond b (Some e.1) (lookup (is_at (nat_cmp n)) es
 found : {X : Type 0} (e : ℕ × X) (es : List (ℕ × X)) → lookup (is_at (nat_cmp e.0)) (e ∷ es) ≡ Some e.1
 found e es = ap (λ b. cond b (Some e.1) (lookup (is_at (nat_cmp e.0)) es)) (is_at-same e.0)
 
--- all items have numbers above this one, so none has it
+-- all items have numbers above this one, and none has it
 none_above : {X : Type 0} (n m : ℕ) (es : List (ℕ × X)) → n ≤ m → AllByRecursion (λ k. nat_cmp m k ≡ Less) (keys_of es) → lookup (is_at (nat_cmp n)) es ≡ None
 none_above n m [] le all = refl
 none_above n m (e ∷ es) le all = passed n e es (other n m e.0 le (below m e.0 all.0)) ∙ none_above n m es le all.1

@@ -99,7 +99,7 @@ ends_more adds j k first more (Refused fault) old new it = record {
 pub ends_stop : {D : Type 0} (adds : Adding D) (j k : Journal) (first more : List Bytes) (old new : D) → PartsGiven (passage adds old new) j first k → PartsEnd (passage adds old new) j (first ++ more) (Err Memory) k
 ends_stop adds j k first more old new it = record { prefix = first; others = more; parts_are = refl; given = it }
 
--- the same of an equal list of parts
+-- writing an equal list of parts ends the same way
 pub ends_as : {D : Type 0} (adds : Adding D) (j k : Journal) (some all : List Bytes) (result : Result (Unit {0}) WriteFault) (old new : D) → some ≡ all → PartsEnd (passage adds old new) j some result k → PartsEnd (passage adds old new) j all result k
 ends_as adds j k some all result old new is it = subst (λ (l : List Bytes). PartsEnd (passage adds old new) j l result k) is it
 

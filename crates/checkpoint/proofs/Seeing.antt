@@ -41,7 +41,7 @@ past_none r number slot s there past =
     ap (λ o. option_and_then (λ (p : Place). p.kept) (option_and_then (λ (s : Session). slice_get s.slots slot) o)) there
     ∙ ap (λ o. option_and_then (λ (p : Place). p.kept) o) (slice_get_past s.slots slot past)
 
--- a session of which each slot was examined
+-- a session with all its slots examined
 pub session_seen : (r : Registry) (number : ℕ) (held : Held) (o : Option Session) → session_at r number ≡ o → Some held ≡ option_map held_of o → IfSome o (λ s. HasSlots s.granted s.slots) → ((slot : ℕ) → slot < held.granted.slots → last_number number_of (kept_at r number slot) < 2 ^ 32) → IsSessionInOrder r number
 session_seen r number held None there is has seen = absurd (never is)
   where

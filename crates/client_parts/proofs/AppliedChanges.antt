@@ -89,7 +89,7 @@ applies_uniquely old bytes a b x y r q =
     (subst (λ (s : List ℕ). AppliesAll r.count (record old { next_open = q.next_open }) s a x) same.1
     (subst (λ (n : ℕ). AppliesAll r.count (record old { next_open = n }) r.after a x) open_is r.extends))) q.extends
 
--- ---- what is left
+-- ---- the bytes that are left
 
 -- the remaining changes of n transition to the state to which all n do
 pub record IsPrefixOfChanges (n : ℕ) (old : ClientState) (bytes : List ℕ) (left : ℕ) (now : ClientState) (rest : List ℕ) : Type 0 where

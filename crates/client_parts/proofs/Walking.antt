@@ -41,7 +41,7 @@ none_from at n (e ∷ es) h le = none_step at n (nat_le at e.0) e es refl h le (
 
 -- ---- the next one
 
--- all items have numbers above this one, so none has it
+-- all items have numbers above this one, and none has it
 none_above : {X : Type 0} (n m : ℕ) (es : List (ℕ × X)) → n < m → AllByRecursion (λ k. nat_cmp m k ≡ Less) (keys_of es) → lookup (is_at (nat_cmp n)) es ≡ None
 none_above n m [] lt all = refl
 none_above n m (e ∷ es) lt all = passed n e es (other n m e.0 lt (below_of m e.0 all.0)) ∙ none_above n m es lt all.1
@@ -105,7 +105,7 @@ module _ {X Y : Type 0} (es : List (ℕ × X)) (fs : List (ℕ × Y)) (rising : 
   neither None (Some n) h = cc
   neither None None h = (refl, refl)
 
-  -- if neither has a next number, neither has an item from there on
+  -- if neither has a next number, neither has an item from that number on
   pub none_further : (at n : ℕ) → first_of (number_from at es) (number_from at fs) ≡ None → at ≤ n → None_at n
   none_further at n h le =
       let both = neither (number_from at es) (number_from at fs) h in
@@ -133,7 +133,7 @@ module _ {X Y : Type 0} (es : List (ℕ × X)) (fs : List (ℕ × Y)) (rising : 
   pub none_before : (at m n : ℕ) → first_of (number_from at es) (number_from at fs) ≡ Some m → at ≤ n → n < m → None_at n
   none_before at m n h le lt = before_of at m n (number_from at es) (number_from at fs) refl refl h le lt
 
-  -- all numbers are below an end, so the next one is
+  -- all numbers are below an end, and the next one is too
   module _ (end : ℕ) (below : (e : ℕ × X) → IsIn e es → e.0 < end) (below' : (f : ℕ × Y) → IsIn f fs → f.0 < end) where
     pub record IsNext (at m : ℕ) : Type 0 where
       pub least : at ≤ m

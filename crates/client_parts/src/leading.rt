@@ -53,7 +53,7 @@ fn apply_all<A: Allocator + Copy>(
 /// The bytes after them are left.
 ///
 /// `Unfit`: the bytes don't have this form, or a change doesn't fit the state before it. `Memory`:
-/// an allocation fails. After a fault some changes may have been applied, so the state can't be
+/// an allocation fails. After a fault some changes may have been applied, and the state can't be
 /// used.
 pub fn apply_changes<A: Allocator + Copy>(
     clients: &mut ClientState<A>,

@@ -19,7 +19,7 @@ use Rattle.compound_run.proofs.Ending.{never_delayed}
 use Rattle.compound_laws.specs.Replays.{IsEarlier}
 use Rattle.compound_laws.proofs.Determined.{Answer, delay_is, isnt_delay, later_same, never_first, step_same}
 
--- the same place is reported, or an earlier one
+-- an equal place is reported, or an earlier one
 abbrev pub Agree : Option ℕ → Option ℕ → Type 0
 Agree other place = IsEarlier other place ⊎ (other ≡ place)
 

@@ -102,7 +102,7 @@ alone_over caller (Known kinds.DestroySession v) sessions old outcome new c acts
 alone_over caller (Known kinds.DestroyClientId v) sessions old outcome new c acts = destroy_clientid_over caller v sessions old outcome new c acts
 alone_over caller op sessions old outcome new c acts = absurd acts
 
--- ---- one that isn't logged
+-- ---- a call that isn't logged
 
 not_ok : {A : Type 0} (gives : A → Outcome) (op : Operation) (result : Result A Status) (outcome : Result Outcome Status) → outcome ≡ outcome_from gives result
     → keeps_alone op outcome ≡ false → (x : A) → result ≡ Ok x → ⊥

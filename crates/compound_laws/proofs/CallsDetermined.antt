@@ -1,5 +1,5 @@
 -- A call that is run twice from one state. Let both runs fail an allocation of the same operation, or of none. Then the
--- replies are the same, and so are the end states but for the trail. If an allocation fails at the place of the first
+-- replies are equal, and the end states are equal but for the trail. If an allocation fails at the place of the first
 -- run's record, that holds unless an operation before that place failed one.
 use Rattle.std.proofs.Common.{◌≡◌, ◌-◌, ◌||◌, ℕ, Bool, true, List, sym, ap, ◌∙◌}
 use Rattle.std.specs.Prelude.{◌∷◌, Option, Some, None}

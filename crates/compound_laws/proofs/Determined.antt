@@ -1,6 +1,6 @@
 -- A call that is run twice from one state. Let both runs fail an allocation of the same operation, or of none. Then the
--- replies are the same, and so are the end states. Only the lines of a delayed operation may differ, which are held and
--- never written.
+-- replies and the end states are equal. Only the lines of a delayed operation may differ, which are held and never
+-- written.
 use Rattle.std.proofs.Common.{◌≡◌, ◌≢◌, ℕ, zero, suc, Bool, true, false, if◌then◌else◌, List, refl, sym, ap, subst, ◌∙◌, length, inl, inr}
 use Rattle.std.specs.Prelude.{[], ◌∷◌, Option, Some, None, Result, Ok, Err, MatchResult, OnOk, OnErr}
 use Rattle.std.specs.Option.{option_map}

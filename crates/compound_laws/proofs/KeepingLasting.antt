@@ -1,4 +1,4 @@
--- No operation, and so no call, changes whether sessions are persistent.
+-- No operation, and therefore no call, changes whether sessions are persistent.
 use Rattle.std.proofs.Common.{◌≡◌, ℕ, Bool, true, false, inl, inr, refl, sym, ap, subst, ◌∙◌}
 use Rattle.std.specs.Prelude.{Option, Some, None, unwrap_or}
 use Rattle.xdr_wire.specs.Xdr.{Value}

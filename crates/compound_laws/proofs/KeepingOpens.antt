@@ -123,7 +123,7 @@ all_reopened : (w : World) (access number : ℕ) (opens : List Opened) → AllBy
 all_reopened w access number [] live = tt
 all_reopened w access number (o ∷ opens) live = (one_reopened w access number o live.0, all_reopened w access number opens live.1)
 
--- there was space for one more
+-- one more fitted
 within : (n : ℕ) (more : Bool) → nat_lt n 4096 && more ≡ true → n < 4096
 within n more space = of (nat_lt n 4096) refl space
   where

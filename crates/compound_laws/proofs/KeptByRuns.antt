@@ -12,7 +12,7 @@ use Rattle.compound_run.specs.Runs.{Point, Given, Steps, Runs, Unless, outcome, 
 use Rattle.compound_run.specs.Sessions.{opens_without, with_registry}
 use Rattle.compound_run.specs.State.{State, Call, Fate, Refused, Retried, Run, Answers, AnswersBy, fate}
 
--- each operation that is OK preserves it; so do other clients and sessions, also if the opens of a client are closed
+-- each operation that is OK preserves it; other clients and sessions do too, also if the opens of a client are closed
 pub record Keeps (P : Realm → Type 0) : Type 0 where
   pub operations : (c : Context) (h : Handles) (op : Operation) (r : Realm) (o : Outcome) → P r → outcome (meaning c h op) r ≡ Ok o → P ((meaning c h op).effect r)
   pub registry : (r : Realm) (registry : Registry) → P r → P (with_registry registry r)

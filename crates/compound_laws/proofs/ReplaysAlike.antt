@@ -22,7 +22,7 @@ use Rattle.compound_laws.proofs.Simulates.{simulates}
 abbrev pub RepliesBy : Option ℕ → Fate Reply → Call → State → Reply → Ran → State → Type 0
 RepliesBy refused f call old reply ran new = (answers : AnswersBy f call old reply ran new) × DelaysAnswer refused f call old reply ran new answers
 
--- if a state covers, so does one with the same realm and settings
+-- if a state covers another, one with the same realm and settings covers it too
 covers_too : (p q s : State) → p.realm ≡ q.realm → p.settings ≡ q.settings → Covers p s → Covers q s
 covers_too p q s realm settings c = record {
   realm = subst (λ (r : Realm). RealmCovers r s.realm) realm c.realm;

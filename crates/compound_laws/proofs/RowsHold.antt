@@ -88,7 +88,7 @@ unless_enough false more before (inr sufficed) = inr (inr sufficed)
 abbrev Fails : Identity → Sight → (before after : List Question) → (Sight → Demands) → Type 0
 Fails caller s before after row = OrAccess (failure caller s (before ++ Row row ∷ after)) (failure caller s before)
 
--- the first failure of questions of which one is a row that isn't granted
+-- the first failure of questions, one of which is a row that isn't granted
 fails : (caller : Identity) (s : Sight) (before after : List Question) (row : Sight → Demands)
     → all_granted s.lists caller (row s) ≡ false → Fails caller s before after row ⊎ SomeSuffices s before
 fails caller s [] after row refused = inl (rw refused refl)

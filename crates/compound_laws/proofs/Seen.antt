@@ -24,7 +24,7 @@ use Rattle.compound_laws.specs.Disclosure.{observed, DisclosesNothing}
 
 -- ---- questions that are the same in a view
 
--- As far as they are evaluated, the questions are the same in the whole realm and in the view; and so is the end.
+-- As far as they are evaluated, the questions and the end are the same in the whole realm and in the view.
 abbrev pub Agree : Realm → Identity → List Question → Type 0 → Type 0
 Agree w caller [] end = end
 Agree w caller (Holds test status is ∷ questions) end = (test (whole w) ≡ test (view w caller)) × (test (whole w) ≡ true → Agree w caller questions end)

@@ -173,7 +173,7 @@ fate_over : (tag : List ℕ) (op : Operation) (sessions : List (ℕ × Session))
 fate_over tag (Known kinds.CreateSession v) sessions r = refl
 fate_over tag _ sessions r = refl
 
--- an operation that is the only one of its COMPOUND runs there; its record has the same facts
+-- an operation that is the only one of its COMPOUND runs in the other state too; its record has the same facts
 abbrev OnlyThere : Call → List ℕ → Operation → List ℕ → State → State → Bool → Option ℕ → Type 0
 OnlyThere call tag op bytes q new kept place =
     (after : State) × (runs : RunsAlone call tag op q bytes after) × Covers after new × (keeps_only call tag op q bytes after runs ≡ kept)

@@ -51,7 +51,7 @@ steps_of questions = map step_of questions
 
 -- ---- checks
 
--- there is a filehandle, the current or the saved one, and its object exists
+-- a filehandle is set, the current or the saved one, and its object exists
 abbrev pub with_object : List Step → List Step
 with_object steps = Tests statuses.NoFileHandle ∷ Tests statuses.Stale ∷ steps
 

@@ -37,8 +37,8 @@ world_created c h v new m want w d a here is_draft is_wanted when kind bytes own
     (λ i. with_new w d (created_name v) (new_object (kind i) (bytes i) (owner i) (group i) (list i) (high i) (record { stamp = w.next_stamp; at = when i })) (when i))
     ∙ (λ i. with_new w (number_in (sym here i)) (created_name v) (created c (sym is_draft i) (sym is_wanted i) (list_at w (number_in (sym here i))) w.next_stamp (at c w)) (at c w))
 
--- A tick is left, and the access control list (ACL) is within its bounds. So the object and its name are created, or
--- there is no space for them, or an allocation fails.
+-- A tick is left, and the access control list (ACL) is within its bounds. Then the object and its name are created, or
+-- they don't fit, or an allocation fails.
 module _ {A : Type 0} (room : ℕ) (c : Context) (h : FileHandles) (v : Value create_args) (e new : realms.Realm A) (out : Buffer) (d : ℕ)
     (left : has_left (sight_of e).next_tick ≡ true) (bounds : new_fits (specs.wanted c v) (specs.draft v).kind (list_at e.tree.world d) ≡ true) where
   fails : failure c.caller (sight_of e) (making v d c h).questions ≡ cond (can_add (sight_of e) d) None (Some statuses.NoSpc)

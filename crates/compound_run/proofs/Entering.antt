@@ -33,7 +33,7 @@ entered_freely takes may m old r new a = record {
   settings = a.settings;
 }
 
--- there is no fault of the place or the room
+-- the place and the room have no fault
 enters : (takes : Bool) (fault : Option Status) (may : MayFault fault) (m : Meaning) (old : Point) (r : Result Outcome Status) (new : Point) → fault ≡ None
     → Answered takes m waits old r new → Answered (takes && is_none fault) (entered fault may m) waits old r new
 enters true None may m old r new is a = entered_freely true may m old r new a
@@ -73,7 +73,7 @@ delays false fault may m old is taken = cc
 some_same : (a b : Status) → Some a ≡ Some b → a ≡ b
 some_same a b e = cc
 
--- there is a fault of the place or the room
+-- the place or the room has a fault
 stops : (takes : Bool) (fault : Option Status) (may : MayFault fault) (m : Meaning) (old : Point) (status : Status) → fault ≡ Some status
     → Answered (takes && is_none fault) (entered fault may m) waits old (Err status) old
 stops takes None may m old status is = cc

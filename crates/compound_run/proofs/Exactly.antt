@@ -38,7 +38,7 @@ both : (b : Bool) (more : Option Status) (status : Status) → cond b more (Some
 both true more status h = (refl, h)
 both false more status h = absurd (some_apart status h)
 
--- if there is no first of two faults, there is neither
+-- if the first of two faults is none, both are none
 neither : (fault more : Option Status) → first_fault fault more ≡ None → (fault ≡ None) × (more ≡ None)
 neither None more h = (refl, h)
 neither (Some status) more h = absurd (some_apart status h)

@@ -337,7 +337,7 @@ next_judged c asked s directory cookie found next child j is judged =
     judged ∙ (λ i. judgment_of s.lists c.caller asked (number i) (sym is.object i)) in
     ap (map (judged_entry c asked s)) is.above ∙ ap (λ x. entry_by c s is.name x ∷ judged_above c asked directory next s) (sym holds)
 
--- the same of an entry by the number of its object, in a sound world
+-- the judged entry, by the number of its object, in a sound world
 pub next_entry_judged : {A : Type 0} (e : realms.Realm A) (c : code.Context) (asked : List ℕ) (directory cookie next number : ℕ) (n : IsNextOf (sight_of e) directory cookie (name_after e.tree.world directory cookie) next number)
     (j : Result (Status × List ℕ) Demand) → IsSound e.tree.world → j ≡ judgment_of (sight_of e).lists (context_at e c).caller asked n.child.number (Some n.child)
     → judged_above (context_at e c) asked directory cookie (sight_of e) ≡ entry_by (context_at e c) (sight_of e) n.name j ∷ judged_above (context_at e c) asked directory next (sight_of e)

@@ -129,7 +129,7 @@ same_error a b r p q = let same = sym p ∙ q in cc
 delayed : {T : Type 0} (a b : Status) (r : Result T Status) → r ≡ Err a → IsOkUnless r b → a ≡ b
 delayed {T} a b r is unless = subst (λ (x : Result T Status). IsOkUnless x b) is unless
 
--- the refusal is because there is no space, or because an allocation failed
+-- the refusal is for want of space, or because an allocation failed
 pub wanting : {T : Type 0} (space : Bool) (status : Status) (r : Result T Status) → r ≡ Err status → (space ≡ false → r ≡ Err statuses.NoSpc) → (space ≡ true → IsOkUnless r statuses.Delay)
     → status ≢ statuses.Delay → cond space None (Some statuses.NoSpc) ≡ Some status
 wanting true status r is full may other = absurd (other (delayed status statuses.Delay r is (may refl)))
@@ -167,7 +167,7 @@ space_new left fits false more l f m = rw l (rw f refl)
 pub no_space_new : (left fits can more : Bool) → left ≡ true → fits ≡ false → (left && (fits && can)) && more ≡ false
 no_space_new left fits can more l f = rw l (rw f refl)
 
--- there is no space for an open, so the space for other things doesn't matter
+-- an open doesn't fit, and the space for other things doesn't matter
 pub no_open_more : (b more : Bool) (status : Status) → cond more None (Some statuses.NoSpc) ≡ Some status → cond (b && more) None (Some statuses.NoSpc) ≡ Some status
 no_open_more true more status h = h
 no_open_more false true status h = cc

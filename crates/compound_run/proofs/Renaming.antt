@@ -148,7 +148,7 @@ result_delay {T} result status is unless = subst (λ (r : Result T Status). IsOk
 pub result_space : {T : Type 0} (result : Result T Status) (status : Status) → result ≡ Err status → result ≡ Err statuses.NoSpc → status ≡ statuses.NoSpc
 result_space result status is full = let same : status ≡ statuses.NoSpc = cc in same
 
--- there is no space for the name
+-- the name doesn't fit
 module _ (caller : Identity) (op : ℕ) (r : Realm) (from to : ℕ) (new : List ℕ) (full : can_move (whole r) from to (child (whole r) to new) ≡ false) where
   never : (a : Bool) → (a && false) ≡ false
   never true = refl

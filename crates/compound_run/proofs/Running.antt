@@ -66,7 +66,7 @@ DelaysOn b s place rest = DelaysFrom place b.refused (here_at b s) s.rest rest
 abbrev pub DelaysAll : {A : Type 0} → Begun A → List Given → Type 0
 DelaysAll b results = DelaysFrom 0 b.refused b.context b.operations results
 
--- the remaining operations continue the run from the results so far, all of which are OK
+-- the remaining operations continue the run from the results so far, which are all OK
 pub record Running {A : Type 0} (b : Begun A) (s : RunPoint A) : Type 0 where
   pub results : List Given
   pub goes : (rest : List Given) (new : Point) → RunsOn b s rest new → RunsAll b (results ++ rest) new

@@ -1,5 +1,5 @@
 -- On replay, the operation at the place that the call's record names fails its allocation: it is answered DELAY, and
--- isn't run. An operation that may never be delayed runs there too.
+-- isn't run. An operation that may never be delayed runs at that place too.
 use Rattle.std.specs.Prelude.{◌≡◌, ◌≤◌, ℕ, suc, ◌==◌, Bool, true, false, List, [], ◌∷◌, length, Option, Some, None}
 use Rattle.std.specs.Prelude.{Result, Err}
 use Rattle.xdr_wire.specs.Buffer.{Buffer, Appends}
@@ -33,7 +33,7 @@ is_place (Some refused) place = refused == place
 abbrev pub DelaysIf : {A : Type 0} → Bool → Context → Operation → Result A Status → Type 0
 DelaysIf refused c op result = refused ≡ true → may_delay c op ≡ true → result ≡ Err statuses.Delay
 
--- These are the results of the operations in these bytes, the first of which is at this place. One of them fails its
+-- These are the results of the operations in these bytes. The first operation is at this place. One of them fails its
 -- allocation, if it is reached.
 abbrev pub DelaysFrom : ℕ → Option ℕ → Context → List ℕ → List Given → Type 0
 DelaysFrom place refused c bytes [] = Unit {0}
@@ -97,13 +97,13 @@ DelaysAnswer refused Runs call old reply ran new (runs, outcome) = Delays refuse
 DelaysAnswer refused (Retries kept) call old reply ran new answers = Unit {0}
 DelaysAnswer refused (Fails refusal) call old reply ran new answers = Unit {0}
 
--- A call has this reply, and its record these facts. The operation at this place after SEQUENCE fails its allocation,
--- if any.
+-- A call has this reply, and its record these facts. The operation at this place after SEQUENCE, if any, fails its
+-- allocation.
 abbrev pub AnswersDelaying : Option ℕ → State → Call → Reply → Ran → State → Type 0
 AnswersDelaying refused old call reply ran new =
     (answers : Answers old call reply ran new) × DelaysAnswer refused (fate old call) call old reply ran new answers
 
--- the same, with the results appended as in `RunsRecorded`
+-- a call that fails this allocation, with its results appended as in `RunsRecorded`
 abbrev pub RunsDelaying : Option ℕ → State → Call → Option Ran → Buffer → Buffer → State → Type 0
 RunsDelaying refused old call (Some ran) before after new =
     (results : List ℕ) × AnswersDelaying refused old call (Some results) ran new × Appends before after results

@@ -138,7 +138,7 @@ fate_by tag v r (begins.New new) = Runs
 fate_by tag v r begins.Repeat = Retries (Some (results_at r (session_of (sequence_session v)) (sequence_slot v)))
 fate_by tag v r (begins.Refused status) = Fails (Some (refused_alone tag (row kinds.Sequence).number status))
 
--- A COMPOUND without operations is answered without a result. So is one that is refused before its first operation.
+-- A COMPOUND without operations is answered without a result, as is one that is refused before its first operation.
 abbrev pub fate_begun : State → Call → List ℕ → ℕ → Beginning → Fate Reply
 fate_begun s call tag count (Ends status) = Fails (Some (head status tag 0))
 fate_begun s call tag count (Refuses number status) = Fails (Some (refused_alone tag number status))

@@ -122,7 +122,7 @@ abbrev pub handles_after : FileHandles → Result FileHandles Status → FileHan
 handles_after before (Ok handles) = handles
 handles_after before (Err status) = before
 
--- the state that a run has reached, and what is written so far
+-- the state that a run has reached, and the bytes that are written so far
 pub record Stage (X : Type 0) : Type 0 where
   pub at : X
   pub out : Buffer
@@ -154,7 +154,7 @@ pub record OperationGives {A : Type 0} (s : Sense) (room : ℕ) (handles : FileH
   pub within : OnOk result (length new.out.bytes ≤ length old.out.bytes + room)
   pub unwritten : OnErr result (new.out ≡ old.out)
 
--- the answer of an operation at its place, by its sense there
+-- the answer of an operation at its place, by its sense at that place
 abbrev pub GivesAt : {A : Type 0} → steps.Step → (Context → FileHandles → Sense) → Stage (realms.Realm A)
     → Result FileHandles Status → Stage (realms.Realm A) → Type 0
 GivesAt step s old result new =
@@ -175,7 +175,7 @@ abbrev pub GivesBy : {A : Type 0} → (Context → FileHandles → Operation →
     → Stage (realms.Realm A) → Result FileHandles Status → Stage (realms.Realm A) → Type 0
 GivesBy s step op old result new = GivesAt step (λ c handles. s c handles (op_view op)) old result new
 
--- there is room for the result of an operation that runs, and for a refusal
+-- the result of an operation that runs fits, and a refusal fits
 abbrev pub HasRoom : code.Context → Buffer → Type 0
 HasRoom c out = (MIN_ROOM ≤ c.room) × (c.room + REFUSAL_ROOM ≤ out.room)
 

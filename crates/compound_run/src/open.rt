@@ -253,8 +253,8 @@ impl<A: Allocator + Copy> Realm<A> {
         })
     }
 
-    /// Reserves memory for the open of a file, and truncates the file, if it is to be. `NoSpc`: there is no space, or
-    /// no tick is left. `Delay`: an allocation fails.
+    /// Reserves memory for the open of a file, and truncates the file, if it is to be. `NoSpc`: the open doesn't fit,
+    /// or no tick is left. `Delay`: an allocation fails.
     fn place_found(
         &mut self,
         context: Context<'_>,

@@ -137,8 +137,8 @@ impl<A: Allocator + Copy> Realm<A> {
         Ok(copy)
     }
 
-    /// The place of the open of a file: the owner's open, if any, else a new one, for which memory is reserved.
-    /// `NoSpc`: too many files are open, or no number is left. `Delay`: an allocation fails.
+    /// The place of the open of a file: the owner's open, if any, else a new one with reserved memory. `NoSpc`: too
+    /// many files are open, or no number is left. `Delay`: an allocation fails.
     pub fn place(
         &mut self,
         context: Context<'_>,

@@ -137,7 +137,7 @@ module _ (a : Arrival) (call : Asked) (caller : Identity) (is_call : asked a.byt
   abbrev made : Call
   made = call_of a call.arguments caller
 
-  -- what replaying an entry of this record means
+  -- the meaning of replaying an entry with this record
   entry_ends : (ran : Ran) (bytes : List ℕ) (q after : ServerState) → Replays (call_entry a ran bytes) q after ≡ ReplayCallEnds (Ok tt) (record { now = a.now; bytes = a.bytes; delayed = ran.delayed; checksum = results_checksum bytes }) made q after
   entry_ends ran bytes q after =
       let c : entry.Called = record { now = a.now; bytes = a.bytes; delayed = ran.delayed; checksum = results_checksum bytes } in

@@ -40,7 +40,7 @@ Well = Ok tt
 never_fails : (fault : ReplayFault) → Well ≡ Err fault → ⊥
 never_fails fault e = cc
 
--- ---- what a server is set to
+-- ---- the settings of a server
 
 ready_for_set : (b : Beginning) (s : State) → (ready_for b s).settings ≡ s.settings
 ready_for_set (Ends status) s = refl

@@ -41,12 +41,12 @@ honest_join (Unsynced slot ∷ later) first honest = honest_join later first hon
 honest_join (Turned bytes ∷ later) first honest = honest_join later first honest
 honest_join (Unturned bytes ∷ later) first honest = honest_join later first honest
 
--- ---- what the disk represents
+-- ---- the states that the disk represents
 
 stand_wider : (before : List (Option Log)) (states others : List State) (acts : List DiskAct) → ((s : State) → IsIn s states → IsIn s others) → RepresentAfter before states acts → RepresentAfter before others acts
 stand_wider before states others acts more st = (st.0, wider states others st.0 acts more st.1, st.2)
 
--- the same holds for more states, and for other logs before, if `None` is among these whenever it is among the first
+-- this holds for more states too, and for other logs before, if `None` is among these whenever it is among the first
 pub through_more : (before others_before : List (Option Log)) (states others : List State) (acts history : List DiskAct) → (IsIn None before → IsIn None others_before) → ((s : State) → IsIn s states → IsIn s others) → Throughout before states acts history
     → Throughout others_before others acts history
 through_more before others_before states others [] history none more st = (st.0, wider states others st.0 history more st.1, λ is. none (st.2 is))

@@ -43,9 +43,9 @@ begins_frames c states s logs history result acts all none zero lasting does = (
   begin_law c states s logs history (acts ++ history) result all none zero lasting (does history),
 )
 
--- ---- what was logged is kept
+-- ---- the logged events are kept
 
--- what was logged is kept, over any history
+-- the logged events are kept, over any history
 abbrev pub Keeps : Store → State → List ℕ → Result (Unit {0}) StoreFault → Store → List DiskAct → Type 0
 Keeps store s log result store' acts = Calls (λ p r x. KeepsBy store.journal.has_failed (takes store (length log)) p store log s r x) result store' acts
 

@@ -24,7 +24,7 @@ is_begun first hub l = subst (IsHub hub) (l.extends.2 ∙ ap begun l.extends.1) 
 pub begins_with : {A D : Type 0} (p : Passage D) (current : Current) (first : Served) (hub : Hub A) (server : ServerState) (result : Result Store StoreFault) → IsHistoryOf first (BeginLog ∷ []) hub → ((s : State) → IsHub hub s → s.served.state ≡ server) → BeginsTo p current server result → BeginsTo p current first.state result
 begins_with p current first hub server result l serves gives = subst (λ (s : ServerState). BeginsTo p current s result) (sym (serves (begun (opening first)) (is_begun first hub l))) gives
 
--- ---- what was logged is kept
+-- ---- the logged events are kept
 
 not_empty : (log : List ℕ) → false ≡ (length log == 0) → log ≢ []
 not_empty log e same = never (e ∙ ap (λ (l : List ℕ). length l == 0) same)

@@ -183,7 +183,7 @@ module _ {D : Type 0} (adds : Adding D) (history : List DiskAct) where
         | inr h ↦ ends_as old new fault (fault_of_journal h.why) h.fault_is (halts_far old s.mid s.sight s.sees.file r s.sees.some s.sees.chooses h.state h.starts new h.why h.resumes)
       ]
 
--- ---- what the disk represents meanwhile
+-- ---- the states that the disk represents meanwhile
 
 pub record Opens {D : Type 0} (adds : Adding D) (old new : D) (b : Before) (result : Result Ending StoreFault) : Type 0 where
   pub acts : List DiskAct

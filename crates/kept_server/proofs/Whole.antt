@@ -52,7 +52,7 @@ use Rattle.kept_server.proofs.Begun.{Begins, Keeps, begin_far, begins_frames, ke
 use Rattle.kept_server.proofs.Hubs.{is_begun}
 use Rattle.kept_server.proofs.Starts.{Opens, opens_after}
 
--- ---- what is ready to serve
+-- ---- a hub and a store that are ready to serve
 
 pub record Ready {A : Type 0} (b : Before) (book : Content) (acts : List DiskAct) (kept : Kept A) : Type 0 where
   pub first : Served
@@ -245,7 +245,7 @@ module _ {D : Type 0} (A : Type 0) (adds : Adding D) (old mid new : D) (b : Befo
     }
     begun_anew (Err Exhausted) none = absurd none
 
-  -- ---- what was kept
+  -- ---- the kept content
 
   module _ (store : Store) (q : ServerState) (lasts : IsLasting (started q).state) (o : Opens adds old mid b (Ok (Started store q))) where
     abbrev first : Served

@@ -35,8 +35,8 @@ pub record IsOpened (before : Before) (book : Content) (acts : List DiskAct) (st
   pub serving : Serving store state (acts ++ before.history)
   pub book_is : state.settings.book ≡ book
 
--- The server serves over the open store, as the contract of `serve_all` states. So a crash after each act leaves a
--- state that has everything that was done for each reply.
+-- The server serves over the open store, as the contract of `serve_all` states. A crash after any act therefore leaves
+-- a state that has everything that was done for each reply.
 pub record Serves (A : Type 0) (before : Before) (book : Content) (limits : Limits) (end : AllEnd) (acts : List DiskAct)
     (mid new : Option (List Act)) : Type 0 where
   pub first : Served

@@ -32,12 +32,12 @@ BeginsAnew p current book (Err Unready) = ⊥
 BeginsAnew p current book (Err Memory) = Unchanged p
 BeginsAnew p current book (Err Exhausted) = ⊥
 
--- what a machine has logged; it isn't empty
+-- the events that a machine has logged; some were
 pub record HasLogged (s : State) (log : List ℕ) : Type 0 where
   pub log_is : s.served.log ≡ Some log
   pub some : log ≢ []
 
--- **What the hub has logged is kept**, and its log begins anew.
+-- **The events that the hub has logged are kept**, and its log begins anew.
 abbrev pub KeepsLogged : {A D : Type 0} → Passage D → Kept A → Result (Unit {0}) KeptEnd → Kept A → Type 0
 KeepsLogged p old (Ok done) new =
     (s : State) → IsHub old.hub s
@@ -89,7 +89,7 @@ abbrev pub IsCurrent : Option Current → Current → Type 0
 IsCurrent None c = c.generation ≡ 0
 IsCurrent (Some found) c = c ≡ found
 
--- what is done after the store was opened
+-- the steps after the store was opened
 abbrev pub OpensThen : {A D : Type 0} → Passage D → Result Ending StoreFault → Content → Result (Kept A) KeptEnd → Type 0
 OpensThen p (Ok (IsNew found)) book result =
     ((current : Current) × IsCurrent found current × BeginsAnew p current book result)

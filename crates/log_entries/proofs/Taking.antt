@@ -19,7 +19,7 @@ call_arm : (r : Read (Value call)) → meant entry_in (r >>= λ x. Ok (inl x.0, 
 call_arm (Ok x) = call_within (call_in x.0) x.1
 call_arm (Err e) = refl
 
--- after a 1 there is a call
+-- a call follows a 1
 pub at_call : (bytes mid : List ℕ) → read_at uint bytes ≡ Ok (1, mid) → entry_at bytes ≡ option_map {U = Entry × List ℕ} (λ x. (Call x.0, x.1)) (meant call_in (read_at call mid))
 unfolding entry_at
 at_call bytes mid e = ap (λ (r : Read ℕ). meant entry_in (r >>= λ d. read_arm (arm 1 call (arm 2 hyper (arm 3 (optional text) no_more))) d.0 d.1)) e ∙ call_arm (read_at call mid)

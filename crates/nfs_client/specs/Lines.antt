@@ -47,7 +47,7 @@ columns end l =
 abbrev pub line : Listed → List ℕ
 line l = columns 32 l
 
--- ---- what ends columns and lines
+-- ---- the ends of columns and lines
 
 -- the byte between two columns: a space, or a zero byte
 abbrev pub column_end : Ends → ℕ

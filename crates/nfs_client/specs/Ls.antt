@@ -89,7 +89,7 @@ abbrev pub text_of : List Page → List ℕ
 text_of [] = []
 text_of (p ∷ before) = text_of before ++ p.text
 
--- the last of some cookies, or `cookie` if there are none
+-- the last of some cookies, or `cookie` if they are none
 abbrev pub last_or : ℕ → List ℕ → ℕ
 last_or cookie [] = cookie
 last_or cookie (c ∷ cookies) = last_or c cookies

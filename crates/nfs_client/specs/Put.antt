@@ -34,7 +34,7 @@ abbrev pub owner : List ℕ
 owner = codes "nfsc"
 
 -- OPEN of the file of this name for writing (2), which denies others no access, with the set of these attributes and
--- these values. The file is created if there is none (UNCHECKED4).
+-- these values. The file is created if it doesn't exist (UNCHECKED4).
 abbrev pub open_by : Seen → List ℕ → ℕ → List ℕ → Operation
 open_by s values client name =
     Known kinds.Open (0, (2, (0, (client, (owner, (inr (inl (inl (client_set s, values))), inl name))))))
@@ -104,7 +104,7 @@ abbrev pub open_along : {S A : Type 0} → Client S A → Route → Operation �
 open_along client route op = sequence client ∷ walk route ++ op ∷ get_handle ∷ []
 
 -- The operations after a WRITE. A file that kept its bytes gets the size that makes the bytes of the WRITE its last.
--- So it is never shorter than what was written to it.
+-- It is therefore never shorter than the bytes that were written to it.
 abbrev pub with_write : OldBytes → Value stateid → ℕ → List Operation
 with_write Dropped s size = []
 with_write Kept s size = set_size s size ∷ []

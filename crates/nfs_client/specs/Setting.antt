@@ -17,7 +17,7 @@ use Rattle.nfs_client.specs.declared.acl_part.AclPart.TheVariants.{Acl, Dacl, Sa
 abbrev pub set_under : Value stateid → Seen → List ℕ → Operation
 set_under id s values = Known kinds.SetAttr (id, (client_set s, values))
 
--- the same without an open
+-- SETATTR of the set of these attributes without an open, with these values
 abbrev pub set_by : Seen → List ℕ → Operation
 set_by s values = set_under anonymous s values
 

@@ -27,7 +27,8 @@ TakeGives value taken (Err Reply) = taken ≡ None
 TakeGives value taken (Err Memory) = Unit {0}
 TakeGives value taken (Err fault) = ⊥
 
--- what a command takes from the results of operations that are all OK, and the value that its answer represents
+-- the part that a command takes from the results of operations that are all OK, and the value that its answer
+-- represents
 pub record Taking (X V : Type 0) : Type 0 where
   pub taken : List Outcome → Option V
   pub value : X → V

@@ -234,8 +234,8 @@ impl<S: Transport, A: Allocator + Copy> Client<S, A> {
         self.list(path, Ends::Blanks)
     }
 
-    /// As `ls`, with a zero byte for each space between two columns and for each newline after a line. So the columns
-    /// are unambiguous, whatever bytes names and owners have. `Reply` also: an owner, an owning group or a name has a
+    /// As `ls`, with a zero byte for each space between two columns and for each newline after a line. The columns are
+    /// then unambiguous, whatever bytes names and owners have. `Reply` also: an owner, an owning group or a name has a
     /// zero byte.
     pub fn ls_zero(&mut self, path: &[u8]) -> Result<Vec<u8, A>, ToolFault>
         ensures failed { self.old.usable ≡ false → result ≡ Err Failed }

@@ -42,7 +42,7 @@ const FOR_WRITING: u32 = 2;
 /// The most bytes of one WRITE.
 const MOST_WRITTEN: usize = 32_768;
 
-/// What happens to the bytes of a file when it is opened.
+/// The treatment of a file's old bytes when it is opened.
 #[derive(Clone, Copy)]
 pub(crate) enum OldBytes {
     /// The file is truncated.
@@ -179,8 +179,8 @@ impl<A: Allocator + Copy> Reply<A> {
     }
 }
 
-/// OPEN for writing of the file of this name, with these attributes by these values. The file is created if there is
-/// none.
+/// OPEN for writing of the file of this name, with these attributes by these values. The file is created if it doesn't
+/// exist.
 fn opening<'a>(
     client: u64,
     name: &'a [u8],
@@ -418,12 +418,12 @@ impl<S: Transport, A: Allocator + Copy> Client<S, A> {
         self.put_in(&place.directory, op, over, text)
     }
 
-    /// Makes a text the bytes of a file, which is created if there is none. The operations are OPEN with size 0, a
-    /// WRITE for each 32,768 bytes, and CLOSE. The file is closed after a refused WRITE too, whose fault is the
-    /// answer then.
+    /// Makes a text the bytes of a file, which is created if it doesn't exist. The operations are OPEN with size 0, a
+    /// WRITE for each 32,768 bytes, and CLOSE. The file is closed after a refused WRITE too, whose fault is the answer
+    /// then.
     ///
-    /// The OPEN truncates an existing file. So after a refused WRITE its old bytes are lost, and it has the bytes of
-    /// the WRITEs before. `replace` preserves the old bytes longer.
+    /// The OPEN truncates an existing file. After a refused WRITE its old bytes are therefore lost, and it has the
+    /// bytes of the earlier WRITEs. `replace` preserves the old bytes longer.
     pub fn put(&mut self, path: &[u8], text: &[u8]) -> Result<(), ToolFault>
         ensures failed { self.old.usable ≡ false → result ≡ Err Failed }
         ensures gives { PutCommandGives S.talks path.now
@@ -436,9 +436,9 @@ impl<S: Transport, A: Allocator + Copy> Client<S, A> {
     /// Makes a text the bytes of a file as `put` does, and preserves its old bytes as long as possible. The OPEN has
     /// no size, and each WRITE has a SETATTR of the size after it. The OPEN of an empty text has size 0.
     ///
-    /// An existing file keeps its bytes up to the first WRITE, and is a prefix of the text after each. So if the
-    /// first WRITE is refused a file has its old bytes, or none if this call created it. If a later one is refused it
-    /// is a prefix of the text.
+    /// An existing file keeps its bytes up to the first WRITE, and is a prefix of the text after each. If the first
+    /// WRITE is refused, the file therefore has its old bytes, or none if this call created it. If a later one is
+    /// refused it is a prefix of the text.
     pub fn replace(&mut self, path: &[u8], text: &[u8]) -> Result<(), ToolFault>
         ensures failed { self.old.usable ≡ false → result ≡ Err Failed }
         ensures gives { PutCommandGives S.talks path.now

@@ -72,8 +72,8 @@ impl<A: Allocator + Copy> Hub<A> {
 
     /// A hub over the sample tree, without sessions: a root with the file `notes` and the directory
     /// `pub`. The book of names takes only `Global`; this one has no names, and allocates nothing.
-    /// `hasher` hashes the keys of the server's permission summaries. `Err`: there is no memory for
-    /// the hub.
+    /// `hasher` hashes the keys of the server's permission summaries. `Err`: the allocation of the
+    /// hub fails.
     pub fn bare(alloc: A, global: Global, hasher: RandomState) -> Result<Self, AllocError>
         ensures { IfOk result (λ hub. IsHistoryOf without_sessions [] hub) }
     {
@@ -81,8 +81,8 @@ impl<A: Allocator + Copy> Hub<A> {
     }
 
     /// A hub over a root directory alone, with sessions. The root's owner, group and mode are those
-    /// of the book. `hasher` hashes the keys of the server's permission summaries. `Err`: there is
-    /// no memory for the hub.
+    /// of the book. `hasher` hashes the keys of the server's permission summaries. `Err`: the
+    /// allocation of the hub fails.
     pub fn new(alloc: A, book: Book, hasher: RandomState) -> Result<Self, AllocError>
         ensures { IfOk result (λ hub. IsHistoryOf (with_sessions book) [] hub) }
     {
@@ -90,7 +90,7 @@ impl<A: Allocator + Copy> Hub<A> {
     }
 
     /// A hub over a root directory alone, with sessions that persist over a restart, for a store
-    /// that begins. Otherwise it is that of [`Hub::new`]. `Err`: there is no memory for the hub.
+    /// that begins. Otherwise it is that of [`Hub::new`]. `Err`: the allocation of the hub fails.
     pub fn lasting(alloc: A, book: Book, hasher: RandomState) -> Result<Self, RestoreFault>
         ensures ok { IfOk result (λ hub. IsHistoryOf (with_lasting_sessions book) [] hub) }
         ensures err { IsOkUnless result RestoreFault.Memory }
@@ -131,7 +131,7 @@ impl<A: Allocator + Copy> Hub<A> {
     /// Expires the client that was silent longest, if one is due at this moment (RFC 8881, section
     /// 8.3). Its record and its sessions are removed, and its open files are closed; all else is
     /// unchanged. [`Server::silent`] decides which client is due. The event is logged if a log is
-    /// kept. `None`: no client is due, or there is no memory for the entry, and nothing changes.
+    /// kept. `None`: no client is due, or the allocation of the entry fails, and nothing changes.
     pub fn expire_client(&mut self, now: Moment) -> Option<u64>
         ensures extends { MatchOption result
             ((first : Served) (events : List Event) → IsHistoryOf first events self.old → IsHistoryOf first events self.new)
@@ -157,9 +157,9 @@ impl<A: Allocator + Copy> Hub<A> {
         self.service.begin_log(self.alloc);
     }
 
-    /// The log's entries since it was begun, as `log_entries` writes them. There is one for each
-    /// call that is kept ([`Server::run_recorded`]), each loaded book and each expired client, in
-    /// the order of these events. `None`: no log was begun.
+    /// The log's entries since it was begun, as `log_entries` writes them. Each call that is kept
+    /// ([`Server::run_recorded`]), each loaded book and each expired client has one, in the order
+    /// of these events. `None`: no log was begun.
     pub fn log(&self) -> Option<&[u8]>
         ensures { (s : State) → IsHub self.now s → option_map (λ bytes. bytes.now) result ≡ s.served.log }
     {
@@ -179,7 +179,7 @@ impl<A: Allocator + Copy> Hub<A> {
     /// bytes, the sessions with their cached replies, the open files and the trail are unchanged.
     /// It runs no call. It allocates memory for its log entry alone.
     ///
-    /// `Memory`: a log is kept, and there is no memory for the entry. `Exhausted`: the book's
+    /// `Memory`: a log is kept, and the allocation of the entry fails. `Exhausted`: the book's
     /// epoch, which begins at 1 and rises by 1 with each book, has no next one ([`next_epoch`]). In
     /// both cases the new book is given back, and nothing changes.
     pub fn reload(&mut self, book: Book) -> Result<Book, Unloaded>
@@ -251,7 +251,7 @@ impl<A: Allocator + Copy> Hub<A> {
         Some(connection.pending.bytes())
     }
 
-    /// Drops the first `most` pending bytes of a connection, or all if there are fewer, and returns
+    /// Drops the first `most` pending bytes of a connection, or all if they are fewer, and returns
     /// how many. `NoSuch` if and only if no open connection has this number. The memory of the
     /// bytes is kept with the connection, for other replies.
     pub fn consume(&mut self, conn: ConnId, most: usize) -> Result<usize, HubFault>
@@ -305,7 +305,7 @@ impl<A: Allocator + Copy> Hub<A> {
 
     /// Takes the next piece of a connection's stream; all of its calls have this moment. Each
     /// record that is complete now is answered, and its reply is pending. `NoSuch` if and only if
-    /// no open connection has this number. There is another fault if and only if the connection is
+    /// no open connection has this number. Any other fault occurs if and only if the connection is
     /// broken afterwards. It is `Broken` if the stream or a record of it breaks, or if the
     /// connection was broken before. It is `Memory` if an allocation fails, and then the next
     /// record isn't answered.

@@ -48,7 +48,7 @@ pub(crate) fn make_room_for<A: Allocator>(
     make_room(log, call_room(arrival.bytes.bytes.len()))
 }
 
-/// Logs an entry, for which there is room.
+/// Logs an entry. The room suffices for it.
 pub(crate) fn put<A: Allocator>(log: &mut Option<Writer<A>>, entry: Entry<'_>)
     requires { HasRoom (length (entry_bytes (entry_of entry))) log.old }
     ensures logged { bytes_of log.new ≡ logged (entry_of entry.entry) (bytes_of log.old) }
@@ -59,7 +59,7 @@ pub(crate) fn put<A: Allocator>(log: &mut Option<Writer<A>>, entry: Entry<'_>)
     }
 }
 
-/// Logs a call with these results, if it is kept. There is room for its entry.
+/// Logs a call with these results, if it is kept. The room suffices for its entry.
 pub(crate) fn put_call<A: Allocator>(
     log: &mut Option<Writer<A>>,
     arrival: Arrival<'_>,
@@ -82,7 +82,7 @@ pub(crate) fn put_call<A: Allocator>(
     put(log, Entry::Call(call));
 }
 
-/// Logs a loaded book, by the text that it was read from. `Err`: there is no memory for its entry,
+/// Logs a loaded book, by the text that it was read from. `Err`: the allocation of its entry fails,
 /// and nothing changes.
 pub(crate) fn put_book<A: Allocator>(
     log: &mut Option<Writer<A>>,

@@ -21,7 +21,7 @@ owner_here owner id i = rw (eq-eqb id id refl) refl
 owner_there : (owner : ℕ → ℕ) (id i k : ℕ) → k ≢ id → owner_with owner id i k ≡ owner k
 owner_there owner id i k ne = rw (ne_eqb k id ne) refl
 
--- what is known of a place stays
+-- the known facts about a place stay
 abbrev pub Same : List Act → List Act → ℕ → Type 0
 Same acts acts' j = (ahead acts' j ≡ ahead acts j) × (turns_at acts' j ≡ turns_at acts j) × (fault_at acts' j ≡ fault_at acts j)
 
@@ -156,7 +156,7 @@ seats_as {places = places} {acts = acts} acts' conns same count st = record {
   count = count ∙ st.count;
 }
 
--- the same seats, of a hub whose state is unchanged
+-- the seats of a hub whose state is unchanged stay
 pub seats_in : {A : Type 0} {start : ℕ} {hub : Hub A} {places : List (Option (Peer A))} {acts : List Act} {s : State} (hub' : Hub A) → IsUnchanged hub hub' → AreSeats start hub places acts s → AreSeats start hub' places acts s
 seats_in {hub = hub} {s = s} hub' same st = record {
   is = unchanged hub s st.is hub' same;

@@ -79,7 +79,7 @@ IsAside act acts = (disk_of (act ∷ acts) ≡ disk_of acts) × ((state : Server
 abbrev pub Follows : State → State → Type 0
 Follows old new = (new.served ≡ old.served) ⊎ ((event : Event) × log_goes_on event × Step event old new)
 
--- what is known of a server that has changed since it was stored
+-- the known facts about a server that has changed since it was stored
 pub record Since (base now : ServedState) : Type 0 where
   pub logs : Logs [] base now
   pub sessions : now.in_sessions ≡ true

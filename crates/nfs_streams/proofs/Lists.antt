@@ -58,7 +58,7 @@ closed_here acts i end = rw (eq-eqb i i refl) refl
 pub closed_there : (acts : List Act) (i j : ℕ) (end : StreamEnd) → j ≢ i → conn_at (Closed i end ∷ acts) j ≡ conn_at acts j
 closed_there acts i j end ne = rw (ne_eqb j i ne) refl
 
--- what is known of a place after a read
+-- the known facts about a place after a read
 pub ahead_received : (acts : List Act) (i : ℕ) (bytes : List ℕ) → ahead (Received i bytes ∷ acts) i ≡ ahead acts i ++ bytes
 ahead_received acts i bytes = rw (eq-eqb i i refl) refl
 
@@ -71,7 +71,7 @@ ahead_received_there acts i j bytes ne = rw (ne_eqb j i ne) refl
 pub turns_received_there : (acts : List Act) (i j : ℕ) (bytes : List ℕ) → j ≢ i → turns_at (Received i bytes ∷ acts) j ≡ turns_at acts j
 turns_received_there acts i j bytes ne = rw (ne_eqb j i ne) refl
 
--- what is known of a place after bytes of it are given
+-- the known facts about a place after bytes of it are given
 pub ahead_given : (acts : List Act) (i : ℕ) (bytes : List ℕ) (fault : Option HubFault) → ahead (Given i bytes fault ∷ acts) i ≡ drop (length bytes) (ahead acts i)
 ahead_given acts i bytes fault = rw (eq-eqb i i refl) refl
 
@@ -90,7 +90,7 @@ fault_given_there acts i j bytes fault ne = rw (ne_eqb j i ne) refl
 pub left_begun : (acts : List Act) (i : ℕ) → left_of_piece (Begun i ∷ acts) i ≡ MAX_PIECE
 left_begun acts i = rw (eq-eqb i i refl) refl
 
--- what is known of a place after a stream is admitted
+-- the known facts about a place after a stream is admitted
 pub ahead_admitted : (acts : List Act) (i id : ℕ) → ahead (Admitted i id ∷ acts) i ≡ []
 ahead_admitted acts i id = rw (eq-eqb i i refl) refl
 
@@ -127,7 +127,7 @@ all_freed ps ps' i lt same free k le =
       | inr ne ↦ set_there ps i k None ne ∙ free k (omega arith)
     ]
 
--- all places below the number of places are free, and there are no others
+-- all places below the number of places are free, and no others exist
 pub none_past : {A : Type 0} (ps : List (Option (Peer A))) (n : ℕ) → length ps ≤ n → ((k : ℕ) → k < n → place_at ps k ≡ None) → (k : ℕ) → place_at ps k ≡ None
 none_past ps n le free k =
     elim (cases_lt k n) [

@@ -1,5 +1,5 @@
--- A call of the store over any disk is the same call over the acts that it did. So its laws hold, also at each moment
--- of the call.
+-- A call of the store over any disk is the same call over the acts that it did. Its laws therefore hold, also at each
+-- moment of the call.
 use Rattle.std.proofs.Common.{◌≡◌, inl, inr, ℕ, Bool, true, false, List, [], ◌∷◌, ◌++◌, length, Option, Some, Ok, Err, refl, sym, ◌∙◌, ap, subst, append_assoc}
 use Rattle.std.proofs.lemmas.List.{append-nil}
 use Rattle.std.specs.Prelude.{Result, ◌⊎◌}
@@ -364,7 +364,7 @@ module _ (store : CallStore) (s : ServerState) where
   renew_far p (Err fault) store' (j', stops, is) =
       far_as p.adds p.old p.new _ _ (λ acts w history. (j', record { why = stops.why; fault_is = stops.fault_is; writes = w history }, is)) (writes_far store.journal s p (Err stops.why) j' stops.writes)
 
-  -- what was logged is kept
+  -- the logged events are kept
   pub keep_far : {D : Type 0} (failed fits : Bool) (p : Passage D) (log : Bytes) (result : Result (Unit {0}) StoreFault) (store' : CallStore) → KeepsBy failed fits p store log s result store'
       → Far p.adds p.old p.new (Calls (λ p r x. KeepsBy failed fits p store log s r x) result store')
   keep_far true fits p log result store' had = far_none p.adds p.old p.new _ had.1.0 (λ history. (had.0, (refl, had.1.1)))
@@ -380,7 +380,8 @@ marks_far false false p store result store' marks = mark_far store p result stor
 
 -- ---- at each moment
 
--- if the disk represents these states at each moment up to all of the acts, it does so after each prefix of them
+-- if the disk represents these states at each moment up to all of the acts, it represents them after each prefix of the
+-- acts
 pub through : (before : List (Option Log)) (states : List ServerState) (history all : List DiskAct) → ThroughoutActs before states history (all ++ history) → (later prefix : List DiskAct) → all ≡ later ++ prefix → Throughout before states prefix history
 through before states history all represents later [] is = represents history (record { before = []; after = all; acts_are = refl; last_are = refl })
 through before states history all represents later (act ∷ prefix) is = (

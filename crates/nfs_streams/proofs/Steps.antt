@@ -697,7 +697,7 @@ looking_of st asked none = record {
   book = st.book;
 }
 
--- one that has arrived is loaded at once, or waits
+-- a book that has arrived is loaded at once, or waits
 pub after_steps : {A : Type 0} {n : ℕ} {o : Origin} {hub : Hub A} {places : List (Option (Peer A))} {left : Left} {before : Option (List Act)} → AtStage (Listening n) o hub places left before → (after : Option (List Act)) (hub' : Hub A) (book : Content) (result : Option Content) (well : Bool) → is_some result ≡ not well → left.book ≡ None → Adds before after (Brought book ∷ []) → BookLoads book result hub hub'
     → AtStage (looked_stage well n) o hub' places (record left { book = result }) after
 after_steps st after hub' book None true is none added goes = looking_of (loads (brings st after book none added) hub' book refl goes) tt refl
@@ -812,7 +812,7 @@ pub loses_after : {A : Type 0} (n : ℕ) {o : Origin} {hub : Hub A} {places : Li
 loses_after n true st after added = loses st after added
 loses_after n false st after added = loses_waiting st after added
 
--- what was read is given at all places, or the trail couldn't be kept
+-- the bytes that were read are given at all places, or the trail couldn't be kept
 pub trailed : {A : Type 0} (n : ℕ) {o : Origin} {hub : Hub A} {places : List (Option (Peer A))} {left : Left} {now : Option (List Act)} (well : Bool) → AtStage (kept_stage well n) o hub places left now → AtStage (given_all_stage well n) o hub places left now
 trailed n true st = record { acts = st.acts; machine = st.machine; way = (st.way.0, st.way.1, st.way.2, st.way.3); keeping = st.keeping; seats = st.seats; adds = st.adds; fewer = st.fewer; book = st.book }
 trailed n false st = st

@@ -1,4 +1,4 @@
--- What was logged is kept in the store, whose acts on the disk are acts of serving.
+-- The logged events are kept in the store, whose acts on the disk are acts of serving.
 use Rattle.std.proofs.Common.{◌≡◌, inl, inr, ℕ, ◌+◌, Bool, true, false, List, [], ◌∷◌, ◌++◌, Option, Some, None, Ok, Err, refl, sym, ◌∙◌, ap, subst}
 use Rattle.std.specs.Prelude.{Result, is_ok}
 use Rattle.store_journal.specs.Disk.{Act as DiskAct}
@@ -152,7 +152,7 @@ serving_ok s t (Err why) store acts well after = absurd (never well)
 
 module _ {A D : Type 0} (acts_of : D → Option (List Act)) (adds : Adding D) (law : DiskLaw acts_of adds) (n : ℕ) (o : Origin) (hub : Hub A) (places : List (Option (Peer A))) (left : Left) (acts : List Act) (machine : State) (run : Runs o.limits acts o.start machine)
     (count : waits acts ≡ n) (settled : IsSettled acts) (trail : IsKept acts machine) (seats : AreSeats o.start.next hub places acts machine) (fewer : left.more + admitted acts ≡ o.limits.connections) (book : book_waiting acts ≡ left.book) (result : Bool) (old new : D) (known : Adds o.first (acts_of old) (of_streams acts)) where
-  -- there is no store
+  -- without a store
   reached_none : (then : (acts : List Act) → Runs o.limits acts o.start machine → Type 0) → new ≡ old → then acts run → Reached n o hub places left acts machine None result then (acts_of new)
   reached_none then same holds = record {
     acts = acts;

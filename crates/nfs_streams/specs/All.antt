@@ -29,13 +29,13 @@ EndReason Keep limits start acts s = Just Lost acts
 EndReason Store limits start acts s = Just Unstored acts
 EndReason Memory limits start acts s = acts ≡ []
 
--- what serving is given: its limits; its store, if any; and the history of the store's files
+-- the inputs of serving: its limits; its store, if any; and the history of the store's files
 pub record Means : Type 0 where
   pub limits : Limits
   pub store : Option CallStore
   pub history : List DiskAct
 
--- what is seen of serving from outside: the hub, and the acts of the streams if they are known
+-- the observable parts of serving: the hub, and the acts of the streams if they are known
 pub record Seen (A : Type 0) : Type 0 where
   pub hub : Hub A
   pub acts : Option (List Act)
@@ -44,7 +44,8 @@ pub record Seen (A : Type 0) : Type 0 where
 -- the machine, each allowed when it happens. The numbers of waits and of connections are within the limits. Then the
 -- streams that are still at places are closed, and no connection since the start is open. The acts of the streams are
 -- exactly those of these acts that are calls of the streams and of the disk. The hub represents the state that the
--- machine reaches. If there is a store, a crash after any of the acts leaves everything of which a reply was written.
+-- machine reaches. With a store, a crash after any of the acts leaves the effects of every call whose reply was
+-- written.
 pub record ServesAll {A : Type 0} (first : ServedState) (events : List Event) (means : Means) (end : AllEnd)
     (old new : Seen A) : Type 0 where
   pub start : State

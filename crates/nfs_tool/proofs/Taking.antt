@@ -71,7 +71,7 @@ takes conn old new pending left bytes result n is gives drops history =
     all : (a b : ℕ) → min (a - b) a ≡ a - b
     all a b = omega arith
 
--- the hub has the pending bytes, so it drops some
+-- the hub has the pending bytes, and therefore drops some
 pub never : {A : Type 0} (conn most : ℕ) (fault : HubFault) (old new : Hub A) (pending : List ℕ) → pending_at old conn ≡ Some pending → ConsumeGives conn most (Err fault) old new → ⊥
 never conn most fault old new pending is gives = let d = dropped conn most (Err fault) old new pending is gives in no (Err fault) d.0 refl d.1
   where

@@ -20,7 +20,7 @@ joins a b c p q = record { same_hub = q.same_hub ∙ p.same_hub; conn = q.conn �
 abbrev keeps : {A : Type 0} → Reaching {S = Local A} LocalTalks
 keeps = record { reaches = IsSameStream; stays = stays; joins = joins; goes = λ a b call result h. h.0 }
 
--- and so does a session with one command
+-- a session with one command keeps it too
 pub kept : {A : Type 0} (command : CommandLine) (owner : ClientOwner) (old new : Client (Local A) A) (answer : Result (Answer A) ToolFault) → RunsOver {S = Local A} LocalTalks command owner old new answer → IsSameStream old.stream new.stream
 kept command owner old new answer (inl (fault, begun, is)) = begins LocalTalks keeps owner old new (Err fault) begun
 kept command owner old new answer (inr (begun, ran, ended, first, second, last)) =

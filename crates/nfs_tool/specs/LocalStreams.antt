@@ -15,7 +15,7 @@ use Rattle.nfs_client.specs.declared.fault.ToolFault.{ToolFault}
 use Rattle.nfs_client.specs.declared.fault.ToolFault.TheVariants.{Read, Write}
 use Rattle.nfs_tool.specs.declared.local.Local.{Local}
 
--- the same connection of the same hub, at the same moment
+-- both are one connection of one hub, at one moment
 pub record IsSameStream {A : Type 0} (old new : Local A) : Type 0 where
   pub same_hub : new.hub.ghost_name ≡ old.hub.ghost_name
   pub conn : new.conn ≡ old.conn

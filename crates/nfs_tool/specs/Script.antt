@@ -147,7 +147,7 @@ is_loaded (Err fault) = false
 
 -- ---- one line, by the hub and the texts before it and after it
 
--- what is printed, and whether nothing of it is `bad line`, `failed` or `book`
+-- the printed text, and whether nothing of it is `bad line`, `failed` or `book`
 pub record Output : Type 0 where
   pub text : List ℕ
   pub good : Bool
@@ -243,7 +243,7 @@ pub record Printing (A T : Type 0) : Type 0 where
 abbrev pub printing : {A T : Type 0} → Lent A T → Option (List ℕ) → Printing A T
 printing lent held = record { lent = lent; held = held }
 
--- the same, with the progress of the script
+-- the borrowed hub and texts, with the progress of the script
 pub record Underway (A T : Type 0) : Type 0 where
   pub progress : Progress A
   pub printing : Printing A T
@@ -251,7 +251,7 @@ pub record Underway (A T : Type 0) : Type 0 where
 abbrev pub underway : {A T : Type 0} → Progress A → Printing A T → Underway A T
 underway progress printing = record { progress = progress; printing = printing }
 
--- the same, with the rest of the script for its reader
+-- the borrowed hub and texts, with the rest of the script for its reader
 pub record Unread (A T : Type 0) : Type 0 where
   pub left : Option (List ℕ)
   pub printing : Printing A T

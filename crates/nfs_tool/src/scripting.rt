@@ -28,7 +28,7 @@ use who_book::BookFault;
 /// The most bytes of one read.
 const PIECE: usize = 4096;
 
-/// The owner of each client of a script. The clients run one after the other, so they can share it.
+/// The owner of each client of a script. The clients run one after the other, and can therefore share it.
 const OWNER: &[u8] = b"nfsc";
 
 /// The most reads of a script.
@@ -292,7 +292,7 @@ impl<A: Allocator + Copy> Progress<A> {
         }
     }
 
-    /// Answers the read part of a line, as a line. `Read`: there are more lines than 1,000,000 reads give.
+    /// Answers the read part of a line, as a line. `Read`: the lines are more than 1,000,000 reads give.
     fn answer<T: Texts, W: Write>(
         &mut self,
         alloc: A,

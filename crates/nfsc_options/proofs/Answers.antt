@@ -13,7 +13,7 @@ use Rattle.nfsc_options.specs.Given.{IsNumber, IsNumberOr}
 abbrev pub Reads : ℕ → ℕ → Option ℕ → Option Text → Type 0
 Reads low high read o = (t : Text) → o ≡ Some t → IsSignedIn (pos low) (pos high) t × ((n : ℕ) × (read ≡ Some n) × (signed_digits_value 10 t ≡ pos n))
 
--- if there is a text, a number is read
+-- if a text is given, a number is read
 pub read_some : (low high : ℕ) (o : Option Text) (read : Option ℕ) → is_some o ≡ true → Reads low high read o → is_some read ≡ true
 read_some low high None read some reads = cc
 read_some low high (Some t) read some reads = ap is_some (reads t refl).1.1
@@ -25,7 +25,7 @@ number_held low high n (Some t) read some is reads =
     let got = reads t refl in
     (got.0, got.1.2 ∙ ap pos (ap (λ (x : Option ℕ). unwrap_or x n) (sym got.1.1 ∙ is)))
 
--- the number is the number that the text spells, or the default if there is no text
+-- the number is the number that the text spells, or the default without a text
 pub number_or_default : (default low high n : ℕ) (o : Option Text) (read : Option ℕ) → n ≡ unwrap_or read default → (o ≡ None → read ≡ None)
     → Reads low high read o → IsNumberOr default low high n o
 number_or_default default low high n None read is none reads = is ∙ ap (λ (x : Option ℕ). unwrap_or x default) (none refl)

@@ -43,7 +43,7 @@ no_head : (how : Reading) (vs : List (Bor Text)) → first_text vs ≡ None → 
 no_head how [] e = refl
 no_head how (v ∷ vs) e = cc
 
--- no argument has a group, so no entry of the built command is a group's
+-- no argument has a group, and no entry of the built command is therefore a group's
 no_groups : (old : Command) (m : ArgMatches) (p : IsParsedFrom old m) → app_of old ≡ nfsc → groups_of p.built ≡ []
 no_groups old m p is =
     (p.from.same_groups (simple_groups old (ap (λ (a : App). all_simple a.top.rules) is))).1

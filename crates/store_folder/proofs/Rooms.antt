@@ -11,7 +11,7 @@ use Rattle.store_folder.specs.declared.fault.Failure.{Failure}
 use Rattle.store_folder.specs.Held.{HasFailed, IsSynced, Keeps, NotReplaced, file_in}
 use Rattle.store_folder.specs.Rooms.{Did, RoomLaw}
 
--- A file is there. If it wasn't written to it has `n` bytes, as when it was opened.
+-- A file exists. If it wasn't written to, it has `n` bytes, as when it was opened.
 record Stays (n : ℕ) (touched : Bool) (x : StoreFile) : Type 0 where
   there : x.file ≢ None
   before : touched ≡ false → (x.len ≡ n) × (x.synced ≡ n)

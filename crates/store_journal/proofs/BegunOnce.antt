@@ -123,7 +123,7 @@ sure_is : (c d : Current) (p : Pointer) → IsFitCurrent c → IsFitCurrent d �
 sure_is c d p fit fit' last none (inl this) = one_of_bytes c d fit fit' (this ∙ last)
 sure_is c d p fit fit' last none (inr among) = absurd (never c (current_bytes d) p none among)
 
--- what a journal leaves whose next generation is unused, if CURRENT isn't replaced
+-- the files of a journal whose next generation is unused, if CURRENT isn't replaced
 still : (j : Journal) (acts acts' : List Act) → IsFresh j acts → on_current acts' ≡ on_current acts → AreUpTo j.current.identity j.current.begun acts' → IsBegun j.current.identity acts'
 still j acts acts' f same are = record {
   each = λ c fit may. subst (λ (x : Current). AreUpTo j.current.identity x.begun acts') (sym (is c fit may)) are;

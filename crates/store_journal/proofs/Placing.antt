@@ -20,7 +20,7 @@ passes a b t is = (grind (arith, nat_tests), grind (arith, nat_tests))
 passes_last : (a b : ℕ) → (a == b) ≡ true → a ≡ b
 passes_last a b is = grind (arith, nat_tests)
 
--- what the checks of a frame's place establish
+-- the facts that the checks of a frame's place establish
 pub record Placed (id : Identity) (p : Place) (h : Head) (d : ℕ) (body : Bytes) : Type 0 where
   pub checksum_is : d ≡ head_checksum id h
   pub head_is : h ≡ head_for id p (frame_of h body)

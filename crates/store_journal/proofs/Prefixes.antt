@@ -12,7 +12,7 @@ use Rattle.store_journal.specs.Checksum.{head_checksum}
 use Rattle.store_journal.specs.Disk.{Bytes}
 use Rattle.store_journal.specs.Frames.{Frame, MAX_BODY, head_form, head_value, head_for, framed, IsFit, log_end}
 
--- what comes before the body
+-- the part of a frame before its body
 abbrev pub prefix_value : Identity → Place → Frame → Value (pair head_form (pair hyper uint))
 prefix_value id p f = (head_value (head_for id p f), (head_checksum id (head_for id p f), length f.body))
 

@@ -1,4 +1,4 @@
--- What reading does to a file to which frames were written, and what writing its last frame again does.
+-- The effects on a file with frames of reading it, and of writing its last frame again.
 use Rattle.std.proofs.Common.{◌≡◌, ◌⊎◌, inl, inr, ℕ, ◌≤◌, ◌+◌, List, [], ◌∷◌, ◌++◌, length, replicate, Some, refl, sym, ◌∙◌, ap, subst, arith, append_assoc, length-append}
 use Rattle.std.proofs.lemmas.List.{append-nil, append_cancel_right, same_from_push, nil_from_length}
 use Rattle.store_journal.specs.declared.checksum.Identity.{Identity}

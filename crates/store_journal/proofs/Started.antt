@@ -60,7 +60,7 @@ new logs acts j may =
     let one = j.named None may in
     new_of logs acts one.log one.of_these one.names
 
--- ---- what is loaded
+-- ---- the loaded content
 
 file_read : (logs : List (Option Log)) (acts acts' : List Act) (c : Current) (found file : Bytes) → IsJournal logs acts → IsHonest acts' → current_in found ≡ Ok c → c.generation ≢ 0 → acts' ≡ Found c.slot file ∷ Read (Some found) ∷ acts → Finds logs acts acts' (Some c) file
 file_read logs acts acts' c found file j honest is some acts_are =

@@ -1,4 +1,4 @@
--- What each act of a call does to a journal.
+-- The effect of each act of a call on a journal.
 use Rattle.std.proofs.Common.{◌≡◌, inl, inr, ℕ, ◌≤◌, ◌+◌, List, [], ◌∷◌, ◌++◌, length, Option, Some, None, refl, sym, ◌∙◌, ap, subst, arith, length-append}
 use Rattle.std.proofs.lemmas.List.{append-nil}
 use Rattle.store_journal.specs.declared.current.Current.{Current}

@@ -61,7 +61,7 @@ read_again id p bytes after f is rest =
     let read : read_at form (bytes ++ rest) ≡ Ok (t.value, rest) = ap (λ (b : Bytes). read_at form (b ++ rest)) (sym same) ∙ again form t.value begins.prefix rest begins.spelled in
     (rest, takes_value id p (bytes ++ rest) rest t.value read t.placed ∙ ap (λ (g : Frame). Some (g, rest)) t.frame_is, refl)
 
--- ---- what is written
+-- ---- the written frames
 
 on_equal : (a b : ℕ) (t : Bool) → a ≡ b → (if a == b then t else false) ≡ t
 on_equal a b t is = grind (arith, nat_tests)
@@ -124,7 +124,7 @@ one_frame id p bytes f g after next is was =
     let both : (f, after) ≡ (g, next) = cc in
     (ap (λ (x : Frame × Bytes). x.0) both, ap (λ (x : Frame × Bytes). x.1) both)
 
--- the same frames leave the same rest
+-- equal frames leave equal rests
 pub one_rest : (id : Identity) (p : Place) (frames : List Frame) (bytes rest other : Bytes) → FramesAt id p frames bytes rest → FramesAt id p frames bytes other → rest ≡ other
 one_rest id p [] bytes rest other is was = is ∙ sym was
 one_rest id p (f ∷ frames) bytes rest other is was =

@@ -14,7 +14,7 @@ left_in_slot : (s : Slot) (acts : List Act) (a b : Bytes) → MayLeave (on_disk 
 left_in_slot A acts a b m n = m
 left_in_slot B acts a b m n = n
 
--- what is left of a log has all durable records
+-- the surviving part of a log has all durable records
 pub content_stays : (log : Log) (frames : List Frame) (content : Option Content) → contents log.kept ≡ Some log.content → contents frames ≡ content → Stays log.kept log.later frames → HasAll log content
 content_stays log frames content whole is s = record {
   prefix = s.tail;

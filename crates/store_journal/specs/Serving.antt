@@ -21,7 +21,7 @@ use Rattle.store_journal.specs.Writing.{ended}
 abbrev pub of_acts : List Act → List Act → Passage (List Act)
 of_acts old new = passage (λ before act after. after ≡ act ∷ before) old new
 
--- the journal writes after the frames of the log, all of which are durable
+-- the journal writes after the frames of the log, and all of them are durable
 pub record Follows (j : Journal) (log : Log) : Type 0 where
   pub settled : log.phase ≡ Settled
   pub position_is : j.position ≡ position_of log
@@ -107,7 +107,7 @@ AfterPart j log parts acts (Err Full) j' acts' = Stays j j' acts acts'
 AfterPart j log parts acts (Err NoCheckpoint) j' acts' = ⊥
 AfterPart j log parts acts (Err Failed) j' acts' = IsJournal (log ∷ []) acts'
 
--- and so does each part of it
+-- each of its parts keeps that too
 abbrev pub FurtherLaw : Type 0
 FurtherLaw =
     (j j' : Journal) (log : Option Log) (parts : List Frame) (acts acts' : List Act) (f : Frame)

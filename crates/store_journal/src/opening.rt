@@ -19,7 +19,7 @@ use std::alloc::Allocator;
 /// CURRENT, and the bytes of the file that it names.
 #[derive(Drop)]
 pub struct Loaded<A: Allocator> {
-    /// `None`: nothing is there, and the store is new. Generation 0: no checkpoint was finished yet.
+    /// `None`: CURRENT doesn't exist, and the store is new. Generation 0: no checkpoint was finished yet.
     pub current: Option<Current>,
     /// The bytes of the active file. None if no checkpoint was finished yet.
     pub bytes: Vec<u8, A>,

@@ -23,7 +23,7 @@ ReadsBook text (Err Profile) = ⊥
 ReadsBook text (Err Corrupt) = (fault : BookFault) × (book_from text ≡ Err fault)
 ReadsBook text (Err Memory) = Unit {0}
 
--- the same of bytes that may not be UTF-8
+-- the book of bytes that may not be UTF-8
 abbrev pub BookGives : Option Bytes → Result Content CheckpointFault → Type 0
 BookGives text (Ok book) = IsText text × (book_from text ≡ Ok book)
 BookGives text (Err Profile) = ⊥

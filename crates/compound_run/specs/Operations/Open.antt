@@ -242,12 +242,12 @@ abbrev pub is_within : Context → Value open_args → Option ℕ → Bool
 is_within c v None = size_fits (wanted c v).size
 is_within c v (Some file) = true
 
--- there is space for a new file; a truncation takes a tick
+-- a new file fits; a truncation takes a tick
 abbrev pub has_file_space : Context → Value open_args → ℕ → Option ℕ → Sight → Bool
 has_file_space c v directory None s = has_left s.next_tick && can_make (wanted c v) File s directory
 has_file_space c v directory (Some file) s = if truncates c v then has_left s.next_tick else true
 
--- there is space for one more open
+-- one more open fits
 abbrev pub has_open_space : Option Opened → Sight → Bool
 has_open_space (Some o) s = true
 has_open_space None s = nat_lt (length s.opens) MAX_OPENS && has_left s.next_open
@@ -264,7 +264,7 @@ last_questions v c h =
 
 -- ---- the result, and the realm after it
 
--- The change attribute of the directory, which stays unless a file is created. By filehandle there is no directory.
+-- The change attribute of the directory, which stays unless a file is created. An OPEN by filehandle has no directory.
 abbrev pub change_of : Claim → ℕ → Option ℕ → Sight → Value change_info
 change_of (ByName name) directory None s = changed s directory
 change_of (ByName name) directory (Some file) s = unchanged s directory

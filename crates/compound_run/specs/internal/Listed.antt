@@ -65,7 +65,7 @@ written_entry book facts n asked = (n.cookie, (n.name, (given_set asked, given_v
 unfoldable pub linked : Value entry → List ℕ
 linked e = linked_bytes e
 
--- The entry is written after its link, or there is no room for both, and nothing is written.
+-- The entry is written after its link, or both together don't fit and nothing is written.
 pub record PutsEntry (e : Value entry) (old new : Buffer) (result : Result (Unit {0}) Full) : Type 0 where
   pub sendable : OnOk result (IsSendable e)
   pub puts : Puts old new (linked e) result

@@ -14,7 +14,7 @@ use Rattle.nfs_types.specs.Seen.{Seen}
 use Rattle.nfs_client.specs.Setting.{ValuesGive}
 use Rattle.nfs_client.proofs.client.Client.set_list.Goals as goal
 
--- there is an ACE
+-- the ACEs are at least one
 some_texts : (texts : List (Bor (List ℕ))) → 0 < length texts → 0 < length (map (λ t. t.now) texts)
 some_texts texts h = omega (arith, length-map texts (λ t. t.now), h)
 
