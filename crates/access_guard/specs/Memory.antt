@@ -93,7 +93,8 @@ is_silent_removal (Some on_target) (Some on_parent) =
 
 abbrev pub grants_silently : Lists → Identity → Demand → Bool
 grants_silently lists caller (Bits object mask) = is_silent_grant (sum_at lists caller object) mask
-grants_silently lists caller (Removal parent target) = is_silent_removal (sum_at lists caller target) (sum_at lists caller parent)
+grants_silently lists caller (Removal parent target) =
+    is_silent_removal (sum_at lists caller target) (sum_at lists caller parent)
 
 -- the ACEs of the ACLs that a demand reads are examined
 abbrev pub walked : Lists → Demand → Memory → Memory

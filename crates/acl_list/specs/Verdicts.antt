@@ -25,7 +25,8 @@ DeniesAt found index = IsSomeAnd found (λ p. (p.0 ≡ index) × (p.1.kind ≡ D
 
 -- the access control entry (ACE) at the index denies a bit of the mask
 abbrev pub IsDenial : (Who → Bool) → List Entry → ℕ → ℕ → Type 0
-IsDenial names entries mask index = (bit : ℕ) × (has_bit mask bit ≡ true) × DeniesAt (first_match names entries bit) index
+IsDenial names entries mask index =
+    (bit : ℕ) × (has_bit mask bit ≡ true) × DeniesAt (first_match names entries bit) index
 
 -- a bit of the mask that matches no ACE
 abbrev pub IsUnmatched : (Who → Bool) → List Entry → ℕ → ℕ → Type 0

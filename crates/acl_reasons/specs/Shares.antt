@@ -34,4 +34,5 @@ is_decided names entries mask index place =
 abbrev pub is_decided_before : (Who → Bool) → List Entry → ℕ → ℕ → ℕ → Bool
 is_decided_before names entries mask index place =
     has_bit mask place
-    && (counts_at names (slice_get entries index) place && is_earlier index (match_of (first_match names entries place)))
+    && (counts_at names (slice_get entries index) place
+    && is_earlier index (match_of (first_match names entries place)))

@@ -28,7 +28,8 @@ principal_in flags book text = option_or (ace_principal_in flags book text) (nam
 
 abbrev pub entry_by : EntryWords → Option Who → Result Entry Field
 entry_by entry_words None = Err Principal
-entry_by entry_words (Some who) = Ok (record { kind = entry_words.kind; flags = entry_words.flags; mask = entry_words.mask; who = who })
+entry_by entry_words (Some who) =
+    Ok (record { kind = entry_words.kind; flags = entry_words.flags; mask = entry_words.mask; who = who })
 
 -- the ACE of a text
 abbrev pub entry_in : Kind → Content → List ℕ → Result Entry Field

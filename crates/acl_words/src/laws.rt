@@ -9,7 +9,8 @@ ghost use Rattle.acl_words.specs.Entries.{CanBeSet, entry_in, entry_text};
 /// The text of an access control entry (ACE) is read as that ACE, whatever its principal and the type of the object.
 #[tactic(auto, using(crate::proofs::Again::entry_words_again))]
 pub fn words_are_read_again()
-    ensures { (object : Kind) (e : EntryWords) → e.flags < 256 → e.mask < 2 ^ 32 → entry_words_in object (entry_words_text e) ≡ Ok e }
+    ensures { (object : Kind) (e : EntryWords) → e.flags < 256 → e.mask < 2 ^ 32 →
+        entry_words_in object (entry_words_text e) ≡ Ok e }
 {}
 
 /// The text of an ACE is read as that ACE, by each book and for each type of object, if an access control list can

@@ -96,7 +96,8 @@ pub record Stops {D : Type 0} (p : Passage D) (j : Journal) (s : State) (fault :
 -- a checkpoint of the server's present state
 abbrev pub RenewsTo : {D : Type 0} → Passage D → Store → State → Result (Unit {0}) StoreFault → Store → Type 0
 RenewsTo p store s (Ok done) store' =
-    (size : ℕ) × WritingGives p MACHINE store.journal s (Ok size) store'.journal × (store' ≡ renewed store'.journal size)
+    (size : ℕ) × WritingGives p MACHINE store.journal s (Ok size) store'.journal
+    × (store' ≡ renewed store'.journal size)
 RenewsTo p store s (Err fault) store' =
     (j' : Journal) × (stops : Stops p store.journal s fault j')
     × (store' ≡ after_stop stops.why store.journal (with_journal j' store))

@@ -54,7 +54,8 @@ impl<A: Allocator + Copy> Draft<A> {
     /// Makes the parts, reads them again, and compares the result with the server's clients.
     /// Nothing that differs from them is ever written. `Err`: an allocation fails, or they differ.
     pub(crate) fn of(alloc: A, server: &Server<A>) -> Result<Self, AllocError>
-        ensures { IfOk result (λ draft. (client_state : ClientStateGives) × IsDraft (draft_of draft) client_state server.now) }
+        ensures { IfOk result
+            (λ draft. (client_state : ClientStateGives) × IsDraft (draft_of draft) client_state server.now) }
     {
         let draft = Draft::made(alloc, server)?;
         let client_state = draft.client_state(alloc)?;

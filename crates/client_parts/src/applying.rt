@@ -91,7 +91,8 @@ fn give_numbers<A: Allocator + Copy>(
     next_client: u64,
     next_session: u64,
 ) -> Result<(), ChangeFault>
-    ensures ok { OnOk result (Applies clients.old (written_value (WrittenChange.Numbers next_client next_session)) clients.new) }
+    ensures ok { OnOk result
+        (Applies clients.old (written_value (WrittenChange.Numbers next_client next_session)) clients.new) }
     ensures unfit { result ≡ Err Unfit → (new : ClientStateGives) →
         Applies clients.old (written_value (WrittenChange.Numbers next_client next_session)) new → ⊥ }
 {
@@ -139,7 +140,8 @@ fn set_call<A: Allocator + Copy>(
     form: CallForm<'_>,
 ) -> Result<(), ChangeFault>
     ensures ok { OnOk result (AppliesCall clients.old (form_call form.entry) clients.new) }
-    ensures unfit { result ≡ Err Unfit → (new : ClientStateGives) → AppliesCall clients.old (form_call form.entry) new → ⊥ }
+    ensures unfit { result ≡ Err Unfit → (new : ClientStateGives) →
+        AppliesCall clients.old (form_call form.entry) new → ⊥ }
 {
     let (session, slot, number) = (form.session, form.slot, form.number);
     let (arguments, results) = (form.arguments.bytes, form.results.bytes);
@@ -188,7 +190,8 @@ pub fn apply<A: Allocator + Copy>(
     change: WrittenChange<'_>,
 ) -> Result<(), ChangeFault>
     ensures ok { OnOk result (Applies clients.old (written_value change.entry) clients.new) }
-    ensures unfit { result ≡ Err Unfit → (new : ClientStateGives) → Applies clients.old (written_value change.entry) new → ⊥ }
+    ensures unfit { result ≡ Err Unfit → (new : ClientStateGives) →
+        Applies clients.old (written_value change.entry) new → ⊥ }
 {
     match change {
         WrittenChange::Numbers(client, session) => give_numbers(clients, client, session),

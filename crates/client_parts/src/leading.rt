@@ -17,7 +17,8 @@ fn apply_one<A: Allocator + Copy>(
     reader: &mut Reader<'_>,
 ) -> Result<(), ChangeFault>
     ensures ok { OnOk result (AppliesOne clients.old reader.old clients.new reader.new) }
-    ensures unfit { result ≡ Err Unfit → (new : ClientStateGives) (rest : List ℕ) → AppliesOne clients.old reader.old new rest → ⊥ }
+    ensures unfit { result ≡ Err Unfit → (new : ClientStateGives) (rest : List ℕ) →
+        AppliesOne clients.old reader.old new rest → ⊥ }
 {
     let Ok(change) = WrittenChange::read(reader) else {
         return Err(ChangeFault::Unfit);
@@ -61,7 +62,8 @@ pub fn apply_changes<A: Allocator + Copy>(
     reader: &mut Reader<'_>,
 ) -> Result<(), ChangeFault>
     ensures ok { OnOk result (AppliesChanges clients.old reader.old clients.new reader.new) }
-    ensures unfit { result ≡ Err Unfit → (new : ClientStateGives) (rest : List ℕ) → AppliesChanges clients.old reader.old new rest → ⊥ }
+    ensures unfit { result ≡ Err Unfit → (new : ClientStateGives) (rest : List ℕ) →
+        AppliesChanges clients.old reader.old new rest → ⊥ }
 {
     let Ok(prefix) = <(u64, u32)>::read(reader) else {
         return Err(ChangeFault::Unfit);

@@ -89,7 +89,8 @@ Delays refused call old reply new runs =
 module _ (call : Call) (tag : List ℕ) (count : ℕ) (b : Beginning) where
   abbrev pub RanBegunDelaying : Option ℕ → State → List ℕ → Ran → State → Type 0
   RanBegunDelaying refused old bytes ran new =
-      (outcome : RanBegun call tag count b old bytes ran new) × DelaysBegun refused call tag count b old bytes new outcome.0
+      (outcome : RanBegun call tag count b old bytes ran new)
+      × DelaysBegun refused call tag count b old bytes new outcome.0
 
 abbrev pub DelaysAnswer : Option ℕ → (f : Fate Reply) (call : Call) (old : State) (reply : Reply) (ran : Ran)
     (new : State) → AnswersBy f call old reply ran new → Type 0

@@ -12,6 +12,7 @@ use Rattle.compound_run.specs.Sessions.{session_of, with_registry}
 
 pub record DestroysSession (v : Value destroy_session_args) (old : Realm) (outcome : Result Outcome Status)
     (new : Realm) : Type 0 where
-  pub outcome_is : outcome ≡ result_unless (destroy_session_refusal old.registry (session_of v)) (Done kinds.DestroySession tt)
+  pub outcome_is : outcome ≡ result_unless (destroy_session_refusal old.registry (session_of v))
+      (Done kinds.DestroySession tt)
   pub ok : OnOk outcome (new ≡ with_registry (without_session old.registry (session_of v)) old)
   pub err : OnErr outcome (new ≡ old)

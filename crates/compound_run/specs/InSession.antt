@@ -126,7 +126,8 @@ RunsOnSlot old c granted bytes new =
 -- a CREATE_SESSION with the sequence ID of the last one gets the cached result
 abbrev pub again : List ℕ → Option (Result Created Status) → Fate Reply
 again tag None = Runs
-again tag (Some kept) = Retries (Some (given_alone tag (row kinds.CreateSession).number (outcome_from session_made kept)))
+again tag (Some kept) =
+    Retries (Some (given_alone tag (row kinds.CreateSession).number (outcome_from session_made kept)))
 
 abbrev pub fate_alone : List ℕ → Operation → Realm → Fate Reply
 fate_alone tag (Known kinds.CreateSession v) r = again tag (created_before v r)

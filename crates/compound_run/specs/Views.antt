@@ -148,7 +148,8 @@ by_run c handles op = sense (may_delay c op) (meaning c handles op) (settled tru
 -- An operation is answered. If it is OK its result is written, within its room; else nothing is.
 pub record OperationGives {A : Type 0} (s : Sense) (room : ℕ) (handles : FileHandles) (old : Stage (realms.Realm A))
     (result : Result FileHandles Status) (new : Stage (realms.Realm A)) : Type 0 where
-  pub answered : Answered s.may s.meaning s.ends (point_at old.at handles) (outcome_as s.meaning (realm_of old.at) result)
+  pub answered : Answered s.may s.meaning s.ends (point_at old.at handles)
+      (outcome_as s.meaning (realm_of old.at) result)
       (point_at new.at (handles_after handles result))
   pub written : OnOk result (Appends old.out new.out (spelled (s.meaning.answer (whole (realm_of old.at)))))
   pub within : OnOk result (length new.out.bytes ≤ length old.out.bytes + room)

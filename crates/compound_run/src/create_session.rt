@@ -78,7 +78,8 @@ impl<A: Allocator + Copy> Realm<A> {
     fn make_session(&mut self, caller: &Caller, now: Moment, args: &CreateSessionArgs<'_>) -> Made
         ensures creates { Creates self.old.clients
             (create_of self.old.lasting caller.now (create_session_args_value args.now)) result self.new.clients }
-        ensures opens { opens_view self.new.opens.items ≡ opens_without result.removed (opens_view self.old.opens.items) }
+        ensures opens { opens_view self.new.opens.items ≡
+            opens_without result.removed (opens_view self.old.opens.items) }
         ensures others { IsOfClients self.old self.new }
     {
         let made = self.clients.create_session(Create {

@@ -91,8 +91,8 @@ impl<A: Allocator + Copy> Realm<A> {
         out: &mut Writer<A>,
     ) -> Acted
         requires room { limits.MIN_ROOM ≤ out.old.room }
-        ensures gives { ActedGives caller.now (lone_view lone.now) (realm_of self.old) out.old result (realm_of self.new)
-            out.new }
+        ensures gives { ActedGives caller.now (lone_view lone.now) (realm_of self.old) out.old result
+            (realm_of self.new) out.new }
         ensures others { IsOfClients self.old self.new }
     {
         match self.act(caller, now, lone, out) {

@@ -79,7 +79,8 @@ impl<A: Allocator + Copy> Realm<A> {
 
     /// Closes the opens of a client that is removed, if one is. It allocates no memory.
     pub fn end_opens_of(&mut self, removed: Option<u64>)
-        ensures opens { opens_view self.new.opens.items ≡ specs.opens_without removed (opens_view self.old.opens.items) }
+        ensures opens { opens_view self.new.opens.items ≡
+            specs.opens_without removed (opens_view self.old.opens.items) }
         ensures others { self.new ≡ record self.old { opens = self.new.opens } }
     {
         if let Some(client) = removed {

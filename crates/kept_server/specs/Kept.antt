@@ -46,7 +46,8 @@ pub record Serves (A : Type 0) (before : Before) (book : Content) (limits : Limi
   pub store : Store
   pub hub : Hub A
   pub hub' : Hub A
-  pub serves : ServesAll first events (record { limits = limits; store = Some store; history = acts ++ before.history }) end
+  pub serves : ServesAll first events
+      (record { limits = limits; store = Some store; history = acts ++ before.history }) end
       (record { hub = hub; acts = mid }) (record { hub = hub'; acts = new })
   pub opened : IsOpened before book acts serves.start.served.state
 

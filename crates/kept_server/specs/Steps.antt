@@ -90,7 +90,8 @@ IsCurrent None c = c.generation ≡ 0
 IsCurrent (Some found) c = c ≡ found
 
 -- the steps after the store was opened
-abbrev pub OpensThen : {A D : Type 0} → Passage D → Result Ending StoreFault → Content → Result (Kept A) KeptEnd → Type 0
+abbrev pub OpensThen : {A D : Type 0} → Passage D → Result Ending StoreFault → Content → Result (Kept A) KeptEnd
+    → Type 0
 OpensThen p (Ok (IsNew found)) book result =
     ((current : Current) × IsCurrent found current × BeginsAnew p current book result)
     ⊎ ((result ≡ Err (Unopened Failed)) × Unchanged p)

@@ -64,8 +64,10 @@ piece_with bytes eof = record { bytes = bytes; eof = eof }
 -- a piece that is appended to the bytes read before it
 abbrev pub PieceTaken : ReplyResults → List ℕ → List ℕ → Result Bool ToolFault → Type 0
 PieceTaken reply_results old new (Ok eof) =
-    (bytes : List ℕ) × ReplyResultsGive (taking piece_in (piece_with bytes)) reply_results (Ok eof) × (new ≡ old ++ bytes)
-PieceTaken reply_results old new (Err fault) = ReplyResultsGive (taking piece_in (piece_with [])) reply_results (Err fault)
+    (bytes : List ℕ) × ReplyResultsGive (taking piece_in (piece_with bytes)) reply_results (Ok eof)
+    × (new ≡ old ++ bytes)
+PieceTaken reply_results old new (Err fault) =
+    ReplyResultsGive (taking piece_in (piece_with [])) reply_results (Err fault)
 
 -- the exchange of a piece, which is appended to the bytes read before it
 abbrev pub ReadGives : {S A : Type 0} → Talking S → Route → Gathered S A (List ℕ) → Gathered S A (List ℕ)

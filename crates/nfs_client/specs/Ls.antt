@@ -147,7 +147,8 @@ PageTaken reply_results old new (Ok eof) =
     (text : List ℕ) × (cookies : List ℕ)
     × ReplyResultsGive (taking (page_in old.ends) (page_with text cookies)) reply_results (Ok eof)
     × GoesOn old new text cookies
-PageTaken reply_results old new (Err fault) = ReplyResultsGive (taking (page_in old.ends) (page_with [] [])) reply_results (Err fault)
+PageTaken reply_results old new (Err fault) =
+    ReplyResultsGive (taking (page_in old.ends) (page_with [] [])) reply_results (Err fault)
 
 -- the exchange of a page, whose lines are appended to those of the pages before it
 abbrev pub ListGives : {S A : Type 0} → Talking S → Route → List ℕ → Gathered S A (Listing A) → Gathered S A (Listing A)

@@ -134,10 +134,12 @@ module _ {S A : Type 0} (talks : Talking S) (o : Open) where
   CloseGives old new result = AskGives talks no_value (within_session (close_it old o)) old new result
 
   -- The file is closed if the text is written, and if a WRITE was refused.
-  abbrev pub ClosesAfterWrite : Result (Unit {0}) ToolFault → Client S A → Client S A → Result (Unit {0}) ToolFault → Type 0
+  abbrev pub ClosesAfterWrite : Result (Unit {0}) ToolFault → Client S A → Client S A → Result (Unit {0}) ToolFault
+      → Type 0
   ClosesAfterWrite (Ok done) old new result = CloseGives old new result
   ClosesAfterWrite (Err (Refused op status)) old new result =
-      (closed : Result (Unit {0}) ToolFault) × CloseGives old new closed × (result ≡ result_after_close op status closed)
+      (closed : Result (Unit {0}) ToolFault) × CloseGives old new closed
+      × (result ≡ result_after_close op status closed)
   ClosesAfterWrite (Err fault) old new result = (new ≡ old) × (result ≡ Err fault)
 
 module _ {S A : Type 0} (talks : Talking S) (over : OldBytes) (o : Open) where
@@ -164,7 +166,8 @@ module _ {S A : Type 0} (talks : Talking S) (over : OldBytes) (o : Open) where
   -- too large.
   abbrev pub FileGives : List ℕ → Client S A → Client S A → Result (Unit {0}) ToolFault → Type 0
   FileGives text old new result =
-      (outcome : Result (Unit {0}) ToolFault) × (mid : Client S A) × (last : Client S A) × TextGives text old mid outcome
+      (outcome : Result (Unit {0}) ToolFault) × (mid : Client S A) × (last : Client S A)
+      × TextGives text old mid outcome
       × ClosesAfterWrite talks o outcome mid last result × Breaks result last new
 
 -- a text that is written over the bytes of a file

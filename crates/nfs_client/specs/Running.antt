@@ -23,7 +23,8 @@ use Rattle.nfs_client.specs.declared.fault.ToolFault.{ToolFault}
 use Rattle.nfs_client.specs.declared.fault.ToolFault.TheVariants.{Memory}
 
 -- the result of a command is as it is defined, and the answer is this text of the result
-abbrev pub PrintsResult : {A V : Type 0} → (Result V ToolFault → Type 0) → (V → List ℕ) → Result (Answer A) ToolFault → Type 0
+abbrev pub PrintsResult : {A V : Type 0} → (Result V ToolFault → Type 0) → (V → List ℕ) → Result (Answer A) ToolFault
+    → Type 0
 PrintsResult {V = V} gives text result = (outcome : Result V ToolFault) × gives outcome × PrintsAs text outcome result
 
 -- The bytes of the file at a path, with a newline after them; or the allocation for the newline fails, and no other
@@ -55,10 +56,12 @@ Runs talks (ChMod mode path) old new result =
     PrintsResult (CommandGives talks (ChModAsks mode path) (WrongMode mode path) old new) ok_text result
 Runs {A = A} talks (GetAcl part path) old new result =
     PrintsResult {V = Vec ℕ A}
-    (CommandResults talks (taking (acl_in part) text_of_bytes) (GetAclAsks part path) (NoPath path) old new) text_of_bytes
+    (CommandResults talks (taking (acl_in part) text_of_bytes) (GetAclAsks part path) (NoPath path) old new)
+    text_of_bytes
     result
 Runs talks (SetAcl part path entries) old new result =
     PrintsResult (CommandGives talks (SetAclAsks part path entries) (WrongAcl path entries) old new) ok_text result
 Runs talks (Access path) old new result =
-    PrintsResult (CommandResults talks (taking rights_in rights_value) (AccessAsks path) (NoPath path) old new) rights_text
+    PrintsResult (CommandResults talks (taking rights_in rights_value) (AccessAsks path) (NoPath path) old new)
+        rights_text
     result

@@ -18,7 +18,8 @@ directions_of contents remaining = record { contents = contents; remaining = rem
 
 -- a prefix of the bytes was written
 abbrev pub WritesPrefix : Option (List ℕ) → Option (List ℕ) → List ℕ → Type 0
-WritesPrefix held held' bytes = (prefix : List ℕ) × (rest : List ℕ) × (bytes ≡ prefix ++ rest) × Appends held held' prefix
+WritesPrefix held held' bytes =
+    (prefix : List ℕ) × (rest : List ℕ) × (bytes ≡ prefix ++ rest) × Appends held held' prefix
 
 -- all of the bytes were written, or the stream failed after a prefix of the bytes
 abbrev pub WriteGives : Option (List ℕ) → Option (List ℕ) → List ℕ → Result (Unit {0}) ToolFault → Type 0

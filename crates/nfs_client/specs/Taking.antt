@@ -39,7 +39,8 @@ taking taken value = record { taken = taken; value = value }
 -- The value of the results of a reply if all is done, else its fault. A reply whose results don't have the value is
 -- no reply.
 abbrev pub ReplyResultsGive : {X V : Type 0} → Taking X V → ReplyResults → Result X ToolFault → Type 0
-ReplyResultsGive takes reply_results (Ok x) = (reply_results.answer ≡ AllDone) × (takes.taken reply_results.results ≡ Some (takes.value x))
+ReplyResultsGive takes reply_results (Ok x) =
+    (reply_results.answer ≡ AllDone) × (takes.taken reply_results.results ≡ Some (takes.value x))
 ReplyResultsGive takes reply_results (Err Reply) =
     (reply_results.answer ≡ NoReply) ⊎ ((reply_results.answer ≡ AllDone) × (takes.taken reply_results.results ≡ None))
 ReplyResultsGive takes reply_results (Err Memory) = Unit {0}

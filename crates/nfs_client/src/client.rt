@@ -46,14 +46,16 @@ pub(crate) struct Reply<A: Allocator> {
 impl<A: Allocator + Copy> Reply<A> {
     /// The results of the operations, if each is OK.
     pub(crate) fn results(&self, alloc: A) -> Result<Vec<OpResult<'_>, A>, ToolFault>
-        ensures { ResultsGive (λ v. outcomes v.items) (results_to self.now.xid self.now.asked.items self.now.content.items) result }
+        ensures { ResultsGive (λ v. outcomes v.items)
+            (results_to self.now.xid self.now.asked.items self.now.content.items) result }
     {
         read_answer(alloc, self.xid, &self.asked, &self.content)
     }
 
     /// No value: each operation is OK.
     fn done(&self, alloc: A) -> Result<(), ToolFault>
-        ensures { ReplyResultsGive no_value (results_to self.now.xid self.now.asked.items self.now.content.items) result }
+        ensures { ReplyResultsGive no_value
+            (results_to self.now.xid self.now.asked.items self.now.content.items) result }
     {
         match self.results(alloc) {
             Ok(_) => Ok(()),

@@ -124,7 +124,8 @@ impl<A: Allocator> Listing<A> {
 impl<A: Allocator + Copy> Reply<A> {
     /// Appends the lines of the page at the end of the results. Returns whether the directory ends after it.
     fn put_page(&self, alloc: A, listing: &mut Listing<A>) -> Result<bool, ToolFault>
-        ensures { PageTaken (results_to self.now.xid self.now.asked.items self.now.content.items) listing.old listing.new
+        ensures { PageTaken (results_to self.now.xid self.now.asked.items self.now.content.items)
+            listing.old listing.new
             result }
     {
         match self.results(alloc) {

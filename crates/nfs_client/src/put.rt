@@ -155,7 +155,8 @@ impl<A: Allocator> Opened<A> {
 impl<A: Allocator + Copy> Reply<A> {
     /// The open at the end of the results.
     fn opened(&self, alloc: A) -> Result<Opened<A>, ToolFault>
-        ensures { ReplyResultsGive (taking open_in open_value) (results_to self.now.xid self.now.asked.items self.now.content.items)
+        ensures { ReplyResultsGive (taking open_in open_value)
+            (results_to self.now.xid self.now.asked.items self.now.content.items)
             result }
     {
         match self.results(alloc) {

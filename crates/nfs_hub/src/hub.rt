@@ -134,7 +134,8 @@ impl<A: Allocator + Copy> Hub<A> {
     /// kept. `None`: no client is due, or the allocation of the entry fails, and nothing changes.
     pub fn expire_client(&mut self, now: Moment) -> Option<u64>
         ensures extends { MatchOption result
-            ((first : Served) (events : List Event) → IsHistoryOf first events self.old → IsHistoryOf first events self.new)
+            ((first : Served) (events : List Event) → IsHistoryOf first events self.old →
+            IsHistoryOf first events self.new)
             (λ client. (first : Served) (events : List Event) → IsHistoryOf first events self.old →
             IsHistoryOf first (ClientExpired client ∷ events) self.new) }
         ensures goes { IfSome result (λ client. Goes (ClientExpired client) self.old self.new) }

@@ -67,7 +67,8 @@ pub(crate) fn put_call<A: Allocator>(
     results: &[u8],
 )
     requires { HasRoomFor (arrival_of arrival) log.old }
-    ensures logged { bytes_of log.new ≡ logged_call (arrival_of arrival.entry) ran (Some results.now) (bytes_of log.old) }
+    ensures logged { bytes_of log.new ≡
+        logged_call (arrival_of arrival.entry) ran (Some results.now) (bytes_of log.old) }
     ensures fits { FitsCall (arrival_of arrival.entry) ran (Some results.now) (bytes_of log.old) }
 {
     if !ran.kept || log.is_none() {

@@ -29,7 +29,8 @@ pub record IsMomentOf {A : Type 0} (l : Local A) (moment : Moment) : Type 0 wher
 -- this event changes the hub, and extends each history that leads to it
 pub record ExtendsHistory {A : Type 0} (event : Event) (old new : Hub A) : Type 0 where
   pub goes : Goes event old new
-  pub extends : (first : Served) (events : List Event) → IsHistoryOf first events old → IsHistoryOf first (event ∷ events) new
+  pub extends : (first : Served) (events : List Event) → IsHistoryOf first events old
+      → IsHistoryOf first (event ∷ events) new
 
 -- A piece arrives at the connection at the stream's moment, and the hub answers this.
 pub record Fed {A : Type 0} (l : Local A) (old : Hub A) (piece : List ℕ) (answer : Result (Unit {0}) HubFault)

@@ -69,12 +69,14 @@ pub record IsCaller {A : Type 0} (conn number : ℕ) (order : Order) (hub : Hub 
 
 -- Over an open connection the client of a line has its session and runs the line's command. Its exchanges change the
 -- hub from the old one to the new one. No two lines have the same verifier.
-pub record Visits {A : Type 0} (conn number : ℕ) (order : Order) (old new : Hub A) (outcome : Result (Answer A) ToolFault)
+pub record Visits {A : Type 0} (conn number : ℕ) (order : Order) (old new : Hub A)
+    (outcome : Result (Answer A) ToolFault)
     : Type 0 where
   pub first : Client (Local A) A
   pub last : Client (Local A) A
   pub caller : IsCaller conn number order old first
-  pub runs : RunsOver LocalTalks order.command (record { id = owner; verifier = to_be_bytes w64 number }) first last outcome
+  pub runs : RunsOver LocalTalks order.command
+      (record { id = owner; verifier = to_be_bytes w64 number }) first last outcome
   pub after : last.stream.hub.now ≡ new
 
 -- A connection is opened, a client runs a command over it, and it is closed.

@@ -190,7 +190,8 @@ fn put_book<W: Write>(fault: BookFault, writer: &mut W) -> Result<(), ToolFault>
 
 /// Writes that a text is no book.
 fn print_book<W: Write>(fault: BookFault, writer: &mut W) -> Result<bool, ToolFault>
-    ensures { Prints (output (book_text fault ++ 10 ∷ []) false) (W.contents writer.old) (W.contents writer.new) result }
+    ensures { Prints (output (book_text fault ++ 10 ∷ []) false) (W.contents writer.old)
+        (W.contents writer.new) result }
 {
     match put_book(fault, writer) {
         Ok(()) => Ok(false),
@@ -210,7 +211,8 @@ fn print_loaded<W: Write>(writer: &mut W) -> Result<bool, ToolFault>
 
 /// Writes the outcome of loading another book. Returns whether it is loaded.
 fn print_load<W: Write>(outcome: Result<(), LoadFault>, writer: &mut W) -> Result<bool, ToolFault>
-    ensures { Prints (output (load_text outcome) (is_loaded outcome)) (W.contents writer.old) (W.contents writer.new) result }
+    ensures { Prints (output (load_text outcome) (is_loaded outcome)) (W.contents writer.old)
+        (W.contents writer.new) result }
 {
     match outcome {
         Ok(()) => print_loaded(writer),

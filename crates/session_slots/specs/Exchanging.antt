@@ -66,7 +66,8 @@ with_client removed r a = record r {
 }
 
 abbrev pub is_full : Option ℕ → Registry → Exchanging → Bool
-is_full removed r a = nat_le MOST_CLIENTS (length (filter (stays removed a.owner) r.clients)) || nat_le END r.next_client
+is_full removed r a =
+    nat_le MOST_CLIENTS (length (filter (stays removed a.owner) r.clients)) || nat_le END r.next_client
 
 -- a new record, unless the limit of records is reached, or no client ID is left
 abbrev pub decision_for_new : Option ℕ → Registry → Exchanging → ExchangeDecision
@@ -105,7 +106,8 @@ MakesClient r a removed result new =
 
 abbrev pub ExchangesBy : ExchangeDecision → Registry → Exchanging → Result Exchanged Status → Registry → Type 0
 ExchangesBy (Refuses status) r a result new = (result ≡ Err status) × (new ≡ r)
-ExchangesBy (Knows confirmed_answer) r a result new = (result ≡ Ok confirmed_answer) × (new ≡ without_unconfirmed a.owner r)
+ExchangesBy (Knows confirmed_answer) r a result new =
+    (result ≡ Ok confirmed_answer) × (new ≡ without_unconfirmed a.owner r)
 ExchangesBy (Makes removed) r a result new = MakesClient r a removed result new
 
 -- the answer to EXCHANGE_ID, and clients and sessions afterwards

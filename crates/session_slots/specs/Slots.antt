@@ -139,7 +139,8 @@ pub record LaggingRepresents (kept : Option Cached) (history : List Cached) : Ty
 pub record BeginsLagging (old new : Option Cached) (lags : Bool) (call : Call) (turn : Turn) : Type 0 where
   pub next : (history : List Cached) → LaggingRepresents old history → fate history call ≡ Runs
       → (turn ≡ turns.New) × SlotRepresents new (opened call ∷ history) × (lags ≡ false)
-  pub again : (history : List Cached) (results : List ℕ) → SlotRepresents old history → fate history call ≡ Retries results
+  pub again : (history : List Cached) (results : List ℕ) → SlotRepresents old history
+      → fate history call ≡ Retries results
       → fate_of_turn turn old ≡ Retries results
   pub waits : (history : List Cached) → LaggingRepresents old history → (turn ≡ turns.New → ⊥)
       → LaggingRepresents new (opened call ∷ history) × (lags ≡ true) × (new ≡ old)
@@ -153,6 +154,6 @@ BeginsBy true old q call turn = BeginsLagging old q.kept q.lags call turn
 
 -- The newest call of every history that the slot represented has these results now.
 pub record KeepsByHistory (old new : Option Cached) (results : List ℕ) : Type 0 where
-  pub represents : (kept : Cached) (history : List Cached) → SlotRepresents old (kept ∷ history) → fate history kept.call ≡ Runs
-      →
-      SlotRepresents new (record kept { results = results } ∷ history)
+  pub represents : (kept : Cached) (history : List Cached) → SlotRepresents old (kept ∷ history)
+      → fate history kept.call ≡ Runs
+      → SlotRepresents new (record kept { results = results } ∷ history)

@@ -242,7 +242,8 @@ impl<A: Allocator + Copy> Clients<A> {
     #[tactic(auto, using(crate::proofs::Restored::slot_fit_facts))]
     pub fn restore_slot(&mut self, session: u64, slot: u32, kept: CachedCall<'_>) -> bool
         ensures fits { result ≡ slot_fits (session_at self.old session) slot (kept_of kept.entry) }
-        ensures kept { self.new ≡ (if result then with_cached self.old session slot (kept_of kept.entry) else self.old) }
+        ensures kept { self.new ≡
+            (if result then with_cached self.old session slot (kept_of kept.entry) else self.old) }
     {
         if !self.registry.slot_fits(session, slot, kept) {
             return false;

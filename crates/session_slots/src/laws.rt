@@ -48,7 +48,8 @@ pub fn retries_change_nothing<W: World>()
 #[tactic(auto, using(crate::proofs::Whole::slot_by_history))]
 pub fn slots_go_by_history<W: World>()
     ensures { (called : List calls.Call) (replies : List Reply) (old new : State W) →
-        AnswersAll fate (CallRuns W.run) called replies old new → (history : List Cached) → SlotRepresents old.kept history →
+        AnswersAll fate (CallRuns W.run) called replies old new →
+        (history : List Cached) → SlotRepresents old.kept history →
         SlotRepresents new.kept (sent called replies history) }
 {}
 

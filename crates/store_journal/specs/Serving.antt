@@ -179,7 +179,8 @@ RestartLaw =
     → Chooses (at_begun log.current begun) file content position last_at last
     → ResumeGives (of_acts (Found log.current.slot file ∷ Read found ∷ acts) acts') (at_begun log.current begun)
     position last_at last result
-    → AfterResume log others content (Found log.current.slot file ∷ Read found ∷ acts) result acts' ⊎ HasCollision log file
+    → AfterResume log others content (Found log.current.slot file ∷ Read found ∷ acts) result acts'
+    ⊎ HasCollision log file
 
 -- the order of two logs that may be active is irrelevant
 abbrev pub EitherLaw : Type 0

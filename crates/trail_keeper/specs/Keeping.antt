@@ -29,7 +29,8 @@ KeeperGives true false done stops stays = stays
 KeeperGives false true done stops stays = done
 KeeperGives false false done stops stays = stops
 
-abbrev pub KeepingGives : {W : Type 0} → (W → Option (List ℕ)) → List ℕ → Log → Bool → TrailKeeper W → TrailKeeper W → Type 0
+abbrev pub KeepingGives : {W : Type 0} → (W → Option (List ℕ)) → List ℕ → Log → Bool → TrailKeeper W → TrailKeeper W
+    → Type 0
 KeepingGives contents prefix log answer old new =
     KeeperGives old.has_failed answer (Kept contents prefix log old new)
     (Stops contents (new_text prefix old.seen log) old new) (new ≡ old)

@@ -35,7 +35,8 @@ fn list_of<A: Allocator + Copy>(
     alloc: A,
     written: WrittenList<'_>,
 ) -> Result<AclList<A>, AllocError>
-    ensures { IfOk result (λ list. list_value list ≡ array_values entry None written.entry.count written.entry.bytes.now) }
+    ensures { IfOk result
+        (λ list. list_value list ≡ array_values entry None written.entry.count written.entry.bytes.now) }
 {
     let mut left = written;
     let mut entries = Vec::new(alloc);
@@ -93,7 +94,8 @@ fn take_object<A: Allocator + Copy>(
     new: WrittenObject<'_>,
     last: (u64, (WrittenMoment, (WrittenMoment, u64))),
 ) -> Result<Restoring<A>, RestoreFault>
-    ensures ok { IfOk result (λ more. Takes (Some restoring) (written_part (WrittenPart.Object number new.entry last)) more) }
+    ensures ok { IfOk result
+        (λ more. Takes (Some restoring) (written_part (WrittenPart.Object number new.entry last)) more) }
     ensures unsound { result ≡ Err Unsound → (more : Begun) →
         Takes (Some restoring) (written_part (WrittenPart.Object number new.entry last)) more → ⊥ }
 {

@@ -131,7 +131,8 @@ is_table rows = nat_le (length rows) 1024 && list_all is_row rows
 unfoldable pub is_in_range : Outline → Bool
 is_in_range stated =
     (is_domain stated.domain
-    && (is_up_to 4294967295 stated.root_owner && (is_up_to 4294967295 stated.root_group && is_up_to 4095 stated.root_mode)))
+    && (is_up_to 4294967295 stated.root_owner
+        && (is_up_to 4294967295 stated.root_group && is_up_to 4095 stated.root_mode)))
     && (is_table stated.users && is_table stated.groups)
 
 -- Twice

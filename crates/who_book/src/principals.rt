@@ -90,7 +90,8 @@ impl Book {
     /// group and don't have it for a user.
     pub fn spell_ace_principal(&self, who: Who) -> Spelling
         ensures text { result ≡ ace_principal_text self.now who }
-        ensures read_back { (flags : ℕ) → flags < 2 ^ 32 → IsUnder flags who → ace_principal_in flags self.now result ≡ Some who }
+        ensures read_back { (flags : ℕ) → flags < 2 ^ 32 → IsUnder flags who →
+            ace_principal_in flags self.now result ≡ Some who }
         ensures short { length result ≤ 193 }
     {
         match who {

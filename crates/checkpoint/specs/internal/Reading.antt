@@ -49,7 +49,8 @@ ApplyingWholeGives old bytes result new =
 
 abbrev pub BeginningClientsGives : Bytes → Bytes → Bytes → Result ClientState CheckpointFault → Type 0
 BeginningClientsGives first second third result =
-    StepGives (BeginsClients first second third) ((clients : ClientState) → BeginsClients first second third clients → ⊥) result
+    StepGives (BeginsClients first second third)
+        ((clients : ClientState) → BeginsClients first second third clients → ⊥) result
 
 -- these bytes are the next part, without a rest
 abbrev pub TakesBytes : Option Begun → Bytes → Begun → Type 0
