@@ -274,7 +274,7 @@ pub(crate) fn answer<A: Allocator + Copy, S: Streams<A>, C: Clock>(
         }
         Moved::NotYet => Turned::Idle,
         Moved::Over | Moved::Failed => {
-            // Nothing more can be sent.
+            // Nothing more can be told.
             shut(hub, streams, place, peer.conn, StreamEnd::Write);
             Turned::Done
         }
