@@ -314,7 +314,7 @@ impl<A: Allocator + Copy> Server<A> {
         records > MANY_CLIENTS || sessions > MANY_SESSIONS || self.realm.opens.len() > MANY_OPENS
     }
 
-    /// The client to expire at this moment, if any. It exists only beyond 32 records, 32 sessions or 2,048 open files.
+    /// The client to expire at this moment, if any. None expires up to 32 records, 32 sessions and 2,048 open files.
     /// Its lease wasn't renewed for more than 90 seconds, or 10 for a run of `nfsc`. Of several it is the one whose
     /// lease ended first.
     pub fn silent(&self, now: Moment) -> Option<u64>

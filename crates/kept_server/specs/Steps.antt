@@ -32,7 +32,7 @@ BeginsAnew p current book (Err Unready) = ⊥
 BeginsAnew p current book (Err Memory) = Unchanged p
 BeginsAnew p current book (Err Exhausted) = ⊥
 
--- the events that a machine has logged; some were
+-- the events that a machine has logged, at least one
 pub record HasLogged (s : State) (log : List ℕ) : Type 0 where
   pub log_is : s.served.log ≡ Some log
   pub some : log ≢ []

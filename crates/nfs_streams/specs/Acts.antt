@@ -44,8 +44,8 @@ pub data Act : Type 0 where
   Lost : Act
   -- this act on a file of the store
   OnDisk : DiskAct → Act
-  -- The persistent state of a server in this state, which outlives a restart, is stored, with a store. The log begins
-  -- anew.
+  -- With a store, the persistent state of a server in this state is stored: the part that outlives a restart. The log
+  -- begins anew.
   Stored : ServerState → Act
   -- storing failed
   Unstored : Act
@@ -199,7 +199,7 @@ IsAsked (act ∷ acts) = IsAsked acts
 abbrev pub IsLooked : List Act → Type 0
 IsLooked acts = IsAsked acts × (book_waiting acts ≡ None)
 
--- the server was last stored in this state, with a store
+-- with a store, the server was last stored in this state
 abbrev pub IsStored : List Act → ServerState → Type 0
 IsStored [] s = ⊥
 IsStored (Stored state ∷ acts) s = state ≡ s

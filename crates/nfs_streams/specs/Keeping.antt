@@ -46,14 +46,14 @@ pub record Survives (history : List DiskAct) (limits : Limits) (acts : List Act)
   pub represents : KeptRepresent states (disk_of acts ++ history)
   pub covers_replies : (t : ServerState) → IsIn t states → CoversReplies limits acts start s run t
 
--- these states survive a crash after each of the acts
+-- `Survives` holds after each of the acts
 abbrev pub AlwaysSurvives : List DiskAct → (limits : Limits) (acts : List Act) (start s : State)
     → Runs limits acts start s → Type 0
 AlwaysSurvives history limits [] start s run = Survives history limits [] start s run
 AlwaysSurvives history limits (act ∷ acts) start s run =
     Survives history limits (act ∷ acts) start s run × AlwaysSurvives history limits acts start run.0 run.1
 
--- with a store they survive a crash after each of the acts
+-- with a store, `AlwaysSurvives` holds
 abbrev pub SurvivesIn : Option Store → List DiskAct → (limits : Limits) (acts : List Act) (start s : State)
     → Runs limits acts start s → Type 0
 SurvivesIn None history limits acts start s run = Unit {0}

@@ -232,7 +232,7 @@ fn unmarked_since<A: Allocator + Copy, C: Clock>(
     }
 }
 
-/// Stores the persistent state, with a store, and begins the log anew. Returns whether it could be stored.
+/// Stores the persistent state, if a store is given, and begins the log anew. Returns whether it could be stored.
 fn store<A: Allocator + Copy, S: Streams<A>, C: Clock>(
     hub: &mut Hub<A>,
     streams: &mut S,
@@ -301,7 +301,7 @@ fn mark<A: Allocator + Copy, S: Streams<A>, C: Clock>(
 /// - The bytes that were read are given to the hub, and the trail is kept after each record. While a book waits nothing
 ///   is given.
 /// - The most silent client is expired, if one is to expire.
-/// - The persistent state is stored, with a store.
+/// - The persistent state is stored, if a store is given.
 /// - The waiting bytes of all places are written.
 /// - The store is marked, in a later second than that of the last record.
 ///

@@ -30,7 +30,7 @@ pub record IsLog (log : Log) (acts : List Act) : Type 0 where
   pub whole : contents log.kept ≡ Some log.content
   pub finished : log.current.generation ≢ 0
 
--- where its next frame goes
+-- the position of its next frame
 abbrev pub place_of : Log → Place
 place_of log = place_after log.current.identity (start log.current.generation) (log.kept ++ log.later)
 

@@ -33,7 +33,7 @@ pub struct Chosen<'a, A: Allocator> {
     pub parts: Vec<&'a [u8], A>,
     /// The records after it.
     pub records: Vec<&'a [u8], A>,
-    /// Where the next frame goes.
+    /// The position of the next frame.
     pub position: Position,
     /// The number of bytes before the last frame.
     pub last_at: u64,
