@@ -1,5 +1,6 @@
 -- Summaries determine the verdicts of access control lists (ACLs).
-use Rattle.std.proofs.Common.{◌≡◌, ℕ, ◌+◌, ◌^◌, ◌<◌, ◌∙◌, Bool, true, false, ◌||◌, List, [], ◌∷◌, ◌++◌, Some, None, refl, ap, sym, inl, inr, ◌⊎◌, arith}
+use Rattle.std.proofs.Common.{◌≡◌, ℕ, ◌+◌, ◌^◌, ◌<◌, ◌∙◌, Bool, true, false, ◌||◌, List, [], ◌∷◌, ◌++◌, Some, None}
+use Rattle.std.proofs.Common.{refl, ap, sym, inl, inr, ◌⊎◌, arith}
 use Rattle.std.specs.Prelude.{Option, All}
 use Rattle.std.specs.List.{filter_map, enumerate_from}
 use Rattle.std.specs.Option.{option_map, option_map_or}
@@ -43,18 +44,24 @@ module _ (caller : Identity) (j : Judged) (mask : ℕ) (fits : mask < 2 ^ 32) wh
   granted : grants (sum_of j caller) mask ≡ true → verdict (names j caller) j.list mask ≡ verdicts.Granted
   granted h = (granted_iff_covered (names j caller) j.list mask fits).1 ((Decides-eqb _ _).0 h)
 
-  unwatched : is_quiet (sum_of j caller) mask ≡ true → All (λ e. watched_bits (names j caller) (watch_flag true) mask e ≡ 0) j.list
+  unwatched : is_quiet (sum_of j caller) mask ≡ true
+      → All (λ e. watched_bits (names j caller) (watch_flag true) mask e ≡ 0) j.list
   unwatched h = (unwatched_iff (names j caller) (watch_flag true) j.list mask fits).0 ((Decides-eqb _ _).0 h)
 
-  silent : (op object : ℕ) → is_quiet (sum_of j caller) mask ≡ true → filter_map (watch_line caller op object mask true j) (enumerate_from 0 j.list) ≡ []
+  silent : (op object : ℕ) → is_quiet (sum_of j caller) mask ≡ true
+      → filter_map (watch_line caller op object mask true j) (enumerate_from 0 j.list) ≡ []
   silent op object h = from 0 j.list (unwatched h)
     where
-      none : (index : ℕ) (e : Entry) → watched_bits (names j caller) (watch_flag true) mask e ≡ 0 → watch_line caller op object mask true j (index, e) ≡ None
+      none : (index : ℕ) (e : Entry) → watched_bits (names j caller) (watch_flag true) mask e ≡ 0
+          → watch_line caller op object mask true j (index, e) ≡ None
       none index e z = rw z (no_kind (line_kind e.kind))
 
-      from : (n : ℕ) (es : List Entry) → All (λ e. watched_bits (names j caller) (watch_flag true) mask e ≡ 0) es → filter_map (watch_line caller op object mask true j) (enumerate_from n es) ≡ []
+      from : (n : ℕ) (es : List Entry) → All (λ e. watched_bits (names j caller) (watch_flag true) mask e ≡ 0) es
+          → filter_map (watch_line caller op object mask true j) (enumerate_from n es) ≡ []
       from n [] all = refl
-      from n (e ∷ es) all = rw (none n e (All-head (λ x. watched_bits (names j caller) (watch_flag true) mask x ≡ 0) e es all)) (from (n + 1) es (All-tail (λ x. watched_bits (names j caller) (watch_flag true) mask x ≡ 0) e es all))
+      from n (e ∷ es) all =
+          rw (none n e (All-head (λ x. watched_bits (names j caller) (watch_flag true) mask x ≡ 0) e es all))
+          (from (n + 1) es (All-tail (λ x. watched_bits (names j caller) (watch_flag true) mask x ≡ 0) e es all))
 
 -- the first matching access control entry (ACE) of a granted bit is an ALLOW
 allowed : (place : ℕ) (m : FirstMatch) → verdict_on_bit place m ≡ verdicts.Granted → (index : ℕ) × (m ≡ AllowedBy index)
@@ -68,11 +75,13 @@ module _ (caller : Identity) where
   abbrev sum : Option Judged → Option Summary
   sum o = option_map (λ j. sum_of j caller) o
 
-  bits_granted : (o : Option Judged) (mask : ℕ) → mask < 2 ^ 32 → is_silent_grant (sum o) mask ≡ true → option_map_or (λ j. verdict (names j caller) j.list mask) o (verdicts.Missing 0) ≡ verdicts.Granted
+  bits_granted : (o : Option Judged) (mask : ℕ) → mask < 2 ^ 32 → is_silent_grant (sum o) mask ≡ true
+      → option_map_or (λ j. verdict (names j caller) j.list mask) o (verdicts.Missing 0) ≡ verdicts.Granted
   bits_granted None mask fits h = cc
   bits_granted (Some j) mask fits h = granted caller j mask fits (and_parts _ _ h).0
 
-  bits_silent : (o : Option Judged) (mask : ℕ) → mask < 2 ^ 32 → (op object : ℕ) → is_silent_grant (sum o) mask ≡ true → option_map_or (λ j. filter_map (watch_line caller op object mask true j) (enumerate_from 0 j.list)) o [] ≡ []
+  bits_silent : (o : Option Judged) (mask : ℕ) → mask < 2 ^ 32 → (op object : ℕ) → is_silent_grant (sum o) mask ≡ true
+      → option_map_or (λ j. filter_map (watch_line caller op object mask true j) (enumerate_from 0 j.list)) o [] ≡ []
   bits_silent None mask fits op object h = cc
   bits_silent (Some j) mask fits op object h = silent caller j mask fits op object (and_parts _ _ h).1
 
@@ -82,7 +91,8 @@ module _ (caller : Identity) where
 abbrev Allows : FirstMatch → FirstMatch → Type 0
 Allows m n = ((index : ℕ) × (m ≡ AllowedBy index)) ⊎ ((index : ℕ) × (n ≡ AllowedBy index))
 
-removal_granted : (parent target : ℕ) (m n : FirstMatch) (add : Verdict) → Allows m n → removal parent target m n add ≡ Granted
+removal_granted : (parent target : ℕ) (m n : FirstMatch) (add : Verdict) → Allows m n
+    → removal parent target m n add ≡ Granted
 removal_granted parent target m n add (inl h) = rw h.1 refl
 removal_granted parent target Unmatched n add (inr h) = rw h.1 refl
 removal_granted parent target (AllowedBy index) n add (inr h) = refl
@@ -102,23 +112,33 @@ module _ (caller : Identity) where
   abbrev first_match_in : Option Judged → ℕ → FirstMatch
   first_match_in o place = option_map_or (λ j. match_of (first_match (names j caller) j.list place)) o Unmatched
 
-  removal_allows : (t p : Option Judged) → is_silent_removal (sum caller t) (sum caller p) ≡ true → Allows (first_match_in t places.delete) (first_match_in p places.delete_child)
+  removal_allows : (t p : Option Judged) → is_silent_removal (sum caller t) (sum caller p) ≡ true
+      → Allows (first_match_in t places.delete) (first_match_in p places.delete_child)
   removal_allows None p h = cc
   removal_allows (Some t) None h = cc
   removal_allows (Some t) (Some p) h = elim (either _ _ (and_parts _ _ h).0) [
-    | inl d ↦ inl (allowed places.delete _ (sym (verdict-bit (names t caller) t.list places.delete (omega arith)) ∙ granted caller t DELETE (omega arith) d))
-    | inr d ↦ inr (allowed places.delete_child _ (sym (verdict-bit (names p caller) p.list places.delete_child (omega arith)) ∙ granted caller p DELETE_CHILD (omega arith) d))
+    | inl d ↦
+        inl (allowed places.delete _ (sym (verdict-bit (names t caller) t.list places.delete (omega arith))
+        ∙ granted caller t DELETE (omega arith) d))
+    | inr d ↦
+        inr (allowed places.delete_child _ (sym (verdict-bit (names p caller) p.list places.delete_child (omega arith))
+        ∙ granted caller p DELETE_CHILD (omega arith) d))
   ]
 
-  target_silent : (t p : Option Judged) (op object : ℕ) → is_silent_removal (sum caller t) (sum caller p) ≡ true → option_map_or (λ j. filter_map (watch_line caller op object DELETE true j) (enumerate_from 0 j.list)) t [] ≡ []
+  target_silent : (t p : Option Judged) (op object : ℕ) → is_silent_removal (sum caller t) (sum caller p) ≡ true
+      → option_map_or (λ j. filter_map (watch_line caller op object DELETE true j) (enumerate_from 0 j.list)) t [] ≡ []
   target_silent None p op object h = cc
   target_silent (Some t) None op object h = cc
-  target_silent (Some t) (Some p) op object h = silent caller t DELETE (omega arith) op object (and_parts _ _ (and_parts _ _ h).1).0
+  target_silent (Some t) (Some p) op object h =
+      silent caller t DELETE (omega arith) op object (and_parts _ _ (and_parts _ _ h).1).0
 
-  parent_silent : (t p : Option Judged) (op object : ℕ) → is_silent_removal (sum caller t) (sum caller p) ≡ true → option_map_or (λ j. filter_map (watch_line caller op object DELETE_CHILD true j) (enumerate_from 0 j.list)) p [] ≡ []
+  parent_silent : (t p : Option Judged) (op object : ℕ) → is_silent_removal (sum caller t) (sum caller p) ≡ true
+      → option_map_or (λ j. filter_map (watch_line caller op object DELETE_CHILD true j) (enumerate_from 0 j.list)) p []
+      ≡ []
   parent_silent None p op object h = cc
   parent_silent (Some t) None op object h = cc
-  parent_silent (Some t) (Some p) op object h = silent caller p DELETE_CHILD (omega arith) op object (and_parts _ _ (and_parts _ _ h).1).1
+  parent_silent (Some t) (Some p) op object h =
+      silent caller p DELETE_CHILD (omega arith) op object (and_parts _ _ (and_parts _ _ h).1).1
 
 -- ---- demands
 
@@ -128,20 +148,29 @@ Fits (Bits object mask) = mask < 2 ^ 32
 Fits (Removal parent target) = Unit {0}
 
 module _ (lists : Lists) (caller : Identity) (op : ℕ) where
-  pub grants_granted : (demand : Demand) → Fits demand → grants_silently lists caller demand ≡ true → decision lists caller demand ≡ Granted
+  pub grants_granted : (demand : Demand) → Fits demand → grants_silently lists caller demand ≡ true
+      → decision lists caller demand ≡ Granted
   grants_granted (Bits object mask) fits h = ap (answer object mask) (bits_granted caller (lists object) mask fits h)
-  grants_granted (Removal parent target) fits h = removal_granted parent target _ _ _ (removal_allows caller (lists target) (lists parent) h)
+  grants_granted (Removal parent target) fits h =
+      removal_granted parent target _ _ _ (removal_allows caller (lists target) (lists parent) h)
 
-  demand_silent : (demand : Demand) → Fits demand → grants_silently lists caller demand ≡ true → demand_lines lists caller op true demand ≡ []
+  demand_silent : (demand : Demand) → Fits demand → grants_silently lists caller demand ≡ true
+      → demand_lines lists caller op true demand ≡ []
   demand_silent (Bits object mask) fits h = bits_silent caller (lists object) mask fits op object h
   demand_silent (Removal parent target) fits h =
-      let mask : parent_mask (first_match_at lists caller target places.delete) (first_match_at lists caller parent places.delete_child) ≡ DELETE_CHILD = removal_mask _ _ (removal_allows caller (lists target) (lists parent) h) in
-      let t : watch_lines lists caller op true target DELETE ≡ [] = target_silent caller (lists target) (lists parent) op target h in
-      let p : watch_lines lists caller op true parent DELETE_CHILD ≡ [] = parent_silent caller (lists target) (lists parent) op parent h in
+      let mask : parent_mask (first_match_at lists caller target places.delete)
+      (first_match_at lists caller parent places.delete_child) ≡ DELETE_CHILD =
+      removal_mask _ _ (removal_allows caller (lists target) (lists parent) h) in
+      let t : watch_lines lists caller op true target DELETE ≡ [] =
+      target_silent caller (lists target) (lists parent) op target h in
+      let p : watch_lines lists caller op true parent DELETE_CHILD ≡ [] =
+      parent_silent caller (lists target) (lists parent) op parent h in
       λ i. t i ++ (ap (λ m. watch_lines lists caller op true parent m) mask ∙ p) i
 
   abbrev lines_of : Demand → Decision → List Line
   lines_of demand d = demand_lines lists caller op (is_granted d) demand ++ deny_lines caller op d
 
-  pub grants_silent : (demand : Demand) → Fits demand → grants_silently lists caller demand ≡ true → lines lists caller op demand ≡ []
-  grants_silent demand fits h = ap (lines_of demand) (grants_granted demand fits h) ∙ ap (λ ls. ls ++ []) (demand_silent demand fits h)
+  pub grants_silent : (demand : Demand) → Fits demand → grants_silently lists caller demand ≡ true
+      → lines lists caller op demand ≡ []
+  grants_silent demand fits h =
+      ap (lines_of demand) (grants_granted demand fits h) ∙ ap (λ ls. ls ++ []) (demand_silent demand fits h)

@@ -11,7 +11,9 @@ use Rattle.access_rows.specs.declared.demand.Demand.TheVariants.{Bits}
 use Rattle.access_rows.specs.declared.facts.Object.{Object}
 use Rattle.access_rows.specs.declared.facts.First.{First}
 use Rattle.access_rows.specs.declared.facts.Second.{Second}
-use Rattle.access_rows.specs.Rows.{Demands, lists_in, most_first, most_second, most_of_entry, bits, removal, row, opening, open_first, open_second, is_one, is_creating, rename_first, rename_second, first_demands, second_demands, entry_demands}
+use Rattle.access_rows.specs.Rows.{Demands, lists_in, most_first, most_second, most_of_entry, bits, removal, row}
+use Rattle.access_rows.specs.Rows.{opening, open_first, open_second, is_one, is_creating, rename_first, rename_second}
+use Rattle.access_rows.specs.Rows.{first_demands, second_demands, entry_demands}
 
 -- the number of ACLs for one demand
 abbrev lists_at : Option Demand → ℕ
@@ -44,7 +46,8 @@ adding_few : (b : Bool) (o : Option Object) (mask : ℕ) → lists_at (cond b (b
 adding_few true o mask = bits_few o mask
 adding_few false o mask = omega arith
 
-opening_few : (child : Option Object) (access : ℕ) (how : How) (facts : Second) → lists_at (opening child access how facts) ≤ 1
+opening_few : (child : Option Object) (access : ℕ) (how : How) (facts : Second)
+    → lists_at (opening child access how facts) ≤ 1
 opening_few None access how facts = adding_few (is_creating how) facts.current _
 opening_few (Some file) access how facts = bits_few (Some file) _
 
@@ -52,7 +55,8 @@ open_first_few : (claim : Claim) (current : Option Object) → lists_at (open_fi
 open_first_few (parts.ByName name) current = bits_few current _
 open_first_few parts.ByHandle current = omega arith
 
-open_second_few : (claim : Claim) (access : ℕ) (how : How) (facts : Second) → lists_at (open_second claim access how facts) ≤ 1
+open_second_few : (claim : Claim) (access : ℕ) (how : How) (facts : Second)
+    → lists_at (open_second claim access how facts) ≤ 1
 open_second_few (parts.ByName name) access how facts = opening_few facts.child access how facts
 open_second_few parts.ByHandle access how facts = bits_few facts.current _
 
@@ -85,7 +89,8 @@ first_few _ facts = omega arith
 three : (a b c : Option Demand) → lists_in (a ∷ b ∷ c ∷ []) ≡ lists_at a + (lists_at b + lists_at c)
 three a b c = omega (arith, more a (b ∷ c ∷ []), more b (c ∷ []))
 
-second_at_most : (a b c : Option Demand) → lists_at a ≤ 2 → lists_at b ≤ 1 → lists_at c ≤ 2 → lists_in (a ∷ b ∷ c ∷ []) ≤ 5
+second_at_most : (a b c : Option Demand) → lists_at a ≤ 2 → lists_at b ≤ 1 → lists_at c ≤ 2
+    → lists_in (a ∷ b ∷ c ∷ []) ≤ 5
 second_at_most a b c ha hb hc = omega (arith, three a b c, ha, hb, hc)
 
 wider : (n : ℕ) → n ≤ 1 → n ≤ 2
@@ -96,9 +101,14 @@ none_few n = omega arith
 
 pub second_few : (op : Operation) (facts : Second) → lists_in (second_demands op facts) ≤ most_second
 second_few (Known kinds.Open v) facts =
-    second_at_most (open_second (claim_of v) (open_access v) (how_of v) facts) None None (wider _ (open_second_few (claim_of v) (open_access v) (how_of v) facts)) (none_few 1) (none_few 2)
-second_few (Known kinds.Remove v) facts = second_at_most (removal facts.current facts.child) None None (removal_few facts.current facts.child) (none_few 1) (none_few 2)
-second_few (Known kinds.Rename v) facts = second_at_most _ _ _ (removal_few facts.saved facts.child) (bits_few facts.current _) (removal_few facts.current facts.replaced)
+    second_at_most (open_second (claim_of v) (open_access v) (how_of v) facts) None None
+    (wider _ (open_second_few (claim_of v) (open_access v) (how_of v) facts)) (none_few 1) (none_few 2)
+second_few (Known kinds.Remove v) facts =
+    second_at_most (removal facts.current facts.child) None None (removal_few facts.current facts.child) (none_few 1)
+    (none_few 2)
+second_few (Known kinds.Rename v) facts =
+    second_at_most _ _ _ (removal_few facts.saved facts.child) (bits_few facts.current _)
+    (removal_few facts.current facts.replaced)
 second_few _ facts = omega arith
 
 pub entry_few : (set : List ℕ) (entry : Option Object) → lists_in (entry_demands set entry) ≤ most_of_entry

@@ -1,7 +1,9 @@
 -- The bits of the results of the mask operations.
-use Rattle.std.proofs.Common.{◌≡◌, ◌≢◌, ℕ, ◌-◌, ◌*◌, ◌^◌, ◌<◌, ◌≤◌, ◌∙◌, Bool, true, false, not, ◌&&◌, ◌||◌, nat_eq, bit_and, bit_or, min, max, ap, sym, arith, w32, inl, inr, ◌⊎◌}
+use Rattle.std.proofs.Common.{◌≡◌, ◌≢◌, ℕ, ◌-◌, ◌*◌, ◌^◌, ◌<◌, ◌≤◌, ◌∙◌, Bool, true, false, not, ◌&&◌, ◌||◌, nat_eq}
+use Rattle.std.proofs.Common.{bit_and, bit_or, min, max, ap, sym, arith, w32, inl, inr, ◌⊎◌}
 use Rattle.std.specs.Int.{bit_at, bit_not, trailing_zeros}
-use Rattle.std.proofs.lemmas.Nat.Bits.{bit_at_and, bit_at_or, bit_at_not, bit_at-lt, bit_at-zero, bit_at_above, and_pow, same_from_bits, bit_at-pow_same, bit_at-pow_other, bit_at-trailing_zeros}
+use Rattle.std.proofs.lemmas.Nat.Bits.{bit_at_and, bit_at_or, bit_at_not, bit_at-lt, bit_at-zero, bit_at_above, and_pow}
+use Rattle.std.proofs.lemmas.Nat.Bits.{same_from_bits, bit_at-pow_same, bit_at-pow_other, bit_at-trailing_zeros}
 use Rattle.std.proofs.lemmas.Nat.{pow_pos}
 use Rattle.std.proofs.lemmas.Bool.{eq-eqb, ne_eqb, cases_lt, cases_eq, and_left}
 use Rattle.std.proofs.lemmas.Bool.Decides.{nat_tests}
@@ -39,7 +41,8 @@ unfolding has_bit
 has_bit-not n i h k = not_test (bit_at n i) _ (bit_at-lt n i) (bit_at_not w32 n i h k)
 
 -- the bits of `a & !b`
-pub has_bit-without : (a b i : ℕ) → a < 2 ^ 32 → b < 2 ^ 32 → has_bit (bit_and a (bit_not w32 b)) i ≡ has_bit a i && not (has_bit b i)
+pub has_bit-without : (a b i : ℕ) → a < 2 ^ 32 → b < 2 ^ 32
+    → has_bit (bit_and a (bit_not w32 b)) i ≡ has_bit a i && not (has_bit b i)
 has_bit-without a b i h k = go (cases_lt i 32)
   where
     go : (i < 32) ⊎ (32 ≤ i) → has_bit (bit_and a (bit_not w32 b)) i ≡ has_bit a i && not (has_bit b i)
@@ -60,7 +63,8 @@ digit_from_test x y p q e = grind (arith, nat_tests)
 -- two masks with the same bits are equal
 pub same_masks : (a b : ℕ) → ((i : ℕ) → has_bit a i ≡ has_bit b i) → a ≡ b
 unfolding has_bit
-same_masks a b h = same_from_bits a b (λ i. digit_from_test (bit_at a i) (bit_at b i) (bit_at-lt a i) (bit_at-lt b i) (h i))
+same_masks a b h =
+    same_from_bits a b (λ i. digit_from_test (bit_at a i) (bit_at b i) (bit_at-lt a i) (bit_at-lt b i) (h i))
 
 -- the bits of a mask of one bit
 pub has_bit-pow_same : (k : ℕ) → has_bit (2 ^ k) k ≡ true
@@ -73,7 +77,9 @@ has_bit-pow_other k i h = rw (bit_at-pow_other k i h)
 
 -- the only bit of a mask of one bit
 pub only_bit : (k i : ℕ) → has_bit (2 ^ k) i ≡ true → i ≡ k
-only_bit k i h = elim (cases_eq i k) [ inl same ↦ same | inr apart ↦ (let e : has_bit (2 ^ k) i ≡ false = has_bit-pow_other k i apart in absurd (cc)) ]
+only_bit k i h =
+    elim (cases_eq i k) [ inl same ↦ same | inr apart ↦
+    (let e : has_bit (2 ^ k) i ≡ false = has_bit-pow_other k i apart in absurd (cc)) ]
 
 times_test : (x p : ℕ) → x < 2 → 0 < p → nat_eq (x * p) 0 ≡ not (nat_eq x 1)
 times_test x p h k = grind (arith, nat_tests)
@@ -108,16 +114,21 @@ pub failed_bit : (flags : ℕ) → has_bit flags 5 ≡ not (nat_eq (bit_and flag
 failed_bit flags = bit_by_test flags 5
 
 -- the test of a flag is the test of its bit
-pub ruleset flag_bits = (file_inherit_bit, directory_inherit_bit, no_propagate_bit, inherit_only_bit, successful_bit, failed_bit)
+pub ruleset flag_bits =
+    (file_inherit_bit, directory_inherit_bit, no_propagate_bit, inherit_only_bit, successful_bit, failed_bit)
 
 -- the bits of a mask under a flag
-pub none_under : (flags mask flag place bit : ℕ) → flag ≡ 2 ^ place → bit_and flags flag ≡ 0 → has_bit 0 bit ≡ has_bit flags place && has_bit mask bit
+pub none_under : (flags mask flag place bit : ℕ) → flag ≡ 2 ^ place → bit_and flags flag ≡ 0
+    → has_bit 0 bit ≡ has_bit flags place && has_bit mask bit
 none_under flags mask flag place bit e h =
-    has_bit-zero bit ∙ sym (and_left (has_bit flags place) (has_bit mask bit) (bit_by_test flags place ∙ ap (λ f. not (nat_eq (bit_and flags f) 0)) (sym e) ∙ ap not (eq-eqb _ 0 h)))
+    has_bit-zero bit ∙ sym (and_left (has_bit flags place) (has_bit mask bit)
+    (bit_by_test flags place ∙ ap (λ f. not (nat_eq (bit_and flags f) 0)) (sym e) ∙ ap not (eq-eqb _ 0 h)))
 
-pub all_under : (flags mask flag place bit : ℕ) → flag ≡ 2 ^ place → bit_and flags flag ≢ 0 → has_bit mask bit ≡ has_bit flags place && has_bit mask bit
+pub all_under : (flags mask flag place bit : ℕ) → flag ≡ 2 ^ place → bit_and flags flag ≢ 0
+    → has_bit mask bit ≡ has_bit flags place && has_bit mask bit
 all_under flags mask flag place bit e h =
-    sym (ap (λ b. b && has_bit mask bit) (bit_by_test flags place ∙ ap (λ f. not (nat_eq (bit_and flags f) 0)) (sym e) ∙ ap not (ne_eqb _ 0 h)))
+    sym (ap (λ b. b && has_bit mask bit) (bit_by_test flags place ∙ ap (λ f. not (nat_eq (bit_and flags f) 0)) (sym e)
+    ∙ ap not (ne_eqb _ 0 h)))
 
 -- the lowest bit of a mask that is not 0
 pub has_bit-lowest : (n : ℕ) → n ≢ 0 → n < 2 ^ 32 → has_bit n (trailing_zeros w32 n) ≡ true

@@ -1,5 +1,6 @@
 -- A mask is granted if and only if the bits that a summary grants cover it.
-use Rattle.std.proofs.Common.{◌≡◌, ◌↔◌, ℕ, ◌^◌, ◌<◌, ◌≤◌, ◌∙◌, Bool, true, false, ◌&&◌, List, Option, Some, None, bit_and, refl, ap, sym, subst, inl, inr, ◌⊎◌}
+use Rattle.std.proofs.Common.{◌≡◌, ◌↔◌, ℕ, ◌^◌, ◌<◌, ◌≤◌, ◌∙◌, Bool, true, false, ◌&&◌, List, Option, Some, None}
+use Rattle.std.proofs.Common.{bit_and, refl, ap, sym, subst, inl, inr, ◌⊎◌}
 use Rattle.std.proofs.lemmas.Bool.{and_parts, cases_lt}
 use Rattle.acl_list.specs.Mask.{has_bit}
 use Rattle.acl_list.specs.Deciding.{first_match, is_allow, is_allowed, allows}
@@ -47,16 +48,20 @@ module _ (names : Who → Bool) (entries : List Entry) (mask : ℕ) (fits : mask
       each bit h =
           let both : (has_bit mask bit ≡ true) × (has_bit (granted_mask names entries) bit ≡ true)
           = and_parts _ _ (sym (has_bit-and mask (granted_mask names entries) bit) ∙ ap (λ m. has_bit m bit) covers ∙ h) in
-          allows_from_test (first_match names entries bit) (sym (mask_of-bits (allows names entries) bit (below bit h)) ∙ both.1)
+          allows_from_test (first_match names entries bit)
+          (sym (mask_of-bits (allows names entries) bit (below bit h)) ∙ both.1)
 
   cover_from_granted : verdict names entries mask ≡ Granted → bit_and mask (granted_mask names entries) ≡ mask
-  cover_from_granted is = same_masks _ _ (λ bit. has_bit-and mask (granted_mask names entries) bit ∙ and_same _ _ (granted bit))
+  cover_from_granted is =
+      same_masks _ _ (λ bit. has_bit-and mask (granted_mask names entries) bit ∙ and_same _ _ (granted bit))
     where
       each : IsVerdict names entries mask Granted
       each = subst (IsVerdict names entries mask) is (verdict_fits names entries mask fits)
 
       granted : (bit : ℕ) → has_bit mask bit ≡ true → has_bit (granted_mask names entries) bit ≡ true
-      granted bit h = mask_of-bits (allows names entries) bit (below bit h) ∙ test_from_allows (first_match names entries bit) (each bit h)
+      granted bit h =
+          mask_of-bits (allows names entries) bit (below bit h)
+          ∙ test_from_allows (first_match names entries bit) (each bit h)
 
   pub granted_iff_covered : (verdict names entries mask ≡ Granted) ↔ (bit_and mask (granted_mask names entries) ≡ mask)
   granted_iff_covered = (cover_from_granted, granted_from_cover)

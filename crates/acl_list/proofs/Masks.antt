@@ -1,5 +1,6 @@
 -- The mask of the bits that pass a test.
-use Rattle.std.proofs.Common.{◌≡◌, ℕ, zero, suc, ◌+◌, ◌*◌, ◌/◌, ◌%◌, ◌^◌, ◌<◌, ◌≤◌, ◌∙◌, Bool, true, false, cond, List, ◌∷◌, ap, sym, arith, inl, inr, ◌⊎◌, nat_eq, sum_by}
+use Rattle.std.proofs.Common.{◌≡◌, ℕ, zero, suc, ◌+◌, ◌*◌, ◌/◌, ◌%◌, ◌^◌, ◌<◌, ◌≤◌, ◌∙◌, Bool, true, false, cond, List}
+use Rattle.std.proofs.Common.{◌∷◌, ap, sym, arith, inl, inr, ◌⊎◌, nat_eq, sum_by}
 use Rattle.std.specs.Prelude.{filter}
 use Rattle.std.specs.Int.{bit_at}
 use Rattle.std.specs.List.{range_with_len}
@@ -23,15 +24,24 @@ mask_from (suc n) a test = cond (test a) 1 0 + 2 * mask_from n (a + 1) test
 sum_step : (p q s m d : ℕ) → q ≡ p * 2 → s ≡ q * m → p * d + s ≡ p * (d + 2 * m)
 sum_step p q s m d h k = ap (λ x. p * d + x) (k ∙ ap (λ x. x * m) h ∙ mul_assoc p 2 m) ∙ sym (mul-add p d (2 * m))
 
-sum_is : (n a : ℕ) (test : ℕ → Bool) → sum_by (λ place. 2 ^ place) (filter test (range_with_len a n)) ≡ 2 ^ a * mask_from n a test
+sum_is : (n a : ℕ) (test : ℕ → Bool) → sum_by (λ place. 2 ^ place) (filter test (range_with_len a n))
+    ≡ 2 ^ a * mask_from n a test
 unfolding mask_from
 sum_is zero a test = omega arith
-sum_is (suc n) a test = go (test a) (sum_step (2 ^ a) (2 ^ (a + 1)) _ (mask_from n (a + 1) test) (cond (test a) 1 0) (pow-add 2 a 1) (sum_is n (a + 1) test))
+sum_is (suc n) a test =
+    go (test a) (sum_step (2 ^ a) (2 ^ (a + 1)) _ (mask_from n (a + 1) test) (cond (test a) 1 0) (pow-add 2 a 1)
+    (sum_is n (a + 1) test))
   where
-    go : (b : Bool) → 2 ^ a * cond b 1 0 + sum_by (λ place. 2 ^ place) (filter test (range_with_len (a + 1) n)) ≡ 2 ^ a * (cond b 1 0 + 2 * mask_from n (a + 1) test)
-        → sum_by (λ place. 2 ^ place) (cond b (a ∷ filter test (range_with_len (a + 1) n)) (filter test (range_with_len (a + 1) n))) ≡ 2 ^ a * (cond b 1 0 + 2 * mask_from n (a + 1) test)
-    go true e = sum_by-cons (λ place. 2 ^ place) a (filter test (range_with_len (a + 1) n)) ∙ ap (λ x. x + sum_by (λ place. 2 ^ place) (filter test (range_with_len (a + 1) n))) (sym (mul-one (2 ^ a))) ∙ e
-    go false e = let none : 2 ^ a * 0 + sum_by (λ place. 2 ^ place) (filter test (range_with_len (a + 1) n)) ≡ sum_by (λ place. 2 ^ place) (filter test (range_with_len (a + 1) n)) = omega arith in sym none ∙ e
+    go : (b : Bool) → 2 ^ a * cond b 1 0 + sum_by (λ place. 2 ^ place) (filter test (range_with_len (a + 1) n))
+        ≡ 2 ^ a * (cond b 1 0 + 2 * mask_from n (a + 1) test)
+        → sum_by (λ place. 2 ^ place) (cond b (a ∷ filter test (range_with_len (a + 1) n))
+        (filter test (range_with_len (a + 1) n))) ≡ 2 ^ a * (cond b 1 0 + 2 * mask_from n (a + 1) test)
+    go true e =
+        sum_by-cons (λ place. 2 ^ place) a (filter test (range_with_len (a + 1) n))
+        ∙ ap (λ x. x + sum_by (λ place. 2 ^ place) (filter test (range_with_len (a + 1) n))) (sym (mul-one (2 ^ a))) ∙ e
+    go false e =
+        let none : 2 ^ a * 0 + sum_by (λ place. 2 ^ place) (filter test (range_with_len (a + 1) n))
+        ≡ sum_by (λ place. 2 ^ place) (filter test (range_with_len (a + 1) n)) = omega arith in sym none ∙ e
 
 digit-lt : (b : Bool) → cond b 1 0 < 2
 digit-lt true = omega arith
@@ -43,7 +53,8 @@ double_fits n m d h k = let e : 2 ^ (n + 1) ≡ 2 ^ n * 2 = pow-add 2 n 1 in ome
 mask_from-lt : (n a : ℕ) (test : ℕ → Bool) → mask_from n a test < 2 ^ n
 unfolding mask_from
 mask_from-lt zero a test = omega arith
-mask_from-lt (suc n) a test = double_fits n (mask_from n (a + 1) test) (cond (test a) 1 0) (mask_from-lt n (a + 1) test) (digit-lt (test a))
+mask_from-lt (suc n) a test =
+    double_fits n (mask_from n (a + 1) test) (cond (test a) 1 0) (mask_from-lt n (a + 1) test) (digit-lt (test a))
 
 lowest_digit : (b : Bool) (m : ℕ) → nat_eq ((cond b 1 0 + 2 * m) % 2) 1 ≡ b
 lowest_digit true m = let e : (1 + 2 * m) % 2 ≡ 1 = omega arith in rw e
@@ -58,14 +69,16 @@ half d m h = omega arith
 
 has_bit-later : (b : Bool) (m i : ℕ) → has_bit (cond b 1 0 + 2 * m) (suc i) ≡ has_bit m i
 unfolding has_bit
-has_bit-later b m i = ap (λ x. nat_eq x 1) (bit_at-suc (cond b 1 0 + 2 * m) i ∙ ap (λ x. bit_at x i) (half (cond b 1 0) m (digit-lt b)))
+has_bit-later b m i =
+    ap (λ x. nat_eq x 1) (bit_at-suc (cond b 1 0 + 2 * m) i ∙ ap (λ x. bit_at x i) (half (cond b 1 0) m (digit-lt b)))
 
 has_bit-mask_from : (n a : ℕ) (test : ℕ → Bool) (i : ℕ) → i < n → has_bit (mask_from n a test) i ≡ test (a + i)
 unfolding mask_from
 has_bit-mask_from zero a test i h = absurd (omega arith)
 has_bit-mask_from (suc n) a test zero h = has_bit-first (test a) (mask_from n (a + 1) test) ∙ ap test (omega arith)
 has_bit-mask_from (suc n) a test (suc i) h =
-    has_bit-later (test a) (mask_from n (a + 1) test) i ∙ has_bit-mask_from n (a + 1) test i (omega arith) ∙ ap test (omega arith)
+    has_bit-later (test a) (mask_from n (a + 1) test) i ∙ has_bit-mask_from n (a + 1) test i (omega arith)
+    ∙ ap test (omega arith)
 
 mask_of-is : (test : ℕ → Bool) → mask_of test ≡ mask_from 32 0 test
 unfolding mask_of
@@ -75,7 +88,8 @@ pub mask_of-lt : (test : ℕ → Bool) → mask_of test < 2 ^ 32
 mask_of-lt test = rw (mask_of-is test) (mask_from-lt 32 0 test)
 
 pub mask_of-bits : (test : ℕ → Bool) → BitsAre (mask_of test) test
-mask_of-bits test bit h = ap (λ m. has_bit m bit) (mask_of-is test) ∙ has_bit-mask_from 32 0 test bit h ∙ ap test (omega arith)
+mask_of-bits test bit h =
+    ap (λ m. has_bit m bit) (mask_of-is test) ∙ has_bit-mask_from 32 0 test bit h ∙ ap test (omega arith)
 
 -- a mask of 32 bits is the mask of the bits that pass, if these are its bits
 pub mask_of_bits : (mask : ℕ) (test : ℕ → Bool) → mask < 2 ^ 32 → BitsAre mask test → mask ≡ mask_of test
@@ -92,7 +106,9 @@ same_summary s t p q r =
     ∙ ap (λ n. record { granted = t.granted; watch_ok = t.watch_ok; watch_fail = n }) r
 
 -- a summary with the right bits is the summary
-pub summary_is : (names : Who → Bool) (entries : List Entry) (s : Summary) → s.granted < 2 ^ 32 → s.watch_ok < 2 ^ 32 → s.watch_fail < 2 ^ 32 → IsSummary names entries s
+pub summary_is : (names : Who → Bool) (entries : List Entry) (s : Summary) → s.granted < 2 ^ 32 → s.watch_ok < 2 ^ 32
+    → s.watch_fail < 2 ^ 32 → IsSummary names entries s
     → s ≡ summary names entries
 summary_is names entries s p q r is =
-    same_summary s (summary names entries) (mask_of_bits s.granted _ p is.granted) (mask_of_bits s.watch_ok _ q is.watch_ok) (mask_of_bits s.watch_fail _ r is.watch_fail)
+    same_summary s (summary names entries) (mask_of_bits s.granted _ p is.granted)
+    (mask_of_bits s.watch_ok _ q is.watch_ok) (mask_of_bits s.watch_fail _ r is.watch_fail)

@@ -30,7 +30,8 @@ module _ (names : Who → Bool) (entries : List Entry) (place : ℕ) (fits : pla
   of_bit : (P : ℕ → Type 0) → P place → (bit : ℕ) → has_bit (2 ^ place) bit ≡ true → P bit
   of_bit P h bit k = subst P (sym (only_bit place bit k)) h
 
-  on_found : (found : Option (ℕ × Entry)) → first_match names entries place ≡ found → IsVerdict names entries (2 ^ place) (verdict_on_bit place (match_of found))
+  on_found : (found : Option (ℕ × Entry)) → first_match names entries place ≡ found
+      → IsVerdict names entries (2 ^ place) (verdict_on_bit place (match_of found))
   on_found None is = (
     λ other d. subst (λ f. DeniesAt f other) (ap (first_match names entries) (only_bit place d.0 d.1) ∙ is) d.2,
     (place, refl, (has_bit-pow_same place, is), λ other u. omega (arith, only_bit place other u.0)),
@@ -38,11 +39,17 @@ module _ (names : Who → Bool) (entries : List Entry) (place : ℕ) (fits : pla
   on_found (Some p) is = go (decides p (found_allows_or_denies names place 0 entries p is))
     where
       go : Decides p → IsVerdict names entries (2 ^ place) (verdict_on_bit place (match_of (Some p)))
-      go (by_allow allow) = rw allow (of_bit (λ bit. Allows (first_match names entries bit)) (subst Allows (sym is) allow))
+      go (by_allow allow) =
+          rw allow (of_bit (λ bit. Allows (first_match names entries bit)) (subst Allows (sym is) allow))
       go (by_deny deny) = rw deny (
         (place, has_bit-pow_same place, subst (λ f. DeniesAt f p.0) (sym is) (refl, deny)),
-        λ other d. let at : DeniesAt (Some p) other = subst (λ f. DeniesAt f other) (ap (first_match names entries) (only_bit place d.0 d.1) ∙ is) d.2 in omega (arith, at.0),
+        λ other d. let at : DeniesAt (Some p) other =
+        subst (λ f. DeniesAt f other) (ap (first_match names entries) (only_bit place d.0 d.1) ∙ is) d.2 in
+        omega (arith, at.0),
       )
 
-  pub verdict-bit : verdict names entries (2 ^ place) ≡ verdict_on_bit place (match_of (first_match names entries place))
-  verdict-bit = sym (verdict_is names entries (2 ^ place) (pow_below place 32 fits) _ (on_found (first_match names entries place) refl))
+  pub verdict-bit : verdict names entries (2 ^ place)
+      ≡ verdict_on_bit place (match_of (first_match names entries place))
+  verdict-bit =
+      sym (verdict_is names entries (2 ^ place) (pow_below place 32 fits) _
+      (on_found (first_match names entries place) refl))

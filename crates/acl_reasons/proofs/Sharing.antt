@@ -1,5 +1,6 @@
 -- The bits of a mask that pass a test, place by place.
-use Rattle.std.proofs.Common.{◌≡◌, ℕ, ◌+◌, ◌*◌, ◌^◌, ◌%◌, ◌<◌, ◌∙◌, Bool, true, false, ◌&&◌, ◌||◌, nat_eq, bit_or, ap, sym, arith, inl, inr, ◌⊎◌}
+use Rattle.std.proofs.Common.{◌≡◌, ℕ, ◌+◌, ◌*◌, ◌^◌, ◌%◌, ◌<◌, ◌∙◌, Bool, true, false, ◌&&◌, ◌||◌, nat_eq, bit_or, ap}
+use Rattle.std.proofs.Common.{sym, arith, inl, inr, ◌⊎◌}
 use Rattle.std.specs.Prelude.{nat_lt}
 use Rattle.std.proofs.lemmas.Bool.{eq-eqb, ne_eqb, lt-ltb, le-ltb, and_left, cases_eq, cases_lt}
 use Rattle.std.proofs.lemmas.Nat.{one_shl}
@@ -13,9 +14,11 @@ one_bit place bit = elim (cases_eq bit place) [
 ]
 
 -- the bits of `mask | 1 << place`
-pub with_one : (mask place bit : ℕ) → place < 32 → has_bit (bit_or mask (1 * 2 ^ place % 2 ^ 32)) bit ≡ has_bit mask bit || nat_eq bit place
+pub with_one : (mask place bit : ℕ) → place < 32
+    → has_bit (bit_or mask (1 * 2 ^ place % 2 ^ 32)) bit ≡ has_bit mask bit || nat_eq bit place
 with_one mask place bit h =
-    ap (λ n. has_bit (bit_or mask n) bit) (one_shl place 32 h) ∙ has_bit-or mask (2 ^ place) bit ∙ ap (λ b. has_bit mask bit || b) (one_bit place bit)
+    ap (λ n. has_bit (bit_or mask n) bit) (one_shl place 32 h) ∙ has_bit-or mask (2 ^ place) bit
+    ∙ ap (λ b. has_bit mask bit || b) (one_bit place bit)
 
 pub without_one : (mask place bit : ℕ) → has_bit mask bit ≡ has_bit mask bit || (false && nat_eq bit place)
 without_one mask place bit = or_false (has_bit mask bit)
@@ -45,9 +48,14 @@ later bit place apart = elim (cases_lt bit place) [
 pub below_next : (mask : ℕ) (test : ℕ → Bool) (place next : ℕ) (b : Bool) → Below mask test place → b ≡ test place
     → ((bit : ℕ) → has_bit next bit ≡ has_bit mask bit || (b && nat_eq bit place)) → Below next test (place + 1)
 below_next mask test place next b so_far is step bit = step bit ∙ elim (cases_eq bit place) [
-  | inl same ↦ at_place (has_bit mask bit) (nat_lt bit place) (test bit) b (nat_eq bit place) (nat_lt bit (place + 1)) (so_far bit)
-      (le-ltb bit place (omega arith)) (eq-eqb bit place same) (lt-ltb bit (place + 1) (omega arith)) (is ∙ ap test (sym same))
-  | inr apart ↦ elsewhere (has_bit mask bit) (nat_lt bit place) (test bit) b (nat_eq bit place) (nat_lt bit (place + 1)) (so_far bit)
+  | inl same ↦
+      at_place (has_bit mask bit) (nat_lt bit place) (test bit) b (nat_eq bit place) (nat_lt bit (place + 1))
+      (so_far bit)
+      (le-ltb bit place (omega arith)) (eq-eqb bit place same) (lt-ltb bit (place + 1) (omega arith))
+      (is ∙ ap test (sym same))
+  | inr apart ↦
+      elsewhere (has_bit mask bit) (nat_lt bit place) (test bit) b (nat_eq bit place) (nat_lt bit (place + 1))
+      (so_far bit)
       (ne_eqb bit place apart) (later bit place apart)
 ]
 

@@ -1,5 +1,7 @@
 -- The length of access control lists (ACLs) by their parts, and the reading of a part.
-use Rattle.std.proofs.Common.{◌≡◌, ◌∙◌, ℕ, ◌+◌, ◌-◌, ◌<◌, ◌≤◌, Bool, true, false, not, ◌&&◌, ◌||◌, cond, length, List, [], ◌∷◌, ◌++◌, Option, Some, None, unwrap_or, refl, ap, sym, arith, append-nil, length-append}
+use Rattle.std.proofs.Common.{◌≡◌, ◌∙◌, ℕ, ◌+◌, ◌-◌, ◌<◌, ◌≤◌, Bool, true, false, not, ◌&&◌, ◌||◌, cond, length, List}
+use Rattle.std.proofs.Common.{[], ◌∷◌, ◌++◌, Option, Some, None, unwrap_or, refl, ap, sym, arith, append-nil}
+use Rattle.std.proofs.Common.{length-append}
 use Rattle.std.specs.Prelude.{filter, count_by, nat_le}
 use Rattle.std.specs.List.{cons_option, filter_map, list_all}
 use Rattle.std.proofs.lemmas.Bool.{and_parts, leb-true}
@@ -22,11 +24,13 @@ passed_again : {X : Type 0} (p : X → Bool) (xs : List X) → filter p (filter 
 passed_again p [] = refl
 passed_again p (x ∷ xs) = go (p x) refl (passed_again p xs)
   where
-    go : (b : Bool) → p x ≡ b → filter p (filter p xs) ≡ filter p xs → filter p (cond b (x ∷ filter p xs) (filter p xs)) ≡ cond b (x ∷ filter p xs) (filter p xs)
+    go : (b : Bool) → p x ≡ b → filter p (filter p xs) ≡ filter p xs
+        → filter p (cond b (x ∷ filter p xs) (filter p xs)) ≡ cond b (x ∷ filter p xs) (filter p xs)
     go true e more = rw e (ap (λ ys. x ∷ ys) more)
     go false e more = more
 
-none_passed : {X : Type 0} (p q : X → Bool) → ((x : X) → q x ≡ true → p x ≡ false) → (xs : List X) → filter p (filter q xs) ≡ []
+none_passed : {X : Type 0} (p q : X → Bool) → ((x : X) → q x ≡ true → p x ≡ false) → (xs : List X)
+    → filter p (filter q xs) ≡ []
 none_passed p q h [] = refl
 none_passed p q h (x ∷ xs) = go (q x) refl (none_passed p q h xs)
   where
@@ -42,21 +46,25 @@ unturned : (b : Bool) → b ≡ true → not b ≡ false
 unturned true h = refl
 unturned false h = absurd (cc)
 
-pub dacl-combined : (entries : List Entry) (dacl sacl : Option (List Entry)) → part_of Dacl (combined entries dacl sacl) ≡ part_of Dacl (unwrap_or dacl entries)
+pub dacl-combined : (entries : List Entry) (dacl sacl : Option (List Entry))
+    → part_of Dacl (combined entries dacl sacl) ≡ part_of Dacl (unwrap_or dacl entries)
 dacl-combined entries dacl sacl =
     let xs = unwrap_or dacl entries in
     let ys = unwrap_or sacl entries in
     filter-append (is_of Dacl) (part_of Dacl xs) (part_of Sacl ys)
     ∙ ap (λ (es : List Entry). es ++ part_of Dacl (part_of Sacl ys)) (passed_again (is_of Dacl) xs)
-    ∙ ap (λ (es : List Entry). part_of Dacl xs ++ es) (none_passed (is_of Dacl) (is_of Sacl) (λ e. turned (is_of Dacl e)) ys)
+    ∙ ap (λ (es : List Entry). part_of Dacl xs ++ es)
+    (none_passed (is_of Dacl) (is_of Sacl) (λ e. turned (is_of Dacl e)) ys)
     ∙ append-nil (part_of Dacl xs)
 
-pub sacl-combined : (entries : List Entry) (dacl sacl : Option (List Entry)) → part_of Sacl (combined entries dacl sacl) ≡ part_of Sacl (unwrap_or sacl entries)
+pub sacl-combined : (entries : List Entry) (dacl sacl : Option (List Entry))
+    → part_of Sacl (combined entries dacl sacl) ≡ part_of Sacl (unwrap_or sacl entries)
 sacl-combined entries dacl sacl =
     let xs = unwrap_or dacl entries in
     let ys = unwrap_or sacl entries in
     filter-append (is_of Sacl) (part_of Dacl xs) (part_of Sacl ys)
-    ∙ ap (λ (es : List Entry). es ++ part_of Sacl (part_of Sacl ys)) (none_passed (is_of Sacl) (is_of Dacl) (λ e. unturned (is_of Dacl e)) xs)
+    ∙ ap (λ (es : List Entry). es ++ part_of Sacl (part_of Sacl ys))
+    (none_passed (is_of Sacl) (is_of Dacl) (λ e. unturned (is_of Dacl e)) xs)
     ∙ passed_again (is_of Sacl) ys
 
 -- ---- the bounds
@@ -68,7 +76,9 @@ IsBounded-fits entries h =
 
 pub IsBounded-sorted : (entries : List Entry) → IsBounded entries → IsBounded (combined entries None None)
 IsBounded-sorted entries h = record {
-  all = omega (arith, length-append (part_of Dacl entries) (part_of Sacl entries), length-filter_both (is_of Dacl) (is_of Sacl) (λ e. refl) entries, h.all);
+  all =
+      omega (arith, length-append (part_of Dacl entries) (part_of Sacl entries),
+      length-filter_both (is_of Dacl) (is_of Sacl) (λ e. refl) entries, h.all);
   kept = omega (
     arith,
     sum_by-append (λ e. cond (keeps e) 1 0) (part_of Dacl entries) (part_of Sacl entries),
@@ -77,7 +87,8 @@ IsBounded-sorted entries h = record {
   );
 }
 
-pub IsBounded-parts : (entries : List Entry) (dacl sacl : Option (List Entry)) → IsBounded entries → parts_fit entries dacl sacl ≡ true → IsBounded (with_parts entries dacl sacl)
+pub IsBounded-parts : (entries : List Entry) (dacl sacl : Option (List Entry)) → IsBounded entries
+    → parts_fit entries dacl sacl ≡ true → IsBounded (with_parts entries dacl sacl)
 IsBounded-parts entries None None h k = h
 IsBounded-parts entries (Some dacl) sacl h k = IsBounded-fits (combined entries (Some dacl) sacl) k
 IsBounded-parts entries None (Some sacl) h k = IsBounded-fits (combined entries None (Some sacl)) k
@@ -86,7 +97,8 @@ IsBounded-parts entries None (Some sacl) h k = IsBounded-fits (combined entries 
 
 count_of_passed : {X : Type 0} (p q : X → Bool) (xs : List X) → count_by q (filter p xs) ≡ count_by (λ x. p x && q x) xs
 count_of_passed p q [] = refl
-count_of_passed p q (x ∷ xs) = go (p x) refl (count_of_passed p q xs) ∙ sym (sum_by-cons (λ x. cond (p x && q x) 1 0) x xs)
+count_of_passed p q (x ∷ xs) =
+    go (p x) refl (count_of_passed p q xs) ∙ sym (sum_by-cons (λ x. cond (p x && q x) 1 0) x xs)
   where
     go : (b : Bool) → p x ≡ b → count_by q (filter p xs) ≡ count_by (λ x. p x && q x) xs
         → count_by q (cond b (x ∷ filter p xs) (filter p xs)) ≡ cond (p x && q x) 1 0 + count_by (λ x. p x && q x) xs
@@ -109,13 +121,15 @@ all_watching_kept e = go (not (allows_or_denies e.kind)) _ _ _ _
 
 -- the bounds of two parts, by the number of ACEs in each and the number of them that a new mode keeps
 pub fits_by_counts : (xs ys : List Entry) → fits (part_of Dacl xs ++ part_of Sacl ys)
-    ≡ nat_le (count_by (is_of Dacl) xs + count_by (is_of Sacl) ys) 64 && nat_le (count_by (λ e. is_of Dacl e && keeps e) xs + count_by (is_of Sacl) ys) 59
+    ≡ nat_le (count_by (is_of Dacl) xs + count_by (is_of Sacl) ys) 64
+    && nat_le (count_by (λ e. is_of Dacl e && keeps e) xs + count_by (is_of Sacl) ys) 59
 fits_by_counts xs ys =
     let all : length (part_of Dacl xs ++ part_of Sacl ys) ≡ count_by (is_of Dacl) xs + count_by (is_of Sacl) ys
     = omega (arith, length-append (part_of Dacl xs) (part_of Sacl ys), length-filter (is_of Dacl) xs, length-filter (is_of Sacl) ys) in
     let watching : count_by keeps (part_of Sacl ys) ≡ count_by (is_of Sacl) ys
     = count_of_passed (is_of Sacl) keeps ys ∙ same_count (λ e. is_of Sacl e && keeps e) (is_of Sacl) all_watching_kept ys in
-    let kept : count_by keeps (part_of Dacl xs ++ part_of Sacl ys) ≡ count_by (λ e. is_of Dacl e && keeps e) xs + count_by (is_of Sacl) ys
+    let kept : count_by keeps (part_of Dacl xs ++ part_of Sacl ys)
+    ≡ count_by (λ e. is_of Dacl e && keeps e) xs + count_by (is_of Sacl) ys
     = omega (arith, sum_by-append (λ e. cond (keeps e) 1 0) (part_of Dacl xs) (part_of Sacl ys), count_of_passed (is_of Dacl) keeps xs, watching) in
     ap (λ (n : ℕ). nat_le n 64 && nat_le (count_by keeps (part_of Dacl xs ++ part_of Sacl ys)) 59) all
     ∙ ap (λ (n : ℕ). nat_le (count_by (is_of Dacl) xs + count_by (is_of Sacl) ys) 64 && nat_le n 59) kept
@@ -135,33 +149,44 @@ pub record Counts (xs ys : List Entry) (w a k : ℕ) : Type 0 where
   pub all : a ≡ count_by (is_of Dacl) xs
   pub kept : k ≡ count_by (λ e. is_of Dacl e && keeps e) xs
 
-counted_fits : (xs ys : List Entry) (w a k : ℕ) → Counts xs ys w a k → nat_le (a + w) 64 && nat_le (k + w) 59 ≡ fits (part_of Dacl xs ++ part_of Sacl ys)
+counted_fits : (xs ys : List Entry) (w a k : ℕ) → Counts xs ys w a k
+    → nat_le (a + w) 64 && nat_le (k + w) 59 ≡ fits (part_of Dacl xs ++ part_of Sacl ys)
 counted_fits xs ys w a k h = rw (h.watching, h.all, h.kept) (sym (fits_by_counts xs ys))
 
-pub fits_if_kept : (xs ys : List Entry) (w a k : ℕ) → Counts xs ys w a k → w ≤ 59 → a ≤ 64 - w → nat_le k (59 - w) ≡ fits (part_of Dacl xs ++ part_of Sacl ys)
+pub fits_if_kept : (xs ys : List Entry) (w a k : ℕ) → Counts xs ys w a k → w ≤ 59 → a ≤ 64 - w
+    → nat_le k (59 - w) ≡ fits (part_of Dacl xs ++ part_of Sacl ys)
 fits_if_kept xs ys w a k h p q = few_watching w a k p q ∙ counted_fits xs ys w a k h
 
-pub too_many_watching : (xs ys : List Entry) (w : ℕ) → w ≡ count_by (is_of Sacl) ys → 59 < w → false ≡ fits (part_of Dacl xs ++ part_of Sacl ys)
+pub too_many_watching : (xs ys : List Entry) (w : ℕ) → w ≡ count_by (is_of Sacl) ys → 59 < w
+    → false ≡ fits (part_of Dacl xs ++ part_of Sacl ys)
 too_many_watching xs ys w h p =
-    many_watching w (count_by (is_of Dacl) xs) (count_by (λ e. is_of Dacl e && keeps e) xs) p ∙ counted_fits xs ys w _ _ (record { watching = h; all = refl; kept = refl })
+    many_watching w (count_by (is_of Dacl) xs) (count_by (λ e. is_of Dacl e && keeps e) xs) p
+    ∙ counted_fits xs ys w _ _ (record { watching = h; all = refl; kept = refl })
 
-pub too_many_in_all : (xs ys : List Entry) (w a : ℕ) → w ≡ count_by (is_of Sacl) ys → a ≡ count_by (is_of Dacl) xs → w ≤ 59 → 64 - w < a → false ≡ fits (part_of Dacl xs ++ part_of Sacl ys)
+pub too_many_in_all : (xs ys : List Entry) (w a : ℕ) → w ≡ count_by (is_of Sacl) ys → a ≡ count_by (is_of Dacl) xs
+    → w ≤ 59 → 64 - w < a → false ≡ fits (part_of Dacl xs ++ part_of Sacl ys)
 too_many_in_all xs ys w a h k p q =
-    many_in_all w a (count_by (λ e. is_of Dacl e && keeps e) xs) p q ∙ counted_fits xs ys w a _ (record { watching = h; all = k; kept = refl })
+    many_in_all w a (count_by (λ e. is_of Dacl e && keeps e) xs) p q
+    ∙ counted_fits xs ys w a _ (record { watching = h; all = k; kept = refl })
 
 -- ---- the ACEs that are set
 
 -- each ACE of the set ACL passes the test, if each ACE that was sent is left out or set as one that passes
-pub each_becomes : (test : Entry → Bool) (kind : Kind) (raws : List Raw) → list_all (λ raw. list_all test (cons_option (entry_of kind raw) [])) raws ≡ list_all test (admitted kind raws)
+pub each_becomes : (test : Entry → Bool) (kind : Kind) (raws : List Raw)
+    → list_all (λ raw. list_all test (cons_option (entry_of kind raw) [])) raws ≡ list_all test (admitted kind raws)
 each_becomes test kind [] = refl
 each_becomes test kind (raw ∷ raws) = go (entry_of kind raw) (each_becomes test kind raws)
   where
-    go : (o : Option Entry) → list_all (λ raw. list_all test (cons_option (entry_of kind raw) [])) raws ≡ list_all test (filter_map (entry_of kind) raws)
-        → list_all test (cons_option o []) && list_all (λ raw. list_all test (cons_option (entry_of kind raw) [])) raws ≡ list_all test (cons_option o (filter_map (entry_of kind) raws))
+    go : (o : Option Entry) → list_all (λ raw. list_all test (cons_option (entry_of kind raw) [])) raws
+        ≡ list_all test (filter_map (entry_of kind) raws)
+        → list_all test (cons_option o []) && list_all (λ raw. list_all test (cons_option (entry_of kind raw) [])) raws
+        ≡ list_all test (cons_option o (filter_map (entry_of kind) raws))
     go None more = more
     go (Some e) more = one (test e) more
       where
-        one : (b : Bool) → list_all (λ raw. list_all test (cons_option (entry_of kind raw) [])) raws ≡ list_all test (filter_map (entry_of kind) raws)
-            → (b && true) && list_all (λ raw. list_all test (cons_option (entry_of kind raw) [])) raws ≡ b && list_all test (filter_map (entry_of kind) raws)
+        one : (b : Bool) → list_all (λ raw. list_all test (cons_option (entry_of kind raw) [])) raws
+            ≡ list_all test (filter_map (entry_of kind) raws)
+            → (b && true) && list_all (λ raw. list_all test (cons_option (entry_of kind raw) [])) raws ≡ b
+            && list_all test (filter_map (entry_of kind) raws)
         one true more = more
         one false more = refl

@@ -24,7 +24,8 @@ use Rattle.compound_laws.proofs.ReplaysAlike.{ends_alike}
 use Rattle.nfs_hub.specs.declared.restart.ReplayFault.{ReplayFault}
 use Rattle.nfs_hub.specs.declared.restart.ReplayFault.TheVariants.{Differs, Memory}
 use Rattle.nfs_hub.specs.Answer.{call_of}
-use Rattle.nfs_hub.specs.Replaying.{AskedEnds, BookEnds, CallEnds, Judges, Replays, RunsAgain, Strays, TextEnds, arrival_in}
+use Rattle.nfs_hub.specs.Replaying.{AskedEnds, BookEnds, CallEnds, Judges, Replays, RunsAgain, Strays, TextEnds}
+use Rattle.nfs_hub.specs.Replaying.{arrival_in}
 use Rattle.hub_laws.specs.Kept.{ReplaysAll}
 use Rattle.call_store.proofs.Lagging.{Alike, covers_ready, turned}
 
@@ -53,12 +54,14 @@ pub record WasRun (s : State) (call : Call) (reply : Reply) (ran : Ran) (new : S
 never_kept : true ≡ false → ⊥
 never_kept e = cc
 
-run_by : (f : Fate Reply) (s : State) (call : Call) (reply : Reply) (ran : Ran) (new : State) → fate s call ≡ f → AnswersBy f call s reply ran new → ran.kept ≡ true → WasRun s call reply ran new
+run_by : (f : Fate Reply) (s : State) (call : Call) (reply : Reply) (ran : Ran) (new : State) → fate s call ≡ f
+    → AnswersBy f call s reply ran new → ran.kept ≡ true → WasRun s call reply ran new
 run_by Runs s call reply ran new is answers kept = record { fate_is = is; runs = answers }
 run_by (Retries again) s call reply ran new is answers kept = absurd (never_kept (sym kept ∙ answers.2.kept))
 run_by (Fails refusal) s call reply ran new is answers kept = absurd (never_kept (sym kept ∙ answers.2.kept))
 
-was_run : (s : State) (call : Call) (reply : Reply) (ran : Ran) (new : State) → Answers s call reply ran new → ran.kept ≡ true → WasRun s call reply ran new
+was_run : (s : State) (call : Call) (reply : Reply) (ran : Ran) (new : State) → Answers s call reply ran new
+    → ran.kept ≡ true → WasRun s call reply ran new
 was_run s call reply ran new answers kept = run_by (fate s call) s call reply ran new refl answers kept
 
 -- how a call was replayed
@@ -71,7 +74,8 @@ pub record Replayed (c : Called) (made : Call) (q after : State) : Type 0 where
   pub delayed : ran.delayed ≡ c.delayed
   pub checksum : results_checksum results ≡ c.checksum
 
-replayed_by : (c : Called) (made : Call) (q after : State) → IsNumbered made → (ran : Option Ran) (results : List ℕ) → RunsAgain c.delayed made q ran results after → Judges c ran results fine → Replayed c made q after
+replayed_by : (c : Called) (made : Call) (q after : State) → IsNumbered made → (ran : Option Ran) (results : List ℕ)
+    → RunsAgain c.delayed made q ran results after → Judges c ran results fine → Replayed c made q after
 replayed_by c made q after numbered None results runs judged = absurd (not_both judged)
 replayed_by c made q after numbered (Some ran) results runs judged = record {
   numbered = numbered;
@@ -96,10 +100,12 @@ module _ (c : Called) (made : Call) (q r q' : State) (a : Alike q r) (first : Re
   -- the state after the second replay covers the state after the first
   call_covers : (r' : State) → Replayed c made r r' → Covers r' q'
   call_covers r' second =
-      (ends_alike r (ready made q) q' r' made (Some first.results) (Some second.results) first.ran second.ran covers first.numbered run.fate_is run.runs second.answers
+      (ends_alike r (ready made q) q' r' made (Some first.results)
+      (Some second.results) first.ran second.ran covers first.numbered run.fate_is run.runs second.answers
       (second.delayed ∙ sym first.delayed)).covers
 
-call_alike : (c : Called) (made : Call) (q r q' r' : State) → Alike q r → CallEnds fine c made q q' → CallEnds fine c made r r' → Alike q' r'
+call_alike : (c : Called) (made : Call) (q r q' r' : State) → Alike q r → CallEnds fine c made q q'
+    → CallEnds fine c made r r' → Alike q' r'
 call_alike c made q r q' r' a one other =
     let x = replayed c made q q' one in
     let y = replayed c made r r' other in
@@ -113,9 +119,11 @@ caller_alike : (c : Called) (call : Asked) (o : Option Identity) (q r q' r' : St
     → MatchOption o (Strays fine r r') (λ caller. CallEnds fine c (call_of (arrival_in c) call.arguments caller) r r')
     → Alike q' r'
 caller_alike c call None q r q' r' a one other = absurd (not_both one.0)
-caller_alike c call (Some caller) q r q' r' a one other = call_alike c (call_of (arrival_in c) call.arguments caller) q r q' r' a one other
+caller_alike c call (Some caller) q r q' r' a one other =
+    call_alike c (call_of (arrival_in c) call.arguments caller) q r q' r' a one other
 
-asked_alike : (c : Called) (result : CallResult) (q r q' r' : State) → Alike q r → AskedEnds fine c result q q' → AskedEnds fine c result r r' → Alike q' r'
+asked_alike : (c : Called) (result : CallResult) (q r q' r' : State) → Alike q r → AskedEnds fine c result q q'
+    → AskedEnds fine c result r r' → Alike q' r'
 asked_alike c (Ok call) q r q' r' a one other = caller_alike c call call.caller q r q' r' a one other
 asked_alike c (Err fault) q r q' r' a one other = absurd (not_both one.0)
 
@@ -128,22 +136,30 @@ books_alike : (book : Content) (q r : State) → Alike q r → Alike (with_book 
 books_alike book q r a = record { one = book_covers q r a.one; other = book_covers r q a.other }
   where
     book_covers : (q s : State) → Covers q s → Covers (with_book book q) (with_book book s)
-    book_covers q s c = record { realm = c.realm; book = refl; epoch = one_more q.settings.epoch s.settings.epoch c.epoch }
+    book_covers q s c =
+        record { realm = c.realm; book = refl; epoch = one_more q.settings.epoch s.settings.epoch c.epoch }
 
-book_is : (book : Content) (o : Option ℕ) (q after : State) → MatchOption o (Strays fine q after) (λ epoch. (fine ≡ fine) × (after ≡ with_book book q)) → after ≡ with_book book q
+book_is : (book : Content) (o : Option ℕ) (q after : State)
+    → MatchOption o (Strays fine q after) (λ epoch. (fine ≡ fine) × (after ≡ with_book book q))
+    → after ≡ with_book book q
 book_is book None q after ends = absurd (not_both ends.0)
 book_is book (Some epoch) q after ends = ends.1
 
-expired_is : (client : ℕ) (o : Option Client) (q after : State) → MatchOption o (Strays fine q after) (λ clients. (fine ≡ fine) × (after ≡ without_client client q)) → after ≡ without_client client q
+expired_is : (client : ℕ) (o : Option Client) (q after : State)
+    → MatchOption o (Strays fine q after) (λ clients. (fine ≡ fine) × (after ≡ without_client client q))
+    → after ≡ without_client client q
 expired_is client None q after ends = absurd (not_both ends.0)
 expired_is client (Some clients) q after ends = ends.1
 
 alike_at : (q r q' r' : State) → q' ≡ q → r' ≡ r → Alike q r → Alike q' r'
-alike_at q r q' r' is other a = subst (λ (x : State). Alike x r') (sym is) (subst (λ (x : State). Alike q x) (sym other) a)
+alike_at q r q' r' is other a =
+    subst (λ (x : State). Alike x r') (sym is) (subst (λ (x : State). Alike q x) (sym other) a)
 
-loaded_alike : (result : Result Content BookFault) (q r q' r' : State) → Alike q r → BookEnds fine result q q' → BookEnds fine result r r' → Alike q' r'
+loaded_alike : (result : Result Content BookFault) (q r q' r' : State) → Alike q r → BookEnds fine result q q'
+    → BookEnds fine result r r' → Alike q' r'
 loaded_alike (Ok book) q r q' r' a one other =
-    alike_at (with_book book q) (with_book book r) q' r' (book_is book (next_epoch q.settings.epoch) q q' one) (book_is book (next_epoch r.settings.epoch) r r' other) (books_alike book q r a)
+    alike_at (with_book book q) (with_book book r) q' r' (book_is book (next_epoch q.settings.epoch) q q' one)
+    (book_is book (next_epoch r.settings.epoch) r r' other) (books_alike book q r a)
 loaded_alike (Err fault) q r q' r' a one other = absurd (not_both one.0)
 
 pub text_is : (text : Option (List ℕ)) (q q' : State) → TextEnds fine text q q' → BookEnds fine (book_from text) q q'
@@ -156,10 +172,15 @@ text_is text q q' (inr (inr ends)) = ends.1
 pub entry_alike : (e : Entry) (q r q' r' : State) → Alike q r → Replays e q q' → Replays e r r' → Alike q' r'
 entry_alike (entry.Call c) q r q' r' a one other = asked_alike c (asked c.bytes) q r q' r' a one other
 entry_alike (entry.ClientExpired client) q r q' r' a one other =
-    alike_at (without_client client q) (without_client client r) q' r' (expired_is client (client_at q.realm.registry client) q q' one) (expired_is client (client_at r.realm.registry client) r r' other)
+    alike_at (without_client client q) (without_client client r) q' r'
+    (expired_is client (client_at q.realm.registry client) q q' one)
+    (expired_is client (client_at r.realm.registry client) r r' other)
     (record { one = letting_go_covers client q r a.one; other = letting_go_covers client r q a.other })
-entry_alike (entry.Loaded text) q r q' r' a one other = loaded_alike (book_from text) q r q' r' a (text_is text q q' one) (text_is text r r' other)
+entry_alike (entry.Loaded text) q r q' r' a one other =
+    loaded_alike (book_from text) q r q' r' a (text_is text q q' one) (text_is text r r' other)
 
-pub entries_alike : (es : List Entry) (q r q' r' : State) → Alike q r → ReplaysAll es q q' → ReplaysAll es r r' → Alike q' r'
+pub entries_alike : (es : List Entry) (q r q' r' : State) → Alike q r → ReplaysAll es q q' → ReplaysAll es r r'
+    → Alike q' r'
 entries_alike [] q r q' r' a one other = alike_at q r q' r' one other a
-entries_alike (e ∷ es) q r q' r' a one other = entries_alike es one.0 other.0 q' r' (entry_alike e q r one.0 other.0 a one.1 other.1) one.2 other.2
+entries_alike (e ∷ es) q r q' r' a one other =
+    entries_alike es one.0 other.0 q' r' (entry_alike e q r one.0 other.0 a one.1 other.1) one.2 other.2

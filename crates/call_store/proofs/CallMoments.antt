@@ -35,12 +35,15 @@ second_of s t x (inl this) = inr (inl this)
 second_of s t x (inr none) = absurd none
 
 -- at the end the disk represents one of the two states
-call_represents : (s t : State) (result : Result (Unit {0}) StoreFault) (store : Store) (acts : List Act) → AfterCall s t result store acts → KeptRepresent (s ∷ t ∷ []) acts
+call_represents : (s t : State) (result : Result (Unit {0}) StoreFault) (store : Store) (acts : List Act)
+    → AfterCall s t result store acts → KeptRepresent (s ∷ t ∷ []) acts
 call_represents s t (Ok done) store acts after =
-    let some = served_represents store t acts after in (some.0, wider (t ∷ []) (s ∷ t ∷ []) some.0 acts (second_of s t) some.1, some.2)
+    let some = served_represents store t acts after in
+    (some.0, wider (t ∷ []) (s ∷ t ∷ []) some.0 acts (second_of s t) some.1, some.2)
 call_represents s t (Err fault) store acts after = after.represents
 
-close_represents : (s : State) (result : Result (Unit {0}) StoreFault) (store : Store) (acts : List Act) → AfterClose s result store acts → KeptRepresent (s ∷ s ∷ []) acts
+close_represents : (s : State) (result : Result (Unit {0}) StoreFault) (store : Store) (acts : List Act)
+    → AfterClose s result store acts → KeptRepresent (s ∷ s ∷ []) acts
 close_represents s (Ok done) store acts after = call_represents s s (Ok tt) store acts after.serving
 close_represents s (Err fault) store acts after = after.represents
 
@@ -50,28 +53,40 @@ one_of s x (inr (inl this)) = inl this
 one_of s x (inr (inr none)) = absurd none
 
 -- if states are kept, they are represented after any logs (`RepresentAfter`)
-swap_after : (before : List (Option Log)) (s t : State) (acts : List Act) → KeptRepresent (s ∷ t ∷ []) acts → RepresentAfter before (t ∷ s ∷ []) acts
+swap_after : (before : List (Option Log)) (s t : State) (acts : List Act) → KeptRepresent (s ∷ t ∷ []) acts
+    → RepresentAfter before (t ∷ s ∷ []) acts
 swap_after before s t acts kept = let some = swap [] t s acts kept in (some.0, some.1, λ none. absurd (some.2 none))
 
 -- a checkpoint of the second state over a log that represents the first
-renews_moments : (store store' : Store) (s t : State) (acts acts' : List Act) (result : Result (Unit {0}) StoreFault) → Serving store s acts → IsLasting t → KeptRepresent (s ∷ t ∷ []) acts' → RenewsTo (of_acts acts acts') store t result store' → Throughout [] (s ∷ t ∷ []) acts acts'
+renews_moments : (store store' : Store) (s t : State) (acts acts' : List Act) (result : Result (Unit {0}) StoreFault)
+    → Serving store s acts → IsLasting t → KeptRepresent (s ∷ t ∷ []) acts'
+    → RenewsTo (of_acts acts acts') store t result store' → Throughout [] (s ∷ t ∷ []) acts acts'
 renews_moments store store' s t acts acts' (Ok done) v lasting last (size, writes, then_is) =
     wider_through (Some v.log ∷ []) [] (t ∷ s ∷ []) (s ∷ t ∷ []) acts acts' (no_none v.log) (swapped s t)
-    (writes_moments store.journal (Some v.log) (Some v.log ∷ []) (s ∷ []) t acts (serving_represents store s acts v) (inl refl) v.serves.matches v.serves.going lasting acts' (swap_after (Some v.log ∷ []) s t acts' last) (Ok size) store'.journal writes)
+    (writes_moments store.journal (Some v.log) (Some v.log ∷ []) (s ∷ []) t acts (serving_represents store s acts v)
+    (inl refl) v.serves.matches v.serves.going lasting acts' (swap_after (Some v.log ∷ []) s t acts' last)
+    (Ok size) store'.journal writes)
 renews_moments store store' s t acts acts' (Err fault) v lasting last (j', stops, then_is) =
     wider_through (Some v.log ∷ []) [] (t ∷ s ∷ []) (s ∷ t ∷ []) acts acts' (no_none v.log) (swapped s t)
-    (writes_moments store.journal (Some v.log) (Some v.log ∷ []) (s ∷ []) t acts (serving_represents store s acts v) (inl refl) v.serves.matches v.serves.going lasting acts' (swap_after (Some v.log ∷ []) s t acts' last) (Err stops.why) j' stops.writes)
+    (writes_moments store.journal (Some v.log) (Some v.log ∷ []) (s ∷ []) t acts (serving_represents store s acts v)
+    (inl refl) v.serves.matches v.serves.going lasting acts' (swap_after (Some v.log ∷ []) s t acts' last)
+    (Err stops.why) j' stops.writes)
 
 -- ---- the logged events
 
-module _ (store store' : Store) (old new : Served) (acts acts' : List Act) (v : Serving store old.state acts) (l : Logs [] old new) (lasting : IsLasting new.state) (last : KeptRepresent (old.state ∷ new.state ∷ []) acts') where
+module _ (store store' : Store) (old new : Served) (acts acts' : List Act) (v : Serving store old.state acts)
+    (l : Logs [] old new) (lasting : IsLasting new.state)
+    (last : KeptRepresent (old.state ∷ new.state ∷ []) acts') where
   abbrev both : List State
   both = old.state ∷ new.state ∷ []
 
   nothing : acts' ≡ acts → Throughout [] both acts acts'
-  nothing same = to_acts [] both acts acts acts' same (at_once [] both acts (still_represents store old.state new.state acts v))
+  nothing same =
+      to_acts [] both acts acts acts' same (at_once [] both acts (still_represents store old.state new.state acts v))
 
-  appends_moments : (log : Bytes) (result : Result (Unit {0}) StoreFault) → new.log ≡ Some log → takes store (length log) ≡ true → AppendsTo (of_acts acts acts') store log result store' → Throughout [] both acts acts'
+  appends_moments : (log : Bytes) (result : Result (Unit {0}) StoreFault) → new.log ≡ Some log
+      → takes store (length log) ≡ true → AppendsTo (of_acts acts acts') store log result store'
+      → Throughout [] both acts acts'
   appends_moments log result is fits gives = of result gives
     where
       represents : Represents (with_bytes log v.log.content) new.state
@@ -80,54 +95,77 @@ module _ (store store' : Store) (old new : Served) (acts acts' : List Act) (v : 
       is_own : IsOwn v.log.current.machine (with_bytes log v.log.content)
       is_own = inl (machine_of store old.state acts v (equal store.journal.current.machine MACHINE (first_of _ _ fits)))
 
-      of : (result : Result (Unit {0}) StoreFault) → AppendsTo (of_acts acts acts') store log result store' → Throughout [] both acts acts'
-      of (Ok done) gives = append_moments store old.state new.state (frame_with RECORD log) acts acts' v represents is_own (Ok tt) store'.journal gives.0 last
-      of (Err fault) r = append_moments store old.state new.state (frame_with RECORD log) acts acts' v represents is_own (Err r.why) r.journal r.gives last
+      of : (result : Result (Unit {0}) StoreFault) → AppendsTo (of_acts acts acts') store log result store'
+          → Throughout [] both acts acts'
+      of (Ok done) gives =
+          append_moments store old.state new.state (frame_with RECORD log) acts acts' v represents is_own
+          (Ok tt) store'.journal gives.0 last
+      of (Err fault) r =
+          append_moments store old.state new.state (frame_with RECORD log) acts acts' v represents is_own
+          (Err r.why) r.journal r.gives last
 
-  keeps_moments : (failed fits : Bool) (log : Bytes) (result : Result (Unit {0}) StoreFault) → store.journal.has_failed ≡ failed → takes store (length log) ≡ fits → new.log ≡ Some log
+  keeps_moments : (failed fits : Bool) (log : Bytes) (result : Result (Unit {0}) StoreFault)
+      → store.journal.has_failed ≡ failed → takes store (length log) ≡ fits → new.log ≡ Some log
       → KeepsBy failed fits (of_acts acts acts') store log new.state result store' → Throughout [] both acts acts'
   keeps_moments true fits log result is holds logged gives = absurd (never_true (sym is ∙ v.serves.going))
   keeps_moments false fits [] result is holds logged gives = nothing gives.1.0
   keeps_moments false true (b ∷ log) result is holds logged gives = appends_moments (b ∷ log) result logged holds gives
-  keeps_moments false false (b ∷ log) result is holds logged gives = renews_moments store store' old.state new.state acts acts' result v lasting last gives
+  keeps_moments false false (b ∷ log) result is holds logged gives =
+      renews_moments store store' old.state new.state acts acts' result v lasting last gives
 
 pub keep_moments : KeepMomentsLaw
 keep_moments store store' old new log acts acts' result v l is lasting gives =
-    let last = call_represents old.state new.state result store' acts' (keep_law store store' old new log acts acts' result v l is lasting gives) in
-    keeps_moments store store' old new acts acts' v l lasting last store.journal.has_failed (takes store (length log)) log result refl refl is gives
+    let last =
+    call_represents old.state new.state result store' acts'
+    (keep_law store store' old new log acts acts' result v l is lasting gives) in
+    keeps_moments store store' old new acts acts' v l lasting last store.journal.has_failed
+    (takes store (length log)) log result refl refl is gives
 
 -- ---- a mark
 
-module _ (store store' : Store) (s : State) (acts acts' : List Act) (v : Serving store s acts) (last : KeptRepresent (s ∷ s ∷ []) acts') where
+module _ (store store' : Store) (s : State) (acts acts' : List Act) (v : Serving store s acts)
+    (last : KeptRepresent (s ∷ s ∷ []) acts') where
   abbrev twice : List State
   twice = s ∷ s ∷ []
 
   same : acts' ≡ acts → Throughout [] twice acts acts'
   same is = to_acts [] twice acts acts acts' is (at_once [] twice acts (still_represents store s s acts v))
 
-  marked : (result : Result (Unit {0}) StoreFault) → MarksTo (of_acts acts acts') store result store' → Throughout [] twice acts acts'
-  marked (Ok done) gives = append_moments store s s (frame_with MARK []) acts acts' v (after store store' s acts acts' v) (own store store' s acts acts' v) (Ok tt) store'.journal gives.0 last
-  marked (Err fault) r = append_moments store s s (frame_with MARK []) acts acts' v (after store store' s acts acts' v) (own store store' s acts acts' v) (Err r.why) r.journal r.gives last
+  marked : (result : Result (Unit {0}) StoreFault) → MarksTo (of_acts acts acts') store result store'
+      → Throughout [] twice acts acts'
+  marked (Ok done) gives =
+      append_moments store s s (frame_with MARK []) acts acts' v (after store store' s acts acts' v)
+      (own store store' s acts acts' v) (Ok tt) store'.journal gives.0 last
+  marked (Err fault) r =
+      append_moments store s s (frame_with MARK []) acts acts' v (after store store' s acts acts' v)
+      (own store store' s acts acts' v) (Err r.why) r.journal r.gives last
 
-  marks_moments : (failed done : Bool) (result : Result (Unit {0}) StoreFault) → store.journal.has_failed ≡ failed → MarksBy failed done (of_acts acts acts') store result store' → Throughout [] twice acts acts'
+  marks_moments : (failed done : Bool) (result : Result (Unit {0}) StoreFault) → store.journal.has_failed ≡ failed
+      → MarksBy failed done (of_acts acts acts') store result store' → Throughout [] twice acts acts'
   marks_moments true done result is gives = absurd (never_true (sym is ∙ v.serves.going))
   marks_moments false true result is gives = same gives.1.0
   marks_moments false false result is gives = marked result gives
 
-  closes_moments : IsLasting s → (failed closed : Bool) (result : Result (Unit {0}) StoreFault) → store.journal.has_failed ≡ failed → ClosesBy failed closed (of_acts acts acts') store s result store' → Throughout [] twice acts acts'
+  closes_moments : IsLasting s → (failed closed : Bool) (result : Result (Unit {0}) StoreFault)
+      → store.journal.has_failed ≡ failed → ClosesBy failed closed (of_acts acts acts') store s result store'
+      → Throughout [] twice acts acts'
   closes_moments lasting true closed result is gives = absurd (never_true (sym is ∙ v.serves.going))
   closes_moments lasting false true result is gives = same gives.1.0
-  closes_moments lasting false false result is gives = renews_moments store store' s s acts acts' result v lasting last gives
+  closes_moments lasting false false result is gives =
+      renews_moments store store' s s acts acts' result v lasting last gives
 
 pub mark_moments : MarkMomentsLaw
 mark_moments store store' s acts acts' result v gives =
     let last = call_represents s s result store' acts' (mark_law store store' s acts acts' result v gives) in
-    wider_through [] [] (s ∷ s ∷ []) (s ∷ []) acts acts' (λ none. none) (one_of s) (marks_moments store store' s acts acts' v last store.journal.has_failed store.is_marked result refl gives)
+    wider_through [] [] (s ∷ s ∷ []) (s ∷ []) acts acts' (λ none. none) (one_of s)
+    (marks_moments store store' s acts acts' v last store.journal.has_failed store.is_marked result refl gives)
 
 pub close_moments : CloseMomentsLaw
 close_moments store store' s acts acts' result v lasting gives =
     let last = close_represents s result store' acts' (close_law store store' s acts acts' result v lasting gives) in
-    wider_through [] [] (s ∷ s ∷ []) (s ∷ []) acts acts' (λ none. none) (one_of s) (closes_moments store store' s acts acts' v last lasting store.journal.has_failed (is_closed store) result refl gives)
+    wider_through [] [] (s ∷ s ∷ []) (s ∷ []) acts acts' (λ none. none) (one_of s)
+    (closes_moments store store' s acts acts' v last lasting store.journal.has_failed
+    (is_closed store) result refl gives)
 
 -- ---- a new store
 
@@ -135,17 +173,26 @@ first_one : (s : State) (states : List State) (x : State) → IsIn x (s ∷ []) 
 first_one s states x (inl this) = inl this
 first_one s states x (inr none) = absurd none
 
-begin_represents : (before : List (Option Log)) (states : List State) (s : State) (result : Result Store StoreFault) (acts : List Act) → AfterBegin before states s result acts → RepresentAfter before (s ∷ states) acts
+begin_represents : (before : List (Option Log)) (states : List State) (s : State) (result : Result Store StoreFault)
+    (acts : List Act) → AfterBegin before states s result acts → RepresentAfter before (s ∷ states) acts
 begin_represents before states s (Ok store) acts after =
-    let some = served_represents store s acts after in (some.0, wider (s ∷ []) (s ∷ states) some.0 acts (first_one s states) some.1, λ none. absurd (some.2 none))
+    let some = served_represents store s acts after in
+    (some.0, wider (s ∷ []) (s ∷ states) some.0 acts (first_one s states) some.1, λ none. absurd (some.2 none))
 begin_represents before states s (Err fault) acts after = after
 
-begins_moments : (c : Current) (states : List State) (s : State) (logs : List (Option Log)) (acts acts' : List Act) (result : Result Store StoreFault) → LogsRepresent states logs acts → IsIn None logs → c.generation ≡ 0 → IsLasting s → RepresentAfter logs (s ∷ states) acts' → BeginsTo (of_acts acts acts') c s result → Throughout logs (s ∷ states) acts acts'
+begins_moments : (c : Current) (states : List State) (s : State) (logs : List (Option Log)) (acts acts' : List Act)
+    (result : Result Store StoreFault) → LogsRepresent states logs acts → IsIn None logs → c.generation ≡ 0
+    → IsLasting s → RepresentAfter logs (s ∷ states) acts' → BeginsTo (of_acts acts acts') c s result
+    → Throughout logs (s ∷ states) acts acts'
 begins_moments c states s logs acts acts' (Ok store) all none zero lasting last (size, writes, then_is) =
-    writes_moments (new_journal c) None logs states s acts all none zero refl lasting acts' last (Ok size) store.journal writes
+    writes_moments (new_journal c) None logs states s acts all none zero refl lasting acts' last
+    (Ok size) store.journal writes
 begins_moments c states s logs acts acts' (Err fault) all none zero lasting last (j', stops) =
-    writes_moments (new_journal c) None logs states s acts all none zero refl lasting acts' last (Err stops.why) j' stops.writes
+    writes_moments (new_journal c) None logs states s acts all none zero refl lasting acts' last
+    (Err stops.why) j' stops.writes
 
 pub begin_moments : BeginMomentsLaw
 begin_moments c states s logs acts acts' result all none zero lasting gives =
-    begins_moments c states s logs acts acts' result all none zero lasting (begin_represents logs states s result acts' (begun_represents c states s logs acts acts' result all none zero lasting gives)) gives
+    begins_moments c states s logs acts acts' result all none zero lasting
+    (begin_represents logs states s result acts'
+    (begun_represents c states s logs acts acts' result all none zero lasting gives)) gives

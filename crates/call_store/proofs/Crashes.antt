@@ -13,38 +13,48 @@ use Rattle.store_journal.proofs.CurrentForms.{current_again}
 use Rattle.store_journal.proofs.Surviving.{crash_law}
 use Rattle.store_journal.proofs.Stepping.{new_law, none_isnt}
 use Rattle.compound_run.specs.State.{State}
-use Rattle.call_store.specs.Crash.{LogsRepresent, IsFinished, Leaves, Survives, CrashLaw, EmptyLaw, FinishedLaw, WipedLaw}
+use Rattle.call_store.specs.Crash.{LogsRepresent, IsFinished, Leaves, Survives, CrashLaw, EmptyLaw, FinishedLaw}
+use Rattle.call_store.specs.Crash.{WipedLaw}
 
 -- the content that is found of a log is one of those that represent a state
 abbrev pub content_of : Log → List Frame → Content
 content_of log prefix = record { parts = log.content.parts; records = log.content.records ++ records_in prefix }
 
-pub has_it : (log : Log) (content : Option Content) → (h : HasAll log content) → HasAll log (Some (content_of log h.prefix))
+pub has_it : (log : Log) (content : Option Content) → (h : HasAll log content)
+    → HasAll log (Some (content_of log h.prefix))
 has_it log content h = record { prefix = h.prefix; of_later = h.of_later; content_is = refl }
 
 pub is_it : (log : Log) (content : Option Content) → (h : HasAll log content) → content ≡ Some (content_of log h.prefix)
 is_it log content h = h.content_is
 
-survives : (states : List State) (logs : List (Option Log)) (acts : List Act) → LogsRepresent states logs acts → (log : Log) → IsIn (Some log) logs → (c : Current) (file : Bytes) → journaled.Survives log c file → Survives states log c file
+survives : (states : List State) (logs : List (Option Log)) (acts : List Act) → LogsRepresent states logs acts
+    → (log : Log) → IsIn (Some log) logs → (c : Current) (file : Bytes) → journaled.Survives log c file
+    → Survives states log c file
 survives states logs acts all log is c file s = record {
   chosen = λ content position at bytes chooses. elim (s.chosen content position at bytes chooses) [
-    | inl has ↦ inl (content_of log has.prefix, is_it log content has, all.each log (content_of log has.prefix) is (has_it log content has))
+    | inl has ↦
+        inl (content_of log has.prefix, is_it log content has,
+        all.each log (content_of log has.prefix) is (has_it log content has))
     | inr chance ↦ inr chance
   ];
   sound = s.sound;
 }
 
-leaves : (states : List State) (logs : List (Option Log)) (acts : List Act) → LogsRepresent states logs acts → (o : Option Log) (found : Option Bytes) (a b : Bytes) → IsIn o logs → Opens o found a b → Leaves states o found a b
+leaves : (states : List State) (logs : List (Option Log)) (acts : List Act) → LogsRepresent states logs acts
+    → (o : Option Log) (found : Option Bytes) (a b : Bytes) → IsIn o logs → Opens o found a b
+    → Leaves states o found a b
 leaves states logs acts all None None a b is opens = opens
 leaves states logs acts all None (Some bytes) a b is opens = opens
 leaves states logs acts all (Some log) None a b is opens = opens
 leaves states logs acts all (Some log) (Some bytes) a b is opens =
-    (opens.0, opens.1, survives states logs acts all log is (at_begun log.current opens.0) (journaled.in_slot log.current.slot a b) opens.2)
+    (opens.0, opens.1, survives states logs acts all log is (at_begun log.current opens.0)
+    (journaled.in_slot log.current.slot a b) opens.2)
 
 pub crashes : CrashLaw
 crashes states logs acts all found may a b in_a in_b =
     let one = crash_law logs acts all.journal found may a b in_a in_b in
-    record { log = one.log; of_these = one.of_these; leaves = leaves states logs acts all one.log found a b one.of_these one.opens }
+    record { log = one.log; of_these = one.of_these;
+        leaves = leaves states logs acts all one.log found a b one.of_these one.opens }
 
 pub nothing_there : EmptyLaw
 nothing_there states = record {
@@ -58,7 +68,9 @@ nothing_there states = record {
 
 -- ---- a kept store is never taken for a new one
 
-finished_by : (acts : List Act) (logs : List (Option Log)) → ((log : Log) → IsIn (Some log) logs → IsLog log acts) → (IsIn None logs → ⊥) → (o : Option Log) (found : Option Bytes) → IsIn o logs → Names acts o found → IsFinished found
+finished_by : (acts : List Act) (logs : List (Option Log)) → ((log : Log) → IsIn (Some log) logs → IsLog log acts)
+    → (IsIn None logs → ⊥) → (o : Option Log) (found : Option Bytes) → IsIn o logs → Names acts o found
+    → IsFinished found
 finished_by acts logs written some None found is names = absurd (some is)
 finished_by acts logs written some (Some log) None is names = absurd names
 finished_by acts logs written some (Some log) (Some bytes) is names = record {
@@ -84,5 +96,7 @@ one_current r a b e f = cc
 pub wiped : WipedLaw
 wiped states acts bytes c says zero kept =
     let f = finished states (Turned bytes ∷ acts) kept (Some bytes) (inl refl) in
-    let same : f.current ≡ c = one_current (current_in f.bytes) f.current c f.states (ap current_in (some_bytes bytes f.bytes f.found_is) ∙ says) in
+    let same : f.current ≡ c =
+    one_current (current_in f.bytes) f.current c f.states
+    (ap current_in (some_bytes bytes f.bytes f.found_is) ∙ says) in
     f.finished (ap (λ (x : Current). x.generation) same ∙ zero)

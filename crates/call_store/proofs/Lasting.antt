@@ -17,7 +17,8 @@ restores_lasting parts base r =
     lasting_as (restored r.kept.world r.kept.clients r.kept.book REMEMBERED) base r.state_is
     (record { lasting = refl; epoch = omega arith })
 
-records_lasting : (records : List Bytes) (old new : State) → ReplaysRecords records old new → IsLasting old → IsLasting new
+records_lasting : (records : List Bytes) (old new : State) → ReplaysRecords records old new → IsLasting old
+    → IsLasting new
 records_lasting [] old new same was = lasting_as old new same was
 records_lasting (bytes ∷ records) old new (entries, mid, is, all, rest) was =
     records_lasting records mid new rest
@@ -28,5 +29,7 @@ records_lasting (bytes ∷ records) old new (entries, mid, is, all, rest) was =
 
 pub start_lasts : LastsLaw
 start_lasts content q replays =
-    let was = records_lasting content.records replays.base q replays.replays (restores_lasting content.parts replays.base replays.restores) in
+    let was =
+    records_lasting content.records replays.base q replays.replays
+    (restores_lasting content.parts replays.base replays.restores) in
     record { lasting = was.lasting; epoch = was.epoch }

@@ -24,8 +24,10 @@ same_entries es fs e = cc
 
 -- ---- twice
 
-pub records_alike : (records : List Bytes) (q r q' r' : State) → Alike q r → ReplaysRecords records q q' → ReplaysRecords records r r' → Alike q' r'
-records_alike [] q r q' r' a one other = subst (λ (x : State). Alike x r') (sym one) (subst (λ (x : State). Alike q x) (sym other) a)
+pub records_alike : (records : List Bytes) (q r q' r' : State) → Alike q r → ReplaysRecords records q q'
+    → ReplaysRecords records r r' → Alike q' r'
+records_alike [] q r q' r' a one other =
+    subst (λ (x : State). Alike x r') (sym one) (subst (λ (x : State). Alike q x) (sym other) a)
 records_alike (bytes ∷ records) q r q' r' a one other =
     let same : one.0 ≡ other.0 = same_entries one.0 other.0 (sym one.2 ∙ other.2) in
     let first = subst (λ (es : List Entry). ReplaysAll es q one.1) same one.3 in
@@ -34,22 +36,27 @@ records_alike (bytes ∷ records) q r q' r' a one other =
 -- equal parts restore one state
 pub one_base : (parts : List Bytes) (p q : State) → Restores parts p → Restores parts q → p ≡ q
 one_base parts p q one other =
-    one.state_is ∙ (ap (λ (k : Kept). restored k.world k.clients k.book REMEMBERED) (holds_one parts one.kept other.kept one.holds other.holds) ∙ sym other.state_is)
+    one.state_is ∙ (ap (λ (k : Kept). restored k.world k.clients k.book REMEMBERED)
+    (holds_one parts one.kept other.kept one.holds other.holds) ∙ sym other.state_is)
 
-pub twice_alike : (content : Content) (q r : State) → ((base : State) → Restores content.parts base → Covers base base) → ReplaysTo content q → ReplaysTo content r → Alike q r
+pub twice_alike : (content : Content) (q r : State) → ((base : State) → Restores content.parts base → Covers base base)
+    → ReplaysTo content q → ReplaysTo content r → Alike q r
 twice_alike content q r fits one other =
     let itself = fits one.base one.restores in
     let same : other.base ≡ one.base = one_base content.parts other.base one.base other.restores one.restores in
-    records_alike content.records one.base one.base q r (record { one = itself; other = itself }) one.replays (subst (λ (s : State). ReplaysRecords content.records s r) same other.replays)
+    records_alike content.records one.base one.base q r (record { one = itself; other = itself }) one.replays
+    (subst (λ (s : State). ReplaysRecords content.records s r) same other.replays)
 
 pub twice_law : TwiceLaw
 twice_law content q r fits one other = (twice_alike content q r fits one other).other
 
 -- ---- a record
 
-pub replays_more : (records : List Bytes) (bytes : Bytes) (entries : List Entry) (base q after : State) → ReplaysRecords records base q → entries_in bytes ≡ Some entries → ReplaysAll entries q after
+pub replays_more : (records : List Bytes) (bytes : Bytes) (entries : List Entry) (base q after : State)
+    → ReplaysRecords records base q → entries_in bytes ≡ Some entries → ReplaysAll entries q after
     → ReplaysRecords (records ++ bytes ∷ []) base after
-replays_more [] bytes entries base q after replays is more = (entries, after, is, subst (λ (s : State). ReplaysAll entries s after) replays more, refl)
+replays_more [] bytes entries base q after replays is more =
+    (entries, after, is, subst (λ (s : State). ReplaysAll entries s after) replays more, refl)
 replays_more (x ∷ records) bytes entries base q after replays is more =
     (replays.0, replays.1, replays.2, replays.3, replays_more records bytes entries replays.1 q after replays.4 is more)
 
@@ -60,7 +67,8 @@ record Split (records : List Bytes) (bytes : Bytes) (base after : State) : Type 
   are : entries_in bytes ≡ Some entries
   last : ReplaysAll entries mid after
 
-split : (records : List Bytes) (bytes : Bytes) (base after : State) → ReplaysRecords (records ++ bytes ∷ []) base after → Split records bytes base after
+split : (records : List Bytes) (bytes : Bytes) (base after : State) → ReplaysRecords (records ++ bytes ∷ []) base after
+    → Split records bytes base after
 split [] bytes base after replays = record {
   mid = base;
   replays = refl;
@@ -70,18 +78,22 @@ split [] bytes base after replays = record {
 }
 split (x ∷ records) bytes base after replays =
     let s = split records bytes replays.1 after replays.4 in
-    record { mid = s.mid; replays = (replays.0, replays.1, replays.2, replays.3, s.replays); entries = s.entries; are = s.are; last = s.last }
+    record { mid = s.mid; replays = (replays.0, replays.1, replays.2, replays.3, s.replays); entries = s.entries;
+        are = s.are; last = s.last }
 
 same_log : (a b : Bytes) → Some a ≡ Some b → a ≡ b
 same_log a b e = cc
 
 -- the logged bytes are these entries
-logged_are : (bytes : Bytes) (old new : Served) → (l : Logs [] old new) → new.log ≡ Some bytes → entries_in bytes ≡ Some l.entries
+logged_are : (bytes : Bytes) (old new : Served) → (l : Logs [] old new) → new.log ≡ Some bytes
+    → entries_in bytes ≡ Some l.entries
 logged_are bytes old new l is =
-    let same : bytes ≡ flat_map entry_bytes l.entries = same_log bytes (flat_map entry_bytes l.entries) (sym is ∙ l.log) in
+    let same : bytes ≡ flat_map entry_bytes l.entries =
+    same_log bytes (flat_map entry_bytes l.entries) (sym is ∙ l.log) in
     ap entries_in same ∙ all_again l.entries l.fit
 
-pub record_represents : (content : Content) (bytes : Bytes) (old new : Served) → Represents content old.state → Logs [] old new → new.log ≡ Some bytes → Represents (with_bytes bytes content) new.state
+pub record_represents : (content : Content) (bytes : Bytes) (old new : Served) → Represents content old.state
+    → Logs [] old new → new.log ≡ Some bytes → Represents (with_bytes bytes content) new.state
 record_represents content bytes old new represents l is = record {
   some =
       let q = represents.some.0 in
@@ -96,31 +108,43 @@ record_represents content bytes old new represents l is = record {
       );
   each = λ after replayed.
       let s = split content.records bytes replayed.base after replayed.replays in
-      let covers = represents.each s.mid (record { base = replayed.base; restores = replayed.restores; replays = s.replays }) in
-      l.replay_covers.each s.mid after covers (subst (λ (es : List Entry). ReplaysAll es s.mid after) (same_entries s.entries l.entries (sym s.are ∙ are)) s.last);
+      let covers =
+      represents.each s.mid (record { base = replayed.base; restores = replayed.restores; replays = s.replays }) in
+      l.replay_covers.each s.mid after covers (subst (λ (es : List Entry). ReplaysAll es s.mid after)
+      (same_entries s.entries l.entries (sym s.are ∙ are)) s.last);
   fits = represents.fits;
 }
   where
     are : entries_in bytes ≡ Some l.entries
     are = logged_are bytes old new l is
 
-none_logged : (content : Content) (old new : Served) → Represents content old.state → (l : Logs [] old new) → l.entries ≡ [] → Represents content new.state
+none_logged : (content : Content) (old new : Served) → Represents content old.state → (l : Logs [] old new)
+    → l.entries ≡ [] → Represents content new.state
 none_logged content old new represents l none = record {
   some = represents.some;
-  each = λ q replayed. l.replay_covers.each q q (represents.each q replayed) (subst (λ (es : List Entry). ReplaysAll es q q) (sym none) refl);
+  each =
+      λ q replayed. l.replay_covers.each q q (represents.each q replayed)
+      (subst (λ (es : List Entry). ReplaysAll es q q) (sym none) refl);
   fits = represents.fits;
 }
 
-pub nothing_represents : (content : Content) (old new : Served) → Represents content old.state → Logs [] old new → new.log ≡ Some [] → Represents content new.state
-nothing_represents content old new represents l is = none_logged content old new represents l (same_entries l.entries [] (sym (logged_are [] old new l is) ∙ all_again [] tt))
+pub nothing_represents : (content : Content) (old new : Served) → Represents content old.state → Logs [] old new
+    → new.log ≡ Some [] → Represents content new.state
+nothing_represents content old new represents l is =
+    none_logged content old new represents l (same_entries l.entries []
+    (sym (logged_are [] old new l is) ∙ all_again [] tt))
 
 -- ---- a checkpoint
 
 pub checkpoint_represents : CheckpointLaw
 checkpoint_represents parts kept s keeps lasting = record {
   some = (base, record { base = base; restores = restores; replays = refl });
-  each = λ q replayed. subst (λ (x : State). Covers x s) (sym (replayed.replays ∙ one_base parts replayed.base base replayed.restores restores)) covers;
-  fits = λ b restored. subst (λ (x : State). Covers x x) (sym (one_base parts b base restored restores)) (covers_itself base s covers);
+  each =
+      λ q replayed. subst (λ (x : State). Covers x s)
+      (sym (replayed.replays ∙ one_base parts replayed.base base replayed.restores restores)) covers;
+  fits =
+      λ b restored. subst (λ (x : State). Covers x x) (sym (one_base parts b base restored restores))
+      (covers_itself base s covers);
 }
   where
     base : State

@@ -11,9 +11,14 @@ use Rattle.checkpoint.proofs.Putting.{size_is_counted}
 abbrev pub IsCounted : {X : Type 0} → (X → Bytes) → List X → ℕ → ℕ → Type 0
 IsCounted view all size index = counted size (map view (drop index all)) ≡ counted 0 (map view all)
 
-pub counted_more : {X : Type 0} (view : X → Bytes) (all : List X) (size next index : ℕ) (d : X) → index < length all → next ≡ min (size + length (view (get_or all index d))) 18446744073709551615 → IsCounted view all size index → IsCounted view all next (index + 1)
+pub counted_more : {X : Type 0} (view : X → Bytes) (all : List X) (size next index : ℕ) (d : X) → index < length all
+    → next ≡ min (size + length (view (get_or all index d))) 18446744073709551615 → IsCounted view all size index
+    → IsCounted view all next (index + 1)
 counted_more view all size next index d there is holds =
-    ap (λ n. counted n (map view (drop (index + 1) all))) is ∙ (sym (ap (counted size) (at_place view all index d there)) ∙ holds)
+    ap (λ n. counted n (map view (drop (index + 1) all))) is
+    ∙ (sym (ap (counted size) (at_place view all index d there)) ∙ holds)
 
-pub all_counted : {X : Type 0} (view : X → Bytes) (all : List X) (size index : ℕ) → length all ≤ index → IsCounted view all size index → size ≡ size_of (map view all)
-all_counted view all size index end holds = size_is_counted size (map view all) (sym (ap (counted size) (at_last view all index end)) ∙ holds)
+pub all_counted : {X : Type 0} (view : X → Bytes) (all : List X) (size index : ℕ) → length all ≤ index
+    → IsCounted view all size index → size ≡ size_of (map view all)
+all_counted view all size index end holds =
+    size_is_counted size (map view all) (sym (ap (counted size) (at_last view all index end)) ∙ holds)

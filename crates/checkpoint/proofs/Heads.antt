@@ -32,13 +32,17 @@ module _ (bytes : Bytes) (text : Option Bytes) (whole : IsHead bytes PROFILE tex
   head_read (Err Memory) it = not_other
 
 -- a head that was written is read again
-pub head_written : (book : Content) (text : Option Bytes) (old new : Buffer) (bytes : Bytes) → IsText text → book_from text ≡ Ok book → old.bytes ≡ [] → HasSpelling head (PROFILE, text) → Appends old new (spelling head (PROFILE, text)) → bytes ≡ new.bytes → StatesBook bytes book
+pub head_written : (book : Content) (text : Option Bytes) (old new : Buffer) (bytes : Bytes) → IsText text
+    → book_from text ≡ Ok book → old.bytes ≡ [] → HasSpelling head (PROFILE, text)
+    → Appends old new (spelling head (PROFILE, text)) → bytes ≡ new.bytes → StatesBook bytes book
 head_written book text old new bytes is_text book_is empty has appended same =
     let v : Value head = (PROFILE, text) in
     let are : bytes ≡ spelling head v = same ∙ appended.appended ∙ ap (λ (l : Bytes). l ++ spelling head v) empty in
     record {
       text = text;
-      whole = ap (read_at head) (are ∙ sym (append-nil (spelling head v))) ∙ again head v (spelling head v) [] (spelled head v has);
+      whole =
+          ap (read_at head) (are ∙ sym (append-nil (spelling head v)))
+          ∙ again head v (spelling head v) [] (spelled head v has);
       is_text = is_text;
       book_is = book_is;
     }

@@ -33,7 +33,8 @@ rest_in d (Ok p) = p.1
 rest_in d (Err e) = d
 
 -- reading at one place gives one value and one rest
-pub one_reading : {V : Type 0} (r : Result (V × List ℕ) XdrFault) (v w : V) (x y : List ℕ) → r ≡ Ok (v, x) → r ≡ Ok (w, y) → (v ≡ w) × (x ≡ y)
+pub one_reading : {V : Type 0} (r : Result (V × List ℕ) XdrFault) (v w : V) (x y : List ℕ) → r ≡ Ok (v, x)
+    → r ≡ Ok (w, y) → (v ≡ w) × (x ≡ y)
 one_reading r v w x y a b = (ap (value_in v) (sym a ∙ b), ap (rest_in x) (sym a ∙ b))
 
 -- ---- clients
@@ -41,17 +42,24 @@ one_reading r v w x y a b = (ap (value_in v) (sym a ∙ b), ap (rest_in x) (sym 
 abbrev AppliesPrefix : ClientState → Bytes → ClientState → Bytes → Type 0
 AppliesPrefix = changing.AppliesChanges
 
-pub whole_one : (old : ClientState) (bytes : Bytes) (a b : ClientState) → AppliesWhole old bytes a → AppliesWhole old bytes b → a ≡ b
+pub whole_one : (old : ClientState) (bytes : Bytes) (a b : ClientState) → AppliesWhole old bytes a
+    → AppliesWhole old bytes b → a ≡ b
 whole_one old bytes a b r q = (prefix_one old bytes a b [] [] r q).0
 
-pub clients_one : (first second third : Bytes) (a b : ClientState) → BeginsClients first second third a → BeginsClients first second third b → a ≡ b
+pub clients_one : (first second third : Bytes) (a b : ClientState) → BeginsClients first second third a
+    → BeginsClients first second third b → a ≡ b
 clients_one first second third a b r q =
     let heads : r.heads ≡ q.heads = whole_one unknown first r.heads q.heads r.applies_first q.applies_first in
-    let half : r.half ≡ q.half = whole_one q.heads second r.half q.half (subst (λ (k : ClientState). AppliesWhole k second r.half) heads r.applies_second) q.applies_second in
-    whole_one q.half third a b (subst (λ (k : ClientState). AppliesWhole k third a) half r.applies_third) q.applies_third
+    let half : r.half ≡ q.half =
+    whole_one q.heads second r.half q.half (subst
+    (λ (k : ClientState). AppliesWhole k second r.half) heads r.applies_second) q.applies_second in
+    whole_one q.half third a b (subst (λ (k : ClientState). AppliesWhole k third a) half r.applies_third)
+    q.applies_third
 
-pub whole_not : (old : ClientState) (bytes reader : Bytes) (a : ClientState) (rest : Bytes) → reader ≡ bytes → AppliesPrefix old reader a rest → (rest ≡ [] → ⊥) → (clients : ClientState) → AppliesWhole old bytes clients → ⊥
-whole_not old bytes reader a rest same it some clients l = some (prefix_one old bytes a clients rest [] (subst (λ (b : Bytes). AppliesPrefix old b a rest) same it) l).1
+pub whole_not : (old : ClientState) (bytes reader : Bytes) (a : ClientState) (rest : Bytes) → reader ≡ bytes
+    → AppliesPrefix old reader a rest → (rest ≡ [] → ⊥) → (clients : ClientState) → AppliesWhole old bytes clients → ⊥
+whole_not old bytes reader a rest same it some clients l =
+    some (prefix_one old bytes a clients rest [] (subst (λ (b : Bytes). AppliesPrefix old b a rest) same it) l).1
 
 -- ---- parts
 
@@ -78,8 +86,10 @@ object_one j k o p h = (
       (sym (list_again o.list) ∙ ap (λ v. list_in (written_object d v).1.0.1.1.1.1.0) h ∙ list_again p.list)
       (ap (λ v. (written_object d v).1.0.1.1.1.1.1) h)
       (ap (λ v. (written_object d v).1.1.0) h)
-      (same_moment o.time_modify p.time_modify (ap (λ v. (written_object d v).1.1.1.0.0) h) (ap (λ v. (written_object d v).1.1.1.0.1) h))
-      (same_moment o.time_metadata p.time_metadata (ap (λ v. (written_object d v).1.1.1.1.0.0) h) (ap (λ v. (written_object d v).1.1.1.1.0.1) h))
+      (same_moment o.time_modify p.time_modify (ap (λ v. (written_object d v).1.1.1.0.0) h)
+      (ap (λ v. (written_object d v).1.1.1.0.1) h))
+      (same_moment o.time_metadata p.time_metadata (ap (λ v. (written_object d v).1.1.1.1.0.0) h)
+      (ap (λ v. (written_object d v).1.1.1.1.0.1) h))
       (ap (λ v. (written_object d v).1.1.1.1.1) h),
 )
   where
@@ -103,10 +113,12 @@ takes_one (Some old) (inr (inr (inl v))) m n (x, written_x, fits_x, new_x) (y, w
     new_x ∙ ap (with_name old) (name_one x y (written_x ∙ sym written_y)) ∙ sym new_y
 takes_one (Some old) (inr (inr (inr more))) m n t u = elim more [ ]
 
-takes_all_one : (old : Option Begun) (values : List (Value part)) (m n : Option Begun) → TakesAll old values m → TakesAll old values n → m ≡ n
+takes_all_one : (old : Option Begun) (values : List (Value part)) (m n : Option Begun) → TakesAll old values m
+    → TakesAll old values n → m ≡ n
 takes_all_one old [] m n t u = sym t ∙ u
 takes_all_one old (v ∷ values) m n (x, takes_x, rest_x) (y, takes_y, rest_y) =
-    takes_all_one (Some x) values m n rest_x (subst (λ (b : Begun). TakesAll (Some b) values n) (sym (takes_one old v x y takes_x takes_y)) rest_y)
+    takes_all_one (Some x) values m n rest_x (subst (λ (b : Begun). TakesAll (Some b) values n)
+    (sym (takes_one old v x y takes_x takes_y)) rest_y)
 
 parts_one : (parts : List Bytes) (v w : List (Value part)) → ReadsParts parts v → ReadsParts parts w → v ≡ w
 parts_one [] [] [] r q = refl
@@ -115,15 +127,19 @@ parts_one [] (x ∷ v) w r q = elim r [ ]
 parts_one (b ∷ parts) [] w r q = elim r [ ]
 parts_one (b ∷ parts) (x ∷ v) [] r q = elim q [ ]
 parts_one (b ∷ parts) (x ∷ v) (y ∷ w) r q =
-    ap (λ (z : Value part). z ∷ v) (one_reading (read_at part b) x y [] [] r.0 q.0).0 ∙ ap (λ (l : List (Value part)). y ∷ l) (parts_one parts v w r.1 q.1)
+    ap (λ (z : Value part). z ∷ v) (one_reading (read_at part b) x y [] [] r.0 q.0).0
+    ∙ ap (λ (l : List (Value part)). y ∷ l) (parts_one parts v w r.1 q.1)
 
 some_one : (b c : Begun) → Some b ≡ Some c → b ≡ c
 some_one b c e = cc
 
-restores_one : (so_far : Option Begun) (parts : List Bytes) (w v : World) → Restores so_far parts w → Restores so_far parts v → w ≡ v
+restores_one : (so_far : Option Begun) (parts : List Bytes) (w v : World) → Restores so_far parts w
+    → Restores so_far parts v → w ≡ v
 restores_one so_far parts w v r q =
     let values : r.values ≡ q.values = parts_one parts r.values q.values r.read q.read in
-    let begun : r.begun ≡ q.begun = some_one r.begun q.begun (takes_all_one so_far q.values (Some r.begun) (Some q.begun) (subst (λ (l : List (Value part)). TakesAll so_far l (Some r.begun)) values r.taken) q.taken) in
+    let begun : r.begun ≡ q.begun =
+    some_one r.begun q.begun (takes_all_one so_far q.values (Some r.begun) (Some q.begun)
+    (subst (λ (l : List (Value part)). TakesAll so_far l (Some r.begun)) values r.taken) q.taken) in
     r.world_is ∙ ap (λ (b : Begun). b.world) begun ∙ sym q.world_is
 
 -- ---- the head

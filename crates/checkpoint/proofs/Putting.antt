@@ -1,5 +1,6 @@
 -- Parts that are written in order.
-use Rattle.std.proofs.Common.{◌≡◌, inl, inr, ℕ, ◌≤◌, ◌<◌, ◌+◌, ◌^◌, min, Bool, true, false, cond, List, [], ◌∷◌, ◌++◌, length, map, refl, sym, ◌∙◌, ap, subst, arith, append_assoc, Ok, Err, Some, None}
+use Rattle.std.proofs.Common.{◌≡◌, inl, inr, ℕ, ◌≤◌, ◌<◌, ◌+◌, ◌^◌, min, Bool, true, false, cond, List, [], ◌∷◌, ◌++◌}
+use Rattle.std.proofs.Common.{length, map, refl, sym, ◌∙◌, ap, subst, arith, append_assoc, Ok, Err, Some, None}
 use Rattle.std.specs.Prelude.{Option, Result, IsSome, IfSome, OnOk, ◌&&◌, is_some, slice_get, find, nat_le, nat_lt}
 use Rattle.std.specs.List.{AllByRecursion, list_all}
 use Rattle.std.specs.Option.{option_map}
@@ -44,18 +45,30 @@ use Rattle.checkpoint.specs.internal.Writing.{HaveSpelling}
 pub given_none : {D : Type 0} (adds : Adding D) (j : Journal) (d : D) → PartsGiven (passage adds d d) j [] j
 given_none adds j d = (refl, refl)
 
-pub given_then : {D : Type 0} (adds : Adding D) (j k l : Journal) (first more : List Bytes) (old mid new : D) → PartsGiven (passage adds old mid) j first k → PartsGiven (passage adds mid new) k more l → PartsGiven (passage adds old new) j (first ++ more) l
+pub given_then : {D : Type 0} (adds : Adding D) (j k l : Journal) (first more : List Bytes) (old mid new : D)
+    → PartsGiven (passage adds old mid) j first k → PartsGiven (passage adds mid new) k more l
+    → PartsGiven (passage adds old new) j (first ++ more) l
 given_then {D} adds j k l [] more old mid new one two =
-    subst (λ (d : D). PartsGiven (passage adds d new) j more l) one.0 (subst (λ (x : Journal). PartsGiven (passage adds mid new) x more l) one.1 two)
-given_then adds j k l (bytes ∷ first) more old mid new (d, x, one, rest) two = (d, x, one, given_then adds x k l first more d mid new rest two)
+    subst (λ (d : D). PartsGiven (passage adds d new) j more l) one.0
+    (subst (λ (x : Journal). PartsGiven (passage adds mid new) x more l) one.1 two)
+given_then adds j k l (bytes ∷ first) more old mid new (d, x, one, rest) two =
+    (d, x, one, given_then adds x k l first more d mid new rest two)
 
-pub one_given : {D : Type 0} (adds : Adding D) (j k : Journal) (bytes : Bytes) (old new : D) → PartGives (passage adds old new) j (part_frame bytes) (Ok tt) k → PartsGiven (passage adds old new) j (bytes ∷ []) k
+pub one_given : {D : Type 0} (adds : Adding D) (j k : Journal) (bytes : Bytes) (old new : D)
+    → PartGives (passage adds old new) j (part_frame bytes) (Ok tt) k
+    → PartsGiven (passage adds old new) j (bytes ∷ []) k
 one_given adds j k bytes old new gives = (new, k, gives, (refl, refl))
 
-pub one_refused : {D : Type 0} (adds : Adding D) (j k : Journal) (bytes : Bytes) (fault : JournalFault) (old new : D) → PartGives (passage adds old new) j (part_frame bytes) (Err fault) k → PartsEnd (passage adds old new) j (bytes ∷ []) (Err (Refused fault)) k
-one_refused adds j k bytes fault old new gives = record { prefix = []; next = bytes; others = []; parts_are = refl; mid = old; k = j; given = (refl, refl); refused = gives }
+pub one_refused : {D : Type 0} (adds : Adding D) (j k : Journal) (bytes : Bytes) (fault : JournalFault) (old new : D)
+    → PartGives (passage adds old new) j (part_frame bytes) (Err fault) k
+    → PartsEnd (passage adds old new) j (bytes ∷ []) (Err (Refused fault)) k
+one_refused adds j k bytes fault old new gives =
+    record { prefix = []; next = bytes; others = []; parts_are = refl; mid = old; k = j; given = (refl, refl);
+    refused = gives }
 
-pub ends_then : {D : Type 0} (adds : Adding D) (j k l : Journal) (first more : List Bytes) (result : Result (Unit {0}) WriteFault) (old mid new : D) → PartsGiven (passage adds old mid) j first k → PartsEnd (passage adds mid new) k more result l → PartsEnd (passage adds old new) j (first ++ more) result l
+pub ends_then : {D : Type 0} (adds : Adding D) (j k l : Journal) (first more : List Bytes)
+    (result : Result (Unit {0}) WriteFault) (old mid new : D) → PartsGiven (passage adds old mid) j first k
+    → PartsEnd (passage adds mid new) k more result l → PartsEnd (passage adds old new) j (first ++ more) result l
 ends_then adds j k l first more (Ok done) old mid new one two = given_then adds j k l first more old mid new one two
 ends_then adds j k l first more (Err Unfit) old mid new one two = two
 ends_then adds j k l first more (Err Memory) old mid new one two = record {
@@ -68,7 +81,8 @@ ends_then adds j k l first more (Err (Refused fault)) old mid new one two = reco
   prefix = first ++ two.prefix;
   next = two.next;
   others = two.others;
-  parts_are = ap (λ (x : List Bytes). first ++ x) two.parts_are ∙ sym (append_assoc first two.prefix (two.next ∷ two.others));
+  parts_are =
+      ap (λ (x : List Bytes). first ++ x) two.parts_are ∙ sym (append_assoc first two.prefix (two.next ∷ two.others));
   mid = two.mid;
   k = two.k;
   given = given_then adds j k two.k first two.prefix old mid two.mid one two.given;
@@ -76,7 +90,9 @@ ends_then adds j k l first more (Err (Refused fault)) old mid new one two = reco
 }
 
 -- after a fault nothing more is written
-pub ends_more : {D : Type 0} (adds : Adding D) (j k : Journal) (first more : List Bytes) (fault : WriteFault) (old new : D) → PartsEnd (passage adds old new) j first (Err fault) k → PartsEnd (passage adds old new) j (first ++ more) (Err fault) k
+pub ends_more : {D : Type 0} (adds : Adding D) (j k : Journal) (first more : List Bytes) (fault : WriteFault)
+    (old new : D) → PartsEnd (passage adds old new) j first (Err fault) k
+    → PartsEnd (passage adds old new) j (first ++ more) (Err fault) k
 ends_more adds j k first more Unfit old new it = it
 ends_more adds j k first more Memory old new it = record {
   prefix = it.prefix;
@@ -96,30 +112,39 @@ ends_more adds j k first more (Refused fault) old new it = record {
 }
 
 -- after a part for which an allocation fails nothing more is written
-pub ends_stop : {D : Type 0} (adds : Adding D) (j k : Journal) (first more : List Bytes) (old new : D) → PartsGiven (passage adds old new) j first k → PartsEnd (passage adds old new) j (first ++ more) (Err Memory) k
+pub ends_stop : {D : Type 0} (adds : Adding D) (j k : Journal) (first more : List Bytes) (old new : D)
+    → PartsGiven (passage adds old new) j first k → PartsEnd (passage adds old new) j (first ++ more) (Err Memory) k
 ends_stop adds j k first more old new it = record { prefix = first; others = more; parts_are = refl; given = it }
 
 -- writing an equal list of parts ends the same way
-pub ends_as : {D : Type 0} (adds : Adding D) (j k : Journal) (some all : List Bytes) (result : Result (Unit {0}) WriteFault) (old new : D) → some ≡ all → PartsEnd (passage adds old new) j some result k → PartsEnd (passage adds old new) j all result k
-ends_as adds j k some all result old new is it = subst (λ (l : List Bytes). PartsEnd (passage adds old new) j l result k) is it
+pub ends_as : {D : Type 0} (adds : Adding D) (j k : Journal) (some all : List Bytes)
+    (result : Result (Unit {0}) WriteFault) (old new : D) → some ≡ all → PartsEnd (passage adds old new) j some result k
+    → PartsEnd (passage adds old new) j all result k
+ends_as adds j k some all result old new is it =
+    subst (λ (l : List Bytes). PartsEnd (passage adds old new) j l result k) is it
 
 -- ---- the size of the parts
 
-pub counted_then : (size : ℕ) (first more : List Bytes) → counted size (first ++ more) ≡ counted (counted size first) more
+pub counted_then : (size : ℕ) (first more : List Bytes)
+    → counted size (first ++ more) ≡ counted (counted size first) more
 counted_then size [] more = refl
 counted_then size (bytes ∷ first) more = counted_then (min (size + length bytes) 18446744073709551615) first more
 
-counted_is : (size : ℕ) (all : List Bytes) → size ≤ 18446744073709551615 → counted size all ≡ min (size + total all) 18446744073709551615
+counted_is : (size : ℕ) (all : List Bytes) → size ≤ 18446744073709551615
+    → counted size all ≡ min (size + total all) 18446744073709551615
 counted_is size [] few = none size few
   where
     none : (n : ℕ) → n ≤ 18446744073709551615 → n ≡ min (n + 0) 18446744073709551615
     none n few = grind (arith, few)
-counted_is size (bytes ∷ others) few = counted_is (min (size + length bytes) 18446744073709551615) others (within (size + length bytes)) ∙ more size (length bytes) (total others)
+counted_is size (bytes ∷ others) few =
+    counted_is (min (size + length bytes) 18446744073709551615) others (within (size + length bytes))
+    ∙ more size (length bytes) (total others)
   where
     within : (n : ℕ) → min n 18446744073709551615 ≤ 18446744073709551615
     within n = grind arith
 
-    more : (a b c : ℕ) → min (min (a + b) 18446744073709551615 + c) 18446744073709551615 ≡ min (a + (b + c)) 18446744073709551615
+    more : (a b c : ℕ) → min (min (a + b) 18446744073709551615 + c) 18446744073709551615
+        ≡ min (a + (b + c)) 18446744073709551615
     more a b c = grind arith
 
 pub size_is_counted : (size : ℕ) (all : List Bytes) → size ≡ counted 0 all → size ≡ size_of all
@@ -134,43 +159,58 @@ written_alone old new item empty appended = appended.appended ∙ ap (λ (l : By
 
 -- ---- all parts
 
-parts_spelled : (w : World) → map (spelling part) (parts w) ≡ spelling part (counters_value w) ∷ (map object_bytes w.objects ++ map name_bytes w.names)
+parts_spelled : (w : World) → map (spelling part) (parts w)
+    ≡ spelling part (counters_value w) ∷ (map object_bytes w.objects ++ map name_bytes w.names)
 parts_spelled w = ap (λ (l : List Bytes). spelling part (counters_value w) ∷ l) (objects_spelled w.objects)
   where
     names_spelled : (names : List Name) → map (spelling part) (map name_value names) ≡ map name_bytes names
     names_spelled [] = refl
     names_spelled (n ∷ names) = ap (λ (l : List Bytes). name_bytes n ∷ l) (names_spelled names)
 
-    objects_spelled : (objects : List (ℕ × Object)) → map (spelling part) (map (λ e. object_value e.0 e.1) objects ++ map name_value w.names) ≡ map object_bytes objects ++ map name_bytes w.names
+    objects_spelled : (objects : List (ℕ × Object))
+        → map (spelling part) (map (λ e. object_value e.0 e.1) objects ++ map name_value w.names)
+        ≡ map object_bytes objects ++ map name_bytes w.names
     objects_spelled [] = names_spelled w.names
     objects_spelled (e ∷ objects) = ap (λ (l : List Bytes). object_bytes e ∷ l) (objects_spelled objects)
 
-pub all_parts_are : (w : World) (d : Draft) → draft_parts d [] ++ ((spelling part (counters_value w) ∷ []) ++ (map object_bytes w.objects ++ map name_bytes w.names)) ≡ all_parts w d
+pub all_parts_are : (w : World) (d : Draft)
+    → draft_parts d [] ++ ((spelling part (counters_value w) ∷ [])
+    ++ (map object_bytes w.objects ++ map name_bytes w.names)) ≡ all_parts w d
 all_parts_are w d = ap (draft_parts d) (sym (parts_spelled w))
 
-pub all_have : (w : World) → HasSpelling part (counters_value w) → AllByRecursion HasObjectSpelling w.objects → AllByRecursion HasNameSpelling w.names → AllByRecursion (HasSpelling part) (parts w)
+pub all_have : (w : World) → HasSpelling part (counters_value w) → AllByRecursion HasObjectSpelling w.objects
+    → AllByRecursion HasNameSpelling w.names → AllByRecursion (HasSpelling part) (parts w)
 all_have w counters objects names = (counters, objects_have w.objects objects)
   where
-    names_have : (names : List Name) → AllByRecursion HasNameSpelling names → AllByRecursion (HasSpelling part) (map name_value names)
+    names_have : (names : List Name) → AllByRecursion HasNameSpelling names
+        → AllByRecursion (HasSpelling part) (map name_value names)
     names_have [] all = tt
     names_have (n ∷ names) all = (all.0, names_have names all.1)
 
-    objects_have : (objects : List (ℕ × Object)) → AllByRecursion HasObjectSpelling objects → AllByRecursion (HasSpelling part) (map (λ e. object_value e.0 e.1) objects ++ map name_value w.names)
+    objects_have : (objects : List (ℕ × Object)) → AllByRecursion HasObjectSpelling objects
+        → AllByRecursion (HasSpelling part) (map (λ e. object_value e.0 e.1) objects ++ map name_value w.names)
     objects_have [] all = names_have w.names names
     objects_have (e ∷ objects) all = (all.0, objects_have objects all.1)
 
-reads_parts : (values : List (Value part)) → AllByRecursion (HasSpelling part) values → ReadsParts (map (spelling part) values) values
+reads_parts : (values : List (Value part)) → AllByRecursion (HasSpelling part) values
+    → ReadsParts (map (spelling part) values) values
 reads_parts [] all = tt
 reads_parts (v ∷ values) all = (read_whole, reads_parts values all.1)
   where
     read_whole : read_at part (spelling part v) ≡ Ok (v, [])
-    read_whole = ap (read_at part) (sym (append-nil (spelling part v))) ∙ again part v (spelling part v) [] (spelled part v all.0)
+    read_whole =
+        ap (read_at part) (sym (append-nil (spelling part v)))
+        ∙ again part v (spelling part v) [] (spelled part v all.0)
 
 -- open files that fit clients fit equal clients
-all_alike : (w : World) (r q : Registry) (next : ℕ) (opens : List Opened) → ((number : ℕ) → client_at r number ≡ client_at q number) → list_all (open_fits w r next) opens ≡ list_all (open_fits w q next) opens
+all_alike : (w : World) (r q : Registry) (next : ℕ) (opens : List Opened)
+    → ((number : ℕ) → client_at r number ≡ client_at q number)
+    → list_all (open_fits w r next) opens ≡ list_all (open_fits w q next) opens
 all_alike w r q next [] same = refl
 all_alike w r q next (o ∷ opens) same =
-    λ i. (nat_lt o.number next && (is_file_at w o.object && (is_some (same o.client i) && (nat_le (length o.owner) MAX_OWNER && (is_access o.access && is_seqid o.seqid))))) && all_alike w r q next opens same i
+    λ i. (nat_lt o.number next && (is_file_at w o.object
+    && (is_some (same o.client i) && (nat_le (length o.owner) MAX_OWNER && (is_access o.access && is_seqid o.seqid)))))
+    && all_alike w r q next opens same i
 
 abbrev clients_with : Registry → List Opened → ℕ → ClientState
 clients_with r opens next = record { registry = r; opens = opens; next_open = next }
@@ -178,10 +218,13 @@ clients_with r opens next = record { registry = r; opens = opens; next_open = ne
 fits_alike : (w : World) (a b : ClientState) → AreSame a b → opens_fit w a ≡ opens_fit w b
 fits_alike w a b same =
     (λ i. opens_fit w (clients_with a.registry (same.opens i) (same.next_open i)))
-    ∙ ap (λ (fit : Bool). is_next b.next_open && (nat_le (length b.opens) MAX_OPENS && (rise_above 0 b.opens && fit))) (all_alike w a.registry b.registry b.next_open b.opens same.records)
+    ∙ ap (λ (fit : Bool). is_next b.next_open && (nat_le (length b.opens) MAX_OPENS && (rise_above 0 b.opens && fit)))
+    (all_alike w a.registry b.registry b.next_open b.opens same.records)
 
 -- the checkpoint of a server's tree, of its clients and of its book keeps all
-pub checkpoint_keeps : (w : World) (d : Draft) (clients : ClientState) (s : State) → w ≡ s.realm.world → opens_fit w (client_state_of s) ≡ true → IsDraft d clients s → IsTakenAgain w → HaveSpelling w → KeepsAll (all_parts w d) (record { world = w; clients = clients; book = s.settings.book }) s
+pub checkpoint_keeps : (w : World) (d : Draft) (clients : ClientState) (s : State) → w ≡ s.realm.world
+    → opens_fit w (client_state_of s) ≡ true → IsDraft d clients s → IsTakenAgain w → HaveSpelling w
+    → KeepsAll (all_parts w d) (record { world = w; clients = clients; book = s.settings.book }) s
 checkpoint_keeps w d clients s is fits draft read_again have = record {
   holds = (
     draft.states,
@@ -203,20 +246,26 @@ checkpoint_keeps w d clients s is fits draft read_again have = record {
 
 -- ---- objects, by rising number
 
-rises_to : {X : Type 0} (key : X → ℕ) (low high : ℕ) (prefix : List X) (x : X) (back : List X) → Rises key low (prefix ++ x ∷ back) high → low ≤ key x
+rises_to : {X : Type 0} (key : X → ℕ) (low high : ℕ) (prefix : List X) (x : X) (back : List X)
+    → Rises key low (prefix ++ x ∷ back) high → low ≤ key x
 rises_to key low high [] x back rises = rises.0
-rises_to key low high (y ∷ prefix) x back rises = let a : low ≤ key y = rises.0 in let b : key y + 1 ≤ key x = rises_to key (key y + 1) high prefix x back rises.1 in omega arith
+rises_to key low high (y ∷ prefix) x back rises =
+    let a : low ≤ key y = rises.0 in
+    let b : key y + 1 ≤ key x = rises_to key (key y + 1) high prefix x back rises.1 in omega arith
 
 -- the item of a number is found at its place
-is_at_place : (low high : ℕ) (prefix : List (ℕ × Object)) (e : ℕ × Object) (back : List (ℕ × Object)) → Rises (λ e. e.0) low (prefix ++ e ∷ back) high → lookup (is_at (nat_cmp e.0)) (prefix ++ e ∷ back) ≡ Some e.1
+is_at_place : (low high : ℕ) (prefix : List (ℕ × Object)) (e : ℕ × Object) (back : List (ℕ × Object))
+    → Rises (λ e. e.0) low (prefix ++ e ∷ back) high → lookup (is_at (nat_cmp e.0)) (prefix ++ e ∷ back) ≡ Some e.1
 is_at_place low high [] e back rises = ap (λ b. cond b (Some e.1) (lookup (is_at (nat_cmp e.0)) back)) (is_at-same e.0)
 is_at_place low high (y ∷ prefix) e back rises =
     let above : y.0 + 1 ≤ e.0 = rises_to (λ (e : ℕ × Object). e.0) (y.0 + 1) high prefix e back rises.1 in
-    ap (λ b. cond b (Some y.1) (lookup (is_at (nat_cmp e.0)) (prefix ++ e ∷ back))) (is_at-apart e.0 y.0 (λ same. absurd (omega (arith, above, same))))
+    ap (λ b. cond b (Some y.1) (lookup (is_at (nat_cmp e.0)) (prefix ++ e ∷ back)))
+    (is_at-apart e.0 y.0 (λ same. absurd (omega (arith, above, same))))
     ∙ is_at_place (y.0 + 1) high prefix e back rises.1
 
 -- the objects before a place were written
-pub record ObjectsPut {D : Type 0} (adds : Adding D) (w : World) (at : ℕ) (c c' : Journal) (size size' : ℕ) (old new : D) : Type 0 where
+pub record ObjectsPut {D : Type 0} (adds : Adding D) (w : World) (at : ℕ) (c c' : Journal) (size size' : ℕ)
+    (old new : D) : Type 0 where
   pub before : List (ℕ × Object)
   pub left : List (ℕ × Object)
   pub are : w.objects ≡ before ++ left
@@ -225,14 +274,18 @@ pub record ObjectsPut {D : Type 0} (adds : Adding D) (w : World) (at : ℕ) (c c
   pub given : PartsGiven (passage adds old new) c (map object_bytes before) c'
   pub size_is : size' ≡ counted size (map object_bytes before)
 
-pub objects_begun : {D : Type 0} (adds : Adding D) (w : World) (c : Journal) (size : ℕ) (d : D) → IsSound w → ObjectsPut adds w 0 c c size size d d
-objects_begun adds w c size d sound = record { before = []; left = w.objects; are = refl; next = (read_in_order w sound).first_object; have = tt; given = given_none adds c d; size_is = refl }
+pub objects_begun : {D : Type 0} (adds : Adding D) (w : World) (c : Journal) (size : ℕ) (d : D) → IsSound w
+    → ObjectsPut adds w 0 c c size size d d
+objects_begun adds w c size d sound =
+    record { before = []; left = w.objects; are = refl; next = (read_in_order w sound).first_object; have = tt;
+    given = given_none adds c d; size_is = refl }
 
 map_push : {X Y : Type 0} (f : X → Y) (xs : List X) (x : X) → map f (xs ++ x ∷ []) ≡ map f xs ++ f x ∷ []
 map_push f [] x = refl
 map_push f (y ∷ xs) x = ap (λ (l : List _). f y ∷ l) (map_push f xs x)
 
-all_push : {X : Type 0} (P : X → Type 0) (xs : List X) (x : X) → AllByRecursion P xs → P x → AllByRecursion P (xs ++ x ∷ [])
+all_push : {X : Type 0} (P : X → Type 0) (xs : List X) (x : X) → AllByRecursion P xs → P x
+    → AllByRecursion P (xs ++ x ∷ [])
 all_push P [] x all it = (it, tt)
 all_push P (y ∷ xs) x all it = (all.0, all_push P xs x all.1 it)
 
@@ -244,15 +297,19 @@ pub record NextObject (w : World) (before left : List (ℕ × Object)) (number :
   pub found : object w number ≡ Some o
   pub next : number_after w number ≡ option_map (λ e. e.0) (slice_get rest 0)
 
-pub next_object : (w : World) (before left : List (ℕ × Object)) (number : ℕ) → IsSound w → w.objects ≡ before ++ left → option_map (λ e. e.0) (slice_get left 0) ≡ Some number → NextObject w before left number
+pub next_object : (w : World) (before left : List (ℕ × Object)) (number : ℕ) → IsSound w → w.objects ≡ before ++ left
+    → option_map (λ e. e.0) (slice_get left 0) ≡ Some number → NextObject w before left number
 next_object w before [] number sound are next = absurd (never next)
   where
     never : None ≡ Some number → ⊥
     never e = cc
 next_object w before (e ∷ rest) number sound are next =
     let same : e.0 ≡ number = cc in
-    let found : object w e.0 ≡ Some e.1 = ap (lookup (is_at (nat_cmp e.0))) are ∙ is_at_place 1 w.next_number before e rest (subst (λ (l : List (ℕ × Object)). Rises (λ e. e.0) 1 l w.next_number) are sound.numbered) in
-    let after : number_after w e.0 ≡ option_map (λ e. e.0) (slice_get rest 0) = (read_in_order w sound).next_object before rest e.0 e.1 are in
+    let found : object w e.0 ≡ Some e.1 =
+    ap (lookup (is_at (nat_cmp e.0))) are ∙ is_at_place 1 w.next_number before e rest
+    (subst (λ (l : List (ℕ × Object)). Rises (λ e. e.0) 1 l w.next_number) are sound.numbered) in
+    let after : number_after w e.0 ≡ option_map (λ e. e.0) (slice_get rest 0) =
+    (read_in_order w sound).next_object before rest e.0 e.1 are in
     record {
       o = e.1;
       rest = rest;
@@ -268,20 +325,35 @@ one_value : {X : Type 0} (x y : X) → Some x ≡ Some y → x ≡ y
 one_value x y e = cc
 
 -- one object more
-pub object_put : {D : Type 0} (adds : Adding D) (w : World) (at number : ℕ) (c c' c'' : Journal) (size size' size'' : ℕ) (bytes : Bytes) (old mid new : D) → IsSound w → size'' ≡ counted size' (bytes ∷ []) → ObjectsPut adds w at c c' size size' old mid → number_after w at ≡ Some number → IfSome (object w number) (λ o. (bytes ≡ object_bytes (number, o)) × HasSpelling part (object_value number o)) → PartsGiven (passage adds mid new) c' (bytes ∷ []) c'' → ObjectsPut adds w number c c'' size size'' old new
+pub object_put : {D : Type 0} (adds : Adding D) (w : World) (at number : ℕ) (c c' c'' : Journal) (size size' size'' : ℕ)
+    (bytes : Bytes) (old mid new : D) → IsSound w → size'' ≡ counted size' (bytes ∷ [])
+    → ObjectsPut adds w at c c' size size' old mid → number_after w at ≡ Some number
+    → IfSome (object w number) (λ o. (bytes ≡ object_bytes (number, o)) × HasSpelling part (object_value number o))
+    → PartsGiven (passage adds mid new) c' (bytes ∷ []) c'' → ObjectsPut adds w number c c'' size size'' old new
 object_put adds w at number c c' c'' size size' size'' bytes old mid new sound sized so_far some written one =
     let n = next_object w so_far.before so_far.left number sound so_far.are (sym so_far.next ∙ some) in
-    let it : (bytes ≡ object_bytes (number, n.o)) × HasSpelling part (object_value number n.o) = subst (λ (x : Option Object). IfSome x (λ o. (bytes ≡ object_bytes (number, o)) × HasSpelling part (object_value number o))) n.found written in
+    let it : (bytes ≡ object_bytes (number, n.o)) × HasSpelling part (object_value number n.o) =
+    subst (λ (x : Option Object). IfSome x (λ o. (bytes ≡ object_bytes (number, o))
+    × HasSpelling part (object_value number o))) n.found written in
     record {
       before = so_far.before ++ (number, n.o) ∷ [];
       left = n.rest;
-      are = so_far.are ∙ ap (λ (l : List (ℕ × Object)). so_far.before ++ l) n.is ∙ sym (append_assoc so_far.before ((number, n.o) ∷ []) n.rest);
+      are =
+          so_far.are ∙ ap (λ (l : List (ℕ × Object)). so_far.before ++ l) n.is
+          ∙ sym (append_assoc so_far.before ((number, n.o) ∷ []) n.rest);
       next = n.next;
       have = all_push HasObjectSpelling so_far.before (number, n.o) so_far.have it.1;
-      given = subst (λ (l : List Bytes). PartsGiven (passage adds old new) c l c'') (sym (map_push object_bytes so_far.before (number, n.o)))
-          (given_then adds c c' c'' (map object_bytes so_far.before) (object_bytes (number, n.o) ∷ []) old mid new so_far.given (subst (λ (b : Bytes). PartsGiven (passage adds mid new) c' (b ∷ []) c'') it.0 one));
-      size_is = sized ∙ ap (λ (b : Bytes). counted size' (b ∷ [])) it.0 ∙ ap (λ (k : ℕ). counted k (object_bytes (number, n.o) ∷ [])) so_far.size_is
-          ∙ sym (counted_then size (map object_bytes so_far.before) (object_bytes (number, n.o) ∷ [])) ∙ ap (counted size) (sym (map_push object_bytes so_far.before (number, n.o)));
+      given =
+          subst (λ (l : List Bytes). PartsGiven (passage adds old new) c l c'')
+          (sym (map_push object_bytes so_far.before (number, n.o)))
+          (given_then adds c c' c'' (map object_bytes so_far.before)
+          (object_bytes (number, n.o) ∷ []) old mid new so_far.given
+          (subst (λ (b : Bytes). PartsGiven (passage adds mid new) c' (b ∷ []) c'') it.0 one));
+      size_is =
+          sized ∙ ap (λ (b : Bytes). counted size' (b ∷ [])) it.0
+          ∙ ap (λ (k : ℕ). counted k (object_bytes (number, n.o) ∷ [])) so_far.size_is
+          ∙ sym (counted_then size (map object_bytes so_far.before) (object_bytes (number, n.o) ∷ []))
+          ∙ ap (counted size) (sym (map_push object_bytes so_far.before (number, n.o)));
     }
 
 map_append : {X Y : Type 0} (f : X → Y) (xs ys : List X) → map f (xs ++ ys) ≡ map f xs ++ map f ys
@@ -289,22 +361,36 @@ map_append f [] ys = refl
 map_append f (x ∷ xs) ys = ap (λ (l : List _). f x ∷ l) (map_append f xs ys)
 
 -- the next object isn't written
-pub object_stop : {D : Type 0} (adds : Adding D) (w : World) (at number : ℕ) (c c' c'' : Journal) (size size' : ℕ) (bytes : Bytes) (fault : WriteFault) (old mid new : D) → IsSound w → ObjectsPut adds w at c c' size size' old mid → number_after w at ≡ Some number → IfSome (object w number) (λ o. (bytes ≡ object_bytes (number, o)) × HasSpelling part (object_value number o)) → PartsEnd (passage adds mid new) c' (bytes ∷ []) (Err fault) c'' → PartsEnd (passage adds old new) c (map object_bytes w.objects) (Err fault) c''
+pub object_stop : {D : Type 0} (adds : Adding D) (w : World) (at number : ℕ) (c c' c'' : Journal) (size size' : ℕ)
+    (bytes : Bytes) (fault : WriteFault) (old mid new : D) → IsSound w → ObjectsPut adds w at c c' size size' old mid
+    → number_after w at ≡ Some number → IfSome (object w number)
+    (λ o. (bytes ≡ object_bytes (number, o)) × HasSpelling part (object_value number o))
+    → PartsEnd (passage adds mid new) c' (bytes ∷ []) (Err fault) c''
+    → PartsEnd (passage adds old new) c (map object_bytes w.objects) (Err fault) c''
 object_stop adds w at number c c' c'' size size' bytes fault old mid new sound so_far some written one =
     let n = next_object w so_far.before so_far.left number sound so_far.are (sym so_far.next ∙ some) in
-    let it : (bytes ≡ object_bytes (number, n.o)) × HasSpelling part (object_value number n.o) = subst (λ (x : Option Object). IfSome x (λ o. (bytes ≡ object_bytes (number, o)) × HasSpelling part (object_value number o))) n.found written in
+    let it : (bytes ≡ object_bytes (number, n.o)) × HasSpelling part (object_value number n.o) =
+    subst (λ (x : Option Object). IfSome x (λ o. (bytes ≡ object_bytes (number, o))
+    × HasSpelling part (object_value number o))) n.found written in
     let x = object_bytes (number, n.o) in
     let before : List Bytes = map object_bytes so_far.before in
     let rest : List Bytes = map object_bytes n.rest in
-    let all : before ++ x ∷ rest ≡ map object_bytes w.objects = sym (map_append object_bytes so_far.before ((number, n.o) ∷ n.rest)) ∙ ap (map object_bytes) (sym (so_far.are ∙ ap (λ (l : List (ℕ × Object)). so_far.before ++ l) n.is)) in
-    ends_as adds c c'' ((before ++ x ∷ []) ++ rest) (map object_bytes w.objects) (Err fault) old new (append_assoc before (x ∷ []) rest ∙ all)
+    let all : before ++ x ∷ rest ≡ map object_bytes w.objects =
+    sym (map_append object_bytes so_far.before ((number, n.o) ∷ n.rest))
+    ∙ ap (map object_bytes) (sym (so_far.are ∙ ap (λ (l : List (ℕ × Object)). so_far.before ++ l) n.is)) in
+    ends_as adds c c'' ((before ++ x ∷ []) ++ rest) (map object_bytes w.objects) (Err fault) old new
+    (append_assoc before (x ∷ []) rest ∙ all)
     (ends_more adds c c'' (before ++ x ∷ []) rest fault old new
-    (ends_then adds c c' c'' before (x ∷ []) (Err fault) old mid new so_far.given (subst (λ (b : Bytes). PartsEnd (passage adds mid new) c' (b ∷ []) (Err fault) c'') it.0 one)))
+    (ends_then adds c c' c'' before (x ∷ []) (Err fault) old mid new so_far.given
+    (subst (λ (b : Bytes). PartsEnd (passage adds mid new) c' (b ∷ []) (Err fault) c'') it.0 one)))
 
 -- an allocation fails for the next object
-pub objects_stop : {D : Type 0} (adds : Adding D) (w : World) (at : ℕ) (c c' : Journal) (size size' : ℕ) (old new : D) → ObjectsPut adds w at c c' size size' old new → PartsEnd (passage adds old new) c (map object_bytes w.objects) (Err Memory) c'
+pub objects_stop : {D : Type 0} (adds : Adding D) (w : World) (at : ℕ) (c c' : Journal) (size size' : ℕ) (old new : D)
+    → ObjectsPut adds w at c c' size size' old new
+    → PartsEnd (passage adds old new) c (map object_bytes w.objects) (Err Memory) c'
 objects_stop adds w at c c' size size' old new p =
-    ends_as adds c c' (map object_bytes p.before ++ map object_bytes p.left) (map object_bytes w.objects) (Err Memory) old new (sym (map_append object_bytes p.before p.left) ∙ ap (map object_bytes) (sym p.are))
+    ends_as adds c c' (map object_bytes p.before ++ map object_bytes p.left) (map object_bytes w.objects)
+    (Err Memory) old new (sym (map_append object_bytes p.before p.left) ∙ ap (map object_bytes) (sym p.are))
     (ends_stop adds c c' (map object_bytes p.before) (map object_bytes p.left) old new p.given)
 
 none_left : (objects : List (ℕ × Object)) → option_map (λ e. e.0) (slice_get objects 0) ≡ None → objects ≡ []
@@ -314,31 +400,41 @@ none_left (e ∷ objects) is = absurd (never is)
     never : Some e.0 ≡ None → ⊥
     never e = cc
 
-pub objects_done : {D : Type 0} (adds : Adding D) (w : World) (at : ℕ) (c c' : Journal) (size size' : ℕ) (old new : D) → (p : ObjectsPut adds w at c c' size size' old new) → number_after w at ≡ None → p.before ≡ w.objects
+pub objects_done : {D : Type 0} (adds : Adding D) (w : World) (at : ℕ) (c c' : Journal) (size size' : ℕ) (old new : D)
+    → (p : ObjectsPut adds w at c c' size size' old new) → number_after w at ≡ None → p.before ≡ w.objects
 objects_done adds w at c c' size size' old new p none =
-    sym (p.are ∙ ap (λ (l : List (ℕ × Object)). p.before ++ l) (none_left p.left (sym p.next ∙ none)) ∙ append-nil p.before)
+    sym (p.are ∙ ap (λ (l : List (ℕ × Object)). p.before ++ l) (none_left p.left (sym p.next ∙ none))
+    ∙ append-nil p.before)
 
 -- each number that is found has an object
-pub there_is : {D : Type 0} (adds : Adding D) (w : World) (at number : ℕ) (c c' : Journal) (size size' : ℕ) (old new : D) → IsSound w → ObjectsPut adds w at c c' size size' old new → number_after w at ≡ Some number → IsSome (object w number)
+pub there_is : {D : Type 0} (adds : Adding D) (w : World) (at number : ℕ) (c c' : Journal) (size size' : ℕ)
+    (old new : D) → IsSound w → ObjectsPut adds w at c c' size size' old new → number_after w at ≡ Some number
+    → IsSome (object w number)
 there_is adds w at number c c' size size' old new sound p some =
     let n = next_object w p.before p.left number sound p.are (sym p.next ∙ some) in
     subst IsSome (sym n.found) refl
 
 rises_from : {X : Type 0} (key : X → ℕ) (low high : ℕ) (xs : List X) → Rises key low xs high → low ≤ high
 rises_from key low high [] rises = rises
-rises_from key low high (x ∷ xs) rises = let a : low ≤ key x = rises.0 in let b : key x + 1 ≤ high = rises_from key (key x + 1) high xs rises.1 in omega arith
+rises_from key low high (x ∷ xs) rises =
+    let a : low ≤ key x = rises.0 in
+    let b : key x + 1 ≤ high = rises_from key (key x + 1) high xs rises.1 in omega arith
 
-rises_below : {X : Type 0} (key : X → ℕ) (low high : ℕ) (prefix : List X) (x : X) (back : List X) → Rises key low (prefix ++ x ∷ back) high → key x < high
-rises_below key low high [] x back rises = let b : key x + 1 ≤ high = rises_from key (key x + 1) high back rises.1 in omega arith
+rises_below : {X : Type 0} (key : X → ℕ) (low high : ℕ) (prefix : List X) (x : X) (back : List X)
+    → Rises key low (prefix ++ x ∷ back) high → key x < high
+rises_below key low high [] x back rises =
+    let b : key x + 1 ≤ high = rises_from key (key x + 1) high back rises.1 in omega arith
 rises_below key low high (y ∷ prefix) x back rises = rises_below key (key y + 1) high prefix x back rises.1
 
-later_number : (at : ℕ) (es : List (ℕ × Object)) (number : ℕ) → option_map (λ e. e.0) (find (λ e. nat_lt at e.0) es) ≡ Some number → at < number
+later_number : (at : ℕ) (es : List (ℕ × Object)) (number : ℕ)
+    → option_map (λ e. e.0) (find (λ e. nat_lt at e.0) es) ≡ Some number → at < number
 later_number at [] number is = absurd (never is)
   where
     never : None ≡ Some number → ⊥
     never e = cc
 later_number at (e ∷ es) number is =
-    elim (nat_lt at e.0) as (λ b. nat_lt at e.0 ≡ b → option_map (λ e. e.0) (cond b (Some e) (find (λ e. nat_lt at e.0) es)) ≡ Some number → at < number) [
+    elim (nat_lt at e.0) as (λ b. nat_lt at e.0 ≡ b
+    → option_map (λ e. e.0) (cond b (Some e) (find (λ e. nat_lt at e.0) es)) ≡ Some number → at < number) [
       | true ↦ λ test some.
           let less : at < e.0 = grind (arith, nat_tests, test) in
           let same : e.0 ≡ number = cc in
@@ -347,20 +443,27 @@ later_number at (e ∷ es) number is =
     ] refl is
 
 -- the next number is closer to the last
-pub number_closer : {D : Type 0} (adds : Adding D) (w : World) (at number : ℕ) (c c' : Journal) (size size' : ℕ) (old new : D) → IsSound w → ObjectsPut adds w at c c' size size' old new → number_after w at ≡ Some number → (at < number) × (number < 2 ^ 63)
+pub number_closer : {D : Type 0} (adds : Adding D) (w : World) (at number : ℕ) (c c' : Journal) (size size' : ℕ)
+    (old new : D) → IsSound w → ObjectsPut adds w at c c' size size' old new → number_after w at ≡ Some number
+    → (at < number) × (number < 2 ^ 63)
 number_closer adds w at number c c' size size' old new sound p some =
     let n = next_object w p.before p.left number sound p.are (sym p.next ∙ some) in
-    let below : number < w.next_number = rises_below (λ (e : ℕ × Object). e.0) 1 w.next_number p.before (number, n.o) n.rest (subst (λ (l : List (ℕ × Object)). Rises (λ e. e.0) 1 l w.next_number) (p.are ∙ ap (λ (l : List (ℕ × Object)). p.before ++ l) n.is) sound.numbered) in
+    let below : number < w.next_number =
+    rises_below (λ (e : ℕ × Object). e.0) 1 w.next_number p.before (number, n.o) n.rest
+    (subst (λ (l : List (ℕ × Object)). Rises (λ e. e.0) 1 l w.next_number)
+    (p.are ∙ ap (λ (l : List (ℕ × Object)). p.before ++ l) n.is) sound.numbered) in
     (later_number at w.objects number some, (let most = sound.counted.numbers in omega (arith, below, most)))
 
-pub both_some : {X : Type 0} (P Q R : X → Type 0) (o : Option X) → IfSome o P → IfSome o Q → ((x : X) → P x → Q x → R x) → IfSome o R
+pub both_some : {X : Type 0} (P Q R : X → Type 0) (o : Option X) → IfSome o P → IfSome o Q → ((x : X) → P x → Q x → R x)
+    → IfSome o R
 both_some P Q R None p q both = tt
 both_some P Q R (Some x) p q both = both x p q
 
 -- ---- names, by rising cookie
 
 -- the names before a place were written
-pub record NamesPut {D : Type 0} (adds : Adding D) (w : World) (at : ℕ) (c c' : Journal) (size size' : ℕ) (old new : D) : Type 0 where
+pub record NamesPut {D : Type 0} (adds : Adding D) (w : World) (at : ℕ) (c c' : Journal) (size size' : ℕ)
+    (old new : D) : Type 0 where
   pub before : List Name
   pub left : List Name
   pub are : w.names ≡ before ++ left
@@ -369,8 +472,11 @@ pub record NamesPut {D : Type 0} (adds : Adding D) (w : World) (at : ℕ) (c c' 
   pub given : PartsGiven (passage adds old new) c (map name_bytes before) c'
   pub size_is : size' ≡ counted size (map name_bytes before)
 
-pub names_begun : {D : Type 0} (adds : Adding D) (w : World) (c : Journal) (size : ℕ) (d : D) → IsSound w → NamesPut adds w 0 c c size size d d
-names_begun adds w c size d sound = record { before = []; left = w.names; are = refl; next = (read_in_order w sound).first_name; have = tt; given = given_none adds c d; size_is = refl }
+pub names_begun : {D : Type 0} (adds : Adding D) (w : World) (c : Journal) (size : ℕ) (d : D) → IsSound w
+    → NamesPut adds w 0 c c size size d d
+names_begun adds w c size d sound =
+    record { before = []; left = w.names; are = refl; next = (read_in_order w sound).first_name; have = tt;
+    given = given_none adds c d; size_is = refl }
 
 -- the name that comes next
 pub record NextName (left : List Name) (n : Name) : Type 0 where
@@ -391,13 +497,17 @@ in_middle [] n back = inl refl
 in_middle (m ∷ prefix) n back = inr (in_middle prefix n back)
 
 -- a name that is found is one of the tree
-pub name_in : {D : Type 0} (adds : Adding D) (w : World) (at : ℕ) (n : Name) (c c' : Journal) (size size' : ℕ) (old new : D) → NamesPut adds w at c c' size size' old new → any_after w at ≡ Some n → IsIn n w.names
+pub name_in : {D : Type 0} (adds : Adding D) (w : World) (at : ℕ) (n : Name) (c c' : Journal) (size size' : ℕ)
+    (old new : D) → NamesPut adds w at c c' size size' old new → any_after w at ≡ Some n → IsIn n w.names
 name_in adds w at n c c' size size' old new p some =
     let x = next_name p.left n (sym p.next ∙ some) in
     subst (IsIn n) (sym (p.are ∙ ap (λ (l : List Name). p.before ++ l) x.is)) (in_middle p.before n x.rest)
 
 -- one name more
-pub name_put : {D : Type 0} (adds : Adding D) (w : World) (at : ℕ) (n : Name) (c c' c'' : Journal) (size size' size'' : ℕ) (bytes : Bytes) (old mid new : D) → IsSound w → size'' ≡ counted size' (bytes ∷ []) → NamesPut adds w at c c' size size' old mid → any_after w at ≡ Some n → bytes ≡ name_bytes n → HasNameSpelling n → PartsGiven (passage adds mid new) c' (bytes ∷ []) c'' → NamesPut adds w n.cookie c c'' size size'' old new
+pub name_put : {D : Type 0} (adds : Adding D) (w : World) (at : ℕ) (n : Name) (c c' c'' : Journal)
+    (size size' size'' : ℕ) (bytes : Bytes) (old mid new : D) → IsSound w → size'' ≡ counted size' (bytes ∷ [])
+    → NamesPut adds w at c c' size size' old mid → any_after w at ≡ Some n → bytes ≡ name_bytes n → HasNameSpelling n
+    → PartsGiven (passage adds mid new) c' (bytes ∷ []) c'' → NamesPut adds w n.cookie c c'' size size'' old new
 name_put adds w at n c c' c'' size size' size'' bytes old mid new sound sized so_far some is has one =
     let x = next_name so_far.left n (sym so_far.next ∙ some) in
     let are : w.names ≡ so_far.before ++ n ∷ x.rest = so_far.are ∙ ap (λ (l : List Name). so_far.before ++ l) x.is in
@@ -407,27 +517,43 @@ name_put adds w at n c c' c'' size size' size'' bytes old mid new sound sized so
       are = are ∙ sym (append_assoc so_far.before (n ∷ []) x.rest);
       next = (read_in_order w sound).next_name so_far.before x.rest n are;
       have = all_push HasNameSpelling so_far.before n so_far.have has;
-      given = subst (λ (l : List Bytes). PartsGiven (passage adds old new) c l c'') (sym (map_push name_bytes so_far.before n))
-          (given_then adds c c' c'' (map name_bytes so_far.before) (name_bytes n ∷ []) old mid new so_far.given (subst (λ (b : Bytes). PartsGiven (passage adds mid new) c' (b ∷ []) c'') is one));
-      size_is = sized ∙ ap (λ (b : Bytes). counted size' (b ∷ [])) is ∙ ap (λ (k : ℕ). counted k (name_bytes n ∷ [])) so_far.size_is
-          ∙ sym (counted_then size (map name_bytes so_far.before) (name_bytes n ∷ [])) ∙ ap (counted size) (sym (map_push name_bytes so_far.before n));
+      given =
+          subst (λ (l : List Bytes). PartsGiven (passage adds old new) c l c'')
+          (sym (map_push name_bytes so_far.before n))
+          (given_then adds c c' c'' (map name_bytes so_far.before) (name_bytes n ∷ []) old mid new so_far.given
+          (subst (λ (b : Bytes). PartsGiven (passage adds mid new) c' (b ∷ []) c'') is one));
+      size_is =
+          sized ∙ ap (λ (b : Bytes). counted size' (b ∷ [])) is
+          ∙ ap (λ (k : ℕ). counted k (name_bytes n ∷ [])) so_far.size_is
+          ∙ sym (counted_then size (map name_bytes so_far.before) (name_bytes n ∷ []))
+          ∙ ap (counted size) (sym (map_push name_bytes so_far.before n));
     }
 
 -- the next name isn't written
-pub name_stop : {D : Type 0} (adds : Adding D) (w : World) (at : ℕ) (n : Name) (c c' c'' : Journal) (size size' : ℕ) (bytes : Bytes) (fault : WriteFault) (old mid new : D) → NamesPut adds w at c c' size size' old mid → any_after w at ≡ Some n → bytes ≡ name_bytes n → PartsEnd (passage adds mid new) c' (bytes ∷ []) (Err fault) c'' → PartsEnd (passage adds old new) c (map name_bytes w.names) (Err fault) c''
+pub name_stop : {D : Type 0} (adds : Adding D) (w : World) (at : ℕ) (n : Name) (c c' c'' : Journal) (size size' : ℕ)
+    (bytes : Bytes) (fault : WriteFault) (old mid new : D) → NamesPut adds w at c c' size size' old mid
+    → any_after w at ≡ Some n → bytes ≡ name_bytes n → PartsEnd (passage adds mid new) c' (bytes ∷ []) (Err fault) c''
+    → PartsEnd (passage adds old new) c (map name_bytes w.names) (Err fault) c''
 name_stop adds w at n c c' c'' size size' bytes fault old mid new so_far some is one =
     let x = next_name so_far.left n (sym so_far.next ∙ some) in
     let before : List Bytes = map name_bytes so_far.before in
     let rest : List Bytes = map name_bytes x.rest in
-    let all : before ++ name_bytes n ∷ rest ≡ map name_bytes w.names = sym (map_append name_bytes so_far.before (n ∷ x.rest)) ∙ ap (map name_bytes) (sym (so_far.are ∙ ap (λ (l : List Name). so_far.before ++ l) x.is)) in
-    ends_as adds c c'' ((before ++ name_bytes n ∷ []) ++ rest) (map name_bytes w.names) (Err fault) old new (append_assoc before (name_bytes n ∷ []) rest ∙ all)
+    let all : before ++ name_bytes n ∷ rest ≡ map name_bytes w.names =
+    sym (map_append name_bytes so_far.before (n ∷ x.rest))
+    ∙ ap (map name_bytes) (sym (so_far.are ∙ ap (λ (l : List Name). so_far.before ++ l) x.is)) in
+    ends_as adds c c'' ((before ++ name_bytes n ∷ []) ++ rest) (map name_bytes w.names) (Err fault) old new
+    (append_assoc before (name_bytes n ∷ []) rest ∙ all)
     (ends_more adds c c'' (before ++ name_bytes n ∷ []) rest fault old new
-    (ends_then adds c c' c'' before (name_bytes n ∷ []) (Err fault) old mid new so_far.given (subst (λ (b : Bytes). PartsEnd (passage adds mid new) c' (b ∷ []) (Err fault) c'') is one)))
+    (ends_then adds c c' c'' before (name_bytes n ∷ []) (Err fault) old mid new so_far.given
+    (subst (λ (b : Bytes). PartsEnd (passage adds mid new) c' (b ∷ []) (Err fault) c'') is one)))
 
 -- an allocation fails for the next name
-pub names_stop : {D : Type 0} (adds : Adding D) (w : World) (at : ℕ) (c c' : Journal) (size size' : ℕ) (old new : D) → NamesPut adds w at c c' size size' old new → PartsEnd (passage adds old new) c (map name_bytes w.names) (Err Memory) c'
+pub names_stop : {D : Type 0} (adds : Adding D) (w : World) (at : ℕ) (c c' : Journal) (size size' : ℕ) (old new : D)
+    → NamesPut adds w at c c' size size' old new
+    → PartsEnd (passage adds old new) c (map name_bytes w.names) (Err Memory) c'
 names_stop adds w at c c' size size' old new p =
-    ends_as adds c c' (map name_bytes p.before ++ map name_bytes p.left) (map name_bytes w.names) (Err Memory) old new (sym (map_append name_bytes p.before p.left) ∙ ap (map name_bytes) (sym p.are))
+    ends_as adds c c' (map name_bytes p.before ++ map name_bytes p.left) (map name_bytes w.names) (Err Memory) old new
+    (sym (map_append name_bytes p.before p.left) ∙ ap (map name_bytes) (sym p.are))
     (ends_stop adds c c' (map name_bytes p.before) (map name_bytes p.left) old new p.given)
 
 no_name_left : (names : List Name) → slice_get names 0 ≡ None → names ≡ []
@@ -437,7 +563,8 @@ no_name_left (n ∷ names) is = absurd (never is)
     never : Some n ≡ None → ⊥
     never e = cc
 
-pub names_done : {D : Type 0} (adds : Adding D) (w : World) (at : ℕ) (c c' : Journal) (size size' : ℕ) (old new : D) → (p : NamesPut adds w at c c' size size' old new) → any_after w at ≡ None → p.before ≡ w.names
+pub names_done : {D : Type 0} (adds : Adding D) (w : World) (at : ℕ) (c c' : Journal) (size size' : ℕ) (old new : D)
+    → (p : NamesPut adds w at c c' size size' old new) → any_after w at ≡ None → p.before ≡ w.names
 names_done adds w at c c' size size' old new p none =
     sym (p.are ∙ ap (λ (l : List Name). p.before ++ l) (no_name_left p.left (sym p.next ∙ none)) ∙ append-nil p.before)
 
@@ -447,7 +574,8 @@ later_cookie at [] n is = absurd (never is)
     never : None ≡ Some n → ⊥
     never e = cc
 later_cookie at (m ∷ names) n is =
-    elim (nat_lt at m.cookie) as (λ b. nat_lt at m.cookie ≡ b → cond b (Some m) (find (λ n. nat_lt at n.cookie) names) ≡ Some n → at < n.cookie) [
+    elim (nat_lt at m.cookie) as (λ b. nat_lt at m.cookie ≡ b
+    → cond b (Some m) (find (λ n. nat_lt at n.cookie) names) ≡ Some n → at < n.cookie) [
       | true ↦ λ test some.
           let less : at < m.cookie = grind (arith, nat_tests, test) in
           let same : m ≡ n = cc in
@@ -455,10 +583,15 @@ later_cookie at (m ∷ names) n is =
       | false ↦ λ test some. later_cookie at names n some
     ] refl is
 
-pub cookie_closer : {D : Type 0} (adds : Adding D) (w : World) (at : ℕ) (n : Name) (c c' : Journal) (size size' : ℕ) (old new : D) → IsSound w → NamesPut adds w at c c' size size' old new → any_after w at ≡ Some n → (at < n.cookie) × (n.cookie < 2 ^ 63)
+pub cookie_closer : {D : Type 0} (adds : Adding D) (w : World) (at : ℕ) (n : Name) (c c' : Journal) (size size' : ℕ)
+    (old new : D) → IsSound w → NamesPut adds w at c c' size size' old new → any_after w at ≡ Some n
+    → (at < n.cookie) × (n.cookie < 2 ^ 63)
 cookie_closer adds w at n c c' size size' old new sound p some =
     let x = next_name p.left n (sym p.next ∙ some) in
-    let below : n.cookie < w.next_cookie = rises_below (λ (m : Name). m.cookie) 3 w.next_cookie p.before n x.rest (subst (λ (l : List Name). Rises (λ m. m.cookie) 3 l w.next_cookie) (p.are ∙ ap (λ (l : List Name). p.before ++ l) x.is) sound.listed) in
+    let below : n.cookie < w.next_cookie =
+    rises_below (λ (m : Name). m.cookie) 3 w.next_cookie p.before n x.rest
+    (subst (λ (l : List Name). Rises (λ m. m.cookie) 3 l w.next_cookie)
+    (p.are ∙ ap (λ (l : List Name). p.before ++ l) x.is) sound.listed) in
     (later_cookie at w.names n some, (let most = sound.counted.cookies in omega (arith, below, most)))
 
 pub on_ok : {X : Type 0} (r : Result X WriteFault) (P Q : Type 0) → OnOk r P → (P → Q) → OnOk r Q
@@ -468,13 +601,20 @@ on_ok (Err e) P Q p on = tt
 -- ---- a checkpoint
 
 -- writing its parts stopped
-pub stopped_checkpoint : {D : Type 0} (adds : Adding D) (j k l : Journal) (parts : List Bytes) (fault : WriteFault) (old mid new : D) → BeginGives (passage adds old mid) j (Ok tt) k → PartsEnd (passage adds mid new) k parts (Err fault) l → BreaksOff (passage adds old new) j parts fault l
+pub stopped_checkpoint : {D : Type 0} (adds : Adding D) (j k l : Journal) (parts : List Bytes) (fault : WriteFault)
+    (old mid new : D) → BeginGives (passage adds old mid) j (Ok tt) k
+    → PartsEnd (passage adds mid new) k parts (Err fault) l → BreaksOff (passage adds old new) j parts fault l
 stopped_checkpoint adds j k l parts Unfit old mid new begun ended = absurd ended
-stopped_checkpoint adds j k l parts Memory old mid new begun ended = inr (record { mid = mid; k = k; begun = begun; ended = ended })
-stopped_checkpoint adds j k l parts (Refused fault) old mid new begun ended = inr (record { mid = mid; k = k; begun = begun; ended = ended })
+stopped_checkpoint adds j k l parts Memory old mid new begun ended =
+    inr (record { mid = mid; k = k; begun = begun; ended = ended })
+stopped_checkpoint adds j k l parts (Refused fault) old mid new begun ended =
+    inr (record { mid = mid; k = k; begun = begun; ended = ended })
 
 -- all parts were written, and then it was ended, or not
-pub ended_checkpoint : {D : Type 0} (adds : Adding D) (machine : ℕ) (j k l j' : Journal) (parts : List Bytes) (result : Result (Unit {0}) JournalFault) (old mid after new : D) → BeginGives (passage adds old mid) j (Ok tt) k → PartsGiven (passage adds mid after) k parts l → FinishGives (passage adds after new) machine l result j' → Ended (passage adds old new) machine j parts result j'
+pub ended_checkpoint : {D : Type 0} (adds : Adding D) (machine : ℕ) (j k l j' : Journal) (parts : List Bytes)
+    (result : Result (Unit {0}) JournalFault) (old mid after new : D) → BeginGives (passage adds old mid) j (Ok tt) k
+    → PartsGiven (passage adds mid after) k parts l → FinishGives (passage adds after new) machine l result j'
+    → Ended (passage adds old new) machine j parts result j'
 ended_checkpoint adds machine j k l j' parts result old mid after new begun given finished = record {
   mid = after;
   k = l;

@@ -22,7 +22,9 @@ none_same r q n here there = record {
 }
   where
     no_call : (r : Registry) → session_at r n ≡ None → (slot : ℕ) → kept_at r n slot ≡ None
-    no_call r none slot = ap (λ (s : Option Session). option_and_then (λ p. p.kept) (option_and_then (λ s. slice_get s.slots slot) s)) none
+    no_call r none slot =
+        ap (λ (s : Option Session). option_and_then (λ p. p.kept) (option_and_then (λ s. slice_get s.slots slot) s))
+        none
 
 -- ---- numbers have an end
 
@@ -38,8 +40,11 @@ same_some : {X : Type 0} (x y : X) → Some x ≡ Some y → x ≡ y
 same_some x y e = cc
 
 -- the open files at one place of equal lists
-pub same_at : {A : Type 0} (xs ys : List (Open A)) (i : ℕ) (d e : Open A) → opens_view xs ≡ opens_view ys → i < length xs → i < length ys → d ≡ get_or xs i d → e ≡ get_or ys i e → open_view d ≡ open_view e
+pub same_at : {A : Type 0} (xs ys : List (Open A)) (i : ℕ) (d e : Open A) → opens_view xs ≡ opens_view ys
+    → i < length xs → i < length ys → d ≡ get_or xs i d → e ≡ get_or ys i e → open_view d ≡ open_view e
 same_at {A} xs ys i d e same here there is is' =
     ap open_view is ∙ same_some (open_view (get_or xs i d)) (open_view (get_or ys i e))
-    (ap (option_map open_view) (sym (slice_get-get_or xs i d here)) ∙ sym (slice_get-map open_view xs i) ∙ ap (λ (l : List Opened). slice_get l i) same ∙ slice_get-map open_view ys i ∙ ap (option_map open_view) (slice_get-get_or ys i e there))
+    (ap (option_map open_view) (sym (slice_get-get_or xs i d here)) ∙ sym (slice_get-map open_view xs i)
+    ∙ ap (λ (l : List Opened). slice_get l i) same ∙ slice_get-map open_view ys i
+    ∙ ap (option_map open_view) (slice_get-get_or ys i e there))
     ∙ ap open_view (sym is')

@@ -13,11 +13,14 @@ use Rattle.compound_run.specs.Realm.{Opened}
 use Rattle.compound_run.specs.ClientState.{ClientState}
 use Rattle.client_parts.specs.Applying.{AppliesRecord, AppliesCall}
 
-module _ (old : ClientState) (r : Registry) (opens : List Opened) (next : ℕ) (is : record { registry = r; opens = opens; next_open = next } ≡ old) where
+module _ (old : ClientState) (r : Registry) (opens : List Opened) (next : ℕ)
+    (is : record { registry = r; opens = opens; next_open = next } ≡ old) where
   abbrev with_other : Registry → ClientState
   with_other s = record { registry = s; opens = opens; next_open = next }
 
-  pub call_applies : (after : Registry) (session slot : ℕ) (k : Cached) (v : Value call) (b : Bool) → b ≡ slot_fits (session_at r session) slot k → b ≡ true → after ≡ (if b then with_cached r session slot k else r) → v ≡ call_value session slot k → IsStrictlyIncreasing k.call.caller.groups → AppliesCall old v (with_other after)
+  pub call_applies : (after : Registry) (session slot : ℕ) (k : Cached) (v : Value call) (b : Bool)
+      → b ≡ slot_fits (session_at r session) slot k → b ≡ true → after ≡ (if b then with_cached r session slot k else r)
+      → v ≡ call_value session slot k → IsStrictlyIncreasing k.call.caller.groups → AppliesCall old v (with_other after)
   call_applies after session slot k v b fits well made written rising =
       subst (λ (o : ClientState). AppliesCall o v (with_other after)) is (record {
         at = session;
@@ -29,11 +32,15 @@ module _ (old : ClientState) (r : Registry) (opens : List Opened) (next : ℕ) (
         is = ap with_other (made ∙ ap (λ (c : Bool). if c then with_cached r session slot k else r) well);
       })
 
-  pub record_applies : (after : Registry) (c : Client) (v : Value client) → record_fits r c ≡ true → after ≡ with_record r c → v ≡ client_value c → AppliesRecord old v (with_other after)
+  pub record_applies : (after : Registry) (c : Client) (v : Value client) → record_fits r c ≡ true
+      → after ≡ with_record r c → v ≡ client_value c → AppliesRecord old v (with_other after)
   record_applies after c v fits made written =
-      subst (λ (o : ClientState). AppliesRecord o v (with_other after)) is (record { restored = c; written = written; fits = fits; is = ap with_other made })
+      subst (λ (o : ClientState). AppliesRecord o v (with_other after)) is
+      (record { restored = c; written = written; fits = fits; is = ap with_other made })
 
 -- a record whose last CREATE_SESSION is of the same form is of the same form
-pub same_form : (c d : Client) (created : Option Creation) → d ≡ record c { created = created } → option_map creation_value created ≡ option_map creation_value c.created → client_value c ≡ client_value d
+pub same_form : (c d : Client) (created : Option Creation) → d ≡ record c { created = created }
+    → option_map creation_value created ≡ option_map creation_value c.created → client_value c ≡ client_value d
 same_form c d created is same =
-    ap (λ (o : Option (Value creation)). (c.number, (c.owner, (c.verifier, (c.uid, (c.confirmed, (o, c.reclaimed))))))) (sym same) ∙ ap client_value (sym is)
+    ap (λ (o : Option (Value creation)). (c.number, (c.owner, (c.verifier, (c.uid, (c.confirmed, (o, c.reclaimed)))))))
+    (sym same) ∙ ap client_value (sym is)

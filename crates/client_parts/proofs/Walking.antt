@@ -1,5 +1,7 @@
 -- Items by rising number, visited in order in two lists at once.
-use Rattle.std.proofs.Common.{◌≡◌, ◌≢◌, ◌⊎◌, ⊎_elim, ℕ, ◌+◌, ◌-◌, ◌^◌, ◌<◌, ◌≤◌, min, nat_le, nat_lt, Fits, w64, Bool, true, false, cond, List, [], ◌∷◌, find, Option, Some, None, refl, sym, ap, ◌∙◌, subst, arith, inl, inr}
+use Rattle.std.proofs.Common.{◌≡◌, ◌≢◌, ◌⊎◌, ⊎_elim, ℕ, ◌+◌, ◌-◌, ◌^◌, ◌<◌, ◌≤◌, min, nat_le, nat_lt, Fits, w64, Bool}
+use Rattle.std.proofs.Common.{true, false, cond, List, [], ◌∷◌, find, Option, Some, None, refl, sym, ap, ◌∙◌, subst}
+use Rattle.std.proofs.Common.{arith, inl, inr}
 use Rattle.std.specs.Map.{lookup, keys_of}
 use Rattle.std.specs.BTreeMap.{is_at}
 use Rattle.std.specs.Ordering.{nat_cmp}
@@ -19,12 +21,15 @@ below_of : (m n : ℕ) → nat_cmp m n ≡ Less → m < n
 below_of m n h = grind (arith, h)
 
 -- another number's item is passed over
-passed : {X : Type 0} (n : ℕ) (e : ℕ × X) (es : List (ℕ × X)) → n ≢ e.0 → lookup (is_at (nat_cmp n)) (e ∷ es) ≡ lookup (is_at (nat_cmp n)) es
-passed n e es other = ap (λ b. cond b (Some e.1) (lookup (is_at (nat_cmp n)) es)) (is_another (is_at (nat_cmp n) e.0) n e.0 refl other)
+passed : {X : Type 0} (n : ℕ) (e : ℕ × X) (es : List (ℕ × X)) → n ≢ e.0
+    → lookup (is_at (nat_cmp n)) (e ∷ es) ≡ lookup (is_at (nat_cmp n)) es
+passed n e es other =
+    ap (λ b. cond b (Some e.1) (lookup (is_at (nat_cmp n)) es)) (is_another (is_at (nat_cmp n) e.0) n e.0 refl other)
 
 -- ---- none is left
 
-none_step : {X : Type 0} (at n : ℕ) (b : Bool) (e : ℕ × X) (es : List (ℕ × X)) → nat_le at e.0 ≡ b → cond b (Some e.0) (number_from at es) ≡ None → at ≤ n
+none_step : {X : Type 0} (at n : ℕ) (b : Bool) (e : ℕ × X) (es : List (ℕ × X)) → nat_le at e.0 ≡ b
+    → cond b (Some e.0) (number_from at es) ≡ None → at ≤ n
     → (number_from at es ≡ None → lookup (is_at (nat_cmp n)) es ≡ None) → lookup (is_at (nat_cmp n)) (e ∷ es) ≡ None
 none_step at n true e es t h le ih = absurd (never h)
   where
@@ -35,21 +40,24 @@ none_step at n false e es t h le ih = passed n e es (apart e.0 n (below at e.0 n
     below : (at m n : ℕ) → nat_le at m ≡ false → at ≤ n → m < n
     below at m n h k = grind (arith, h, k)
 
-pub none_from : {X : Type 0} (at n : ℕ) (es : List (ℕ × X)) → number_from at es ≡ None → at ≤ n → lookup (is_at (nat_cmp n)) es ≡ None
+pub none_from : {X : Type 0} (at n : ℕ) (es : List (ℕ × X)) → number_from at es ≡ None → at ≤ n
+    → lookup (is_at (nat_cmp n)) es ≡ None
 none_from at n [] h le = refl
 none_from at n (e ∷ es) h le = none_step at n (nat_le at e.0) e es refl h le (λ q. none_from at n es q le)
 
 -- ---- the next one
 
 -- all items have numbers above this one, and none has it
-none_above : {X : Type 0} (n m : ℕ) (es : List (ℕ × X)) → n < m → AllByRecursion (λ k. nat_cmp m k ≡ Less) (keys_of es) → lookup (is_at (nat_cmp n)) es ≡ None
+none_above : {X : Type 0} (n m : ℕ) (es : List (ℕ × X)) → n < m → AllByRecursion (λ k. nat_cmp m k ≡ Less) (keys_of es)
+    → lookup (is_at (nat_cmp n)) es ≡ None
 none_above n m [] lt all = refl
 none_above n m (e ∷ es) lt all = passed n e es (other n m e.0 lt (below_of m e.0 all.0)) ∙ none_above n m es lt all.1
   where
     other : (n m k : ℕ) → n < m → m < k → n ≢ k
     other n m k h g = grind (arith, h, g)
 
-next_step : {X : Type 0} (at m n : ℕ) (b : Bool) (e : ℕ × X) (es : List (ℕ × X)) → IsRising (e ∷ es) → nat_le at e.0 ≡ b → cond b (Some e.0) (number_from at es) ≡ Some m → at ≤ n → n < m
+next_step : {X : Type 0} (at m n : ℕ) (b : Bool) (e : ℕ × X) (es : List (ℕ × X)) → IsRising (e ∷ es) → nat_le at e.0 ≡ b
+    → cond b (Some e.0) (number_from at es) ≡ Some m → at ≤ n → n < m
     → (number_from at es ≡ Some m → lookup (is_at (nat_cmp n)) es ≡ None) → lookup (is_at (nat_cmp n)) (e ∷ es) ≡ None
 next_step at m n true e es rising t h le lt ih =
     let same : e.0 ≡ m = cc in
@@ -64,9 +72,12 @@ next_step at m n false e es rising t h le lt ih = passed n e es (apart e.0 n (be
     below at m n h k = grind (arith, h, k)
 
 -- no item has a number between
-pub none_between : {X : Type 0} (at m n : ℕ) (es : List (ℕ × X)) → IsRising es → number_from at es ≡ Some m → at ≤ n → n < m → lookup (is_at (nat_cmp n)) es ≡ None
+pub none_between : {X : Type 0} (at m n : ℕ) (es : List (ℕ × X)) → IsRising es → number_from at es ≡ Some m → at ≤ n
+    → n < m → lookup (is_at (nat_cmp n)) es ≡ None
 none_between at m n [] rising h le lt = refl
-none_between at m n (e ∷ es) rising h le lt = next_step at m n (nat_le at e.0) e es rising refl h le lt (λ q. none_between at m n es (sorted_tail nat_cmp e.0 (keys_of es) rising) q le lt)
+none_between at m n (e ∷ es) rising h le lt =
+    next_step at m n (nat_le at e.0) e es rising refl h le lt
+    (λ q. none_between at m n es (sorted_tail nat_cmp e.0 (keys_of es) rising) q le lt)
 
 -- the number is at least the given one, and an item has it
 pub record IsNumberOf {X : Type 0} (at m : ℕ) (es : List (ℕ × X)) : Type 0 where
@@ -77,14 +88,17 @@ pub record IsNumberOf {X : Type 0} (at m : ℕ) (es : List (ℕ × X)) : Type 0 
 abbrev with_number : {X : Type 0} → X → ℕ → ℕ × X
 with_number x n = (n, x)
 
-number_step : {X : Type 0} (at m : ℕ) (b : Bool) (e : ℕ × X) (es : List (ℕ × X)) → nat_le at e.0 ≡ b → cond b (Some e.0) (number_from at es) ≡ Some m → (number_from at es ≡ Some m → IsNumberOf at m es) → IsNumberOf at m (e ∷ es)
+number_step : {X : Type 0} (at m : ℕ) (b : Bool) (e : ℕ × X) (es : List (ℕ × X)) → nat_le at e.0 ≡ b
+    → cond b (Some e.0) (number_from at es) ≡ Some m → (number_from at es ≡ Some m → IsNumberOf at m es)
+    → IsNumberOf at m (e ∷ es)
 number_step at m true e es t h ih =
     let same : m ≡ e.0 = cc in
     record { x = e.1; is_in = inl (ap (with_number e.1) same); least = subst (λ k. at ≤ k) (sym same) (from at e.0 t) }
   where
     from : (m n : ℕ) → nat_le m n ≡ true → m ≤ n
     from m n h = grind (arith, h)
-number_step at m false e es t h ih = let there = ih h in record { x = there.x; is_in = inr there.is_in; least = there.least }
+number_step at m false e es t h ih =
+    let there = ih h in record { x = there.x; is_in = inr there.is_in; least = there.least }
 
 pub number_of_entry : {X : Type 0} (at m : ℕ) (es : List (ℕ × X)) → number_from at es ≡ Some m → IsNumberOf at m es
 number_of_entry at m [] h = absurd (never h)
@@ -111,10 +125,12 @@ module _ {X Y : Type 0} (es : List (ℕ × X)) (fs : List (ℕ × Y)) (rising : 
       let both = neither (number_from at es) (number_from at fs) h in
       (none_from at n es both.0 le, none_from at n fs both.1 le)
 
-  before_of : (at m n : ℕ) (a b : Option ℕ) → number_from at es ≡ a → number_from at fs ≡ b → first_of a b ≡ Some m → at ≤ n → n < m → None_at n
+  before_of : (at m n : ℕ) (a b : Option ℕ) → number_from at es ≡ a → number_from at fs ≡ b → first_of a b ≡ Some m
+      → at ≤ n → n < m → None_at n
   before_of at m n (Some k) (Some l) a b h le lt =
       let least : min k l ≡ m = cc in
-      (none_between at k n es rising a le (to k l m n least lt), none_between at l n fs rising' b le (to' k l m n least lt))
+      (none_between at k n es rising a le (to k l m n least lt),
+      none_between at l n fs rising' b le (to' k l m n least lt))
     where
       to : (k l m n : ℕ) → min k l ≡ m → n < m → n < k
       to k l m n h g = grind (arith, h, g)
@@ -130,7 +146,8 @@ module _ {X Y : Type 0} (es : List (ℕ × X)) (fs : List (ℕ × Y)) (rising : 
   before_of at m n None None a b h le lt = cc
 
   -- no item of either has a number before the next one
-  pub none_before : (at m n : ℕ) → first_of (number_from at es) (number_from at fs) ≡ Some m → at ≤ n → n < m → None_at n
+  pub none_before : (at m n : ℕ) → first_of (number_from at es) (number_from at fs) ≡ Some m → at ≤ n → n < m
+      → None_at n
   none_before at m n h le lt = before_of at m n (number_from at es) (number_from at fs) refl refl h le lt
 
   -- all numbers are below an end, and the next one is too
@@ -139,7 +156,8 @@ module _ {X Y : Type 0} (es : List (ℕ × X)) (fs : List (ℕ × Y)) (rising : 
       pub least : at ≤ m
       pub most : m < end
 
-    next_of : (at m : ℕ) (a b : Option ℕ) → number_from at es ≡ a → number_from at fs ≡ b → first_of a b ≡ Some m → IsNext at m
+    next_of : (at m : ℕ) (a b : Option ℕ) → number_from at es ≡ a → number_from at fs ≡ b → first_of a b ≡ Some m
+        → IsNext at m
     next_of at m (Some k) (Some l) a b h =
         let least : min k l ≡ m = cc in
         let x = number_of_entry at k es a in
@@ -184,9 +202,11 @@ split_at n at = of (nat_lt n at) refl
 
 -- a property that holds below a number, between it and the next one, and of the next one, holds up to the
 -- next one
-pub walked : (P : ℕ → Type 0) (at m : ℕ) → ((n : ℕ) → n < at → P n) → ((n : ℕ) → at ≤ n → n < m → P n) → P m → (n : ℕ) → n < m + 1 → P n
+pub walked : (P : ℕ → Type 0) (at m : ℕ) → ((n : ℕ) → n < at → P n) → ((n : ℕ) → at ≤ n → n < m → P n) → P m → (n : ℕ)
+    → n < m + 1 → P n
 walked P at m below between it n lt =
-    ⊎_elim (λ (h : n < at). below n h) (λ (h : at ≤ n). ⊎_elim (λ (k : n < m). between n h k) (λ (k : m ≤ n). subst P (same m n k lt) it) (split_at n m)) (split_at n at)
+    ⊎_elim (λ (h : n < at). below n h) (λ (h : at ≤ n).
+    ⊎_elim (λ (k : n < m). between n h k) (λ (k : m ≤ n). subst P (same m n k lt) it) (split_at n m)) (split_at n at)
   where
     same : (m n : ℕ) → m ≤ n → n < m + 1 → m ≡ n
     same m n h k = omega (arith, h, k)

@@ -31,36 +31,43 @@ delay_of (Err status) is = cc
 are_delayed : {A : Type 0} (x y : Result A Status) → is_delay x ≡ is_delay y → AreDelayed x y
 are_delayed x y at = (λ is. delay_of y (sym at ∙ ap is_delay is), λ is. delay_of x (at ∙ ap is_delay is))
 
-outcome_delayed : {A : Type 0} (gives : A → Outcome) (result : Result A Status) → is_delay (outcome_from gives result) ≡ is_delay result
+outcome_delayed : {A : Type 0} (gives : A → Outcome) (result : Result A Status)
+    → is_delay (outcome_from gives result) ≡ is_delay result
 outcome_delayed gives (Ok value) = refl
 outcome_delayed gives (Err status) = refl
 
 -- the allocation succeeded both times, or failed both times
-both_delayed : {A : Type 0} (gives : A → Outcome) (x y : Result A Status) (o o' : Result Outcome Status) → o ≡ outcome_from gives x → o' ≡ outcome_from gives y
+both_delayed : {A : Type 0} (gives : A → Outcome) (x y : Result A Status) (o o' : Result Outcome Status)
+    → o ≡ outcome_from gives x → o' ≡ outcome_from gives y
     → is_delay o ≡ is_delay o' → AreDelayed x y
 both_delayed gives x y o o' outcome result' at =
-    are_delayed x y (sym (outcome_delayed gives x) ∙ (sym (ap is_delay outcome) ∙ (at ∙ (ap is_delay result' ∙ outcome_delayed gives y))))
+    are_delayed x y (sym (outcome_delayed gives x)
+    ∙ (sym (ap is_delay outcome) ∙ (at ∙ (ap is_delay result' ∙ outcome_delayed gives y))))
 
 -- an operation is run twice
 abbrev ActTwice : Result Outcome Status → Result Outcome Status → Realm → Realm → Type 0
 ActTwice o o' p q = (o ≡ o') × (p ≡ q)
 
-exchange_id_same : (caller : Identity) (v : Value exchange_id_args) (old : Realm) (o o' : Result Outcome Status) (p q : Realm)
+exchange_id_same : (caller : Identity) (v : Value exchange_id_args) (old : Realm) (o o' : Result Outcome Status)
+    (p q : Realm)
     → ExchangesId caller v old o p → ExchangesId caller v old o' q → is_delay o ≡ is_delay o' → ActTwice o o' p q
 exchange_id_same caller v old o o' p q e f at =
     let a = exchanging caller v old in
     let both = exchange_same old.registry a e.given f.given p.registry q.registry e.exchanges f.exchanges
     (both_delayed exchanged e.given f.given o o' e.outcome_is f.outcome_is at) in
-    (e.outcome_is ∙ (ap (outcome_from exchanged) both.0 ∙ sym f.outcome_is), e.others ∙ (ap (λ (r : Registry). with_registry r old) both.1 ∙ sym f.others))
+    (e.outcome_is ∙ (ap (outcome_from exchanged) both.0 ∙ sym f.outcome_is), e.others
+    ∙ (ap (λ (r : Registry). with_registry r old) both.1 ∙ sym f.others))
 
-create_session_same : (caller : Identity) (v : Value create_session_args) (old : Realm) (o o' : Result Outcome Status) (p q : Realm)
+create_session_same : (caller : Identity) (v : Value create_session_args) (old : Realm) (o o' : Result Outcome Status)
+    (p q : Realm)
     → CreatesSession caller v old o p → CreatesSession caller v old o' q → is_delay o ≡ is_delay o' → ActTwice o o' p q
 create_session_same caller v old o o' p q e f at =
     let a = create_of old.lasting caller v in
     let both = create_same old.registry a e.made f.made p.registry q.registry e.creates f.creates
     (both_delayed session_made e.made.result f.made.result o o' e.outcome_is f.outcome_is at) in (
       e.outcome_is ∙ (ap (λ (m : Made). outcome_from session_made m.result) both.0 ∙ sym f.outcome_is),
-      e.others ∙ ((λ i. record old { registry = both.1 i; opens = opens_without (both.0 i).removed old.opens }) ∙ sym f.others),
+      e.others ∙ ((λ i. record old { registry = both.1 i; opens = opens_without (both.0 i).removed old.opens })
+      ∙ sym f.others),
     )
 
 destroy_session_same : (v : Value destroy_session_args) (old : Realm) (o o' : Result Outcome Status) (p q : Realm)
@@ -98,5 +105,7 @@ place_same false true at = cc
 
 -- if the record names the same place, or none
 pub acts_same : (caller : Identity) (op : Operation) (old : Realm) (o o' : Result Outcome Status) (p q : Realm)
-    → ActsAlone caller op old o p → ActsAlone caller op old o' q → delayed_alone o ≡ delayed_alone o' → (o ≡ o') × (p ≡ q)
-acts_same caller op old o o' p q e f at = alone_same caller op old o o' p q e f (place_same (is_delay o) (is_delay o') at)
+    → ActsAlone caller op old o p → ActsAlone caller op old o' q → delayed_alone o ≡ delayed_alone o'
+    → (o ≡ o') × (p ≡ q)
+acts_same caller op old o o' p q e f at =
+    alone_same caller op old o o' p q e f (place_same (is_delay o) (is_delay o') at)

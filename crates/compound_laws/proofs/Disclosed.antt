@@ -8,7 +8,8 @@ use Rattle.nfs_types.specs.Forms.{stateid}
 use Rattle.nfs_types.specs.Given.{given_set}
 use Rattle.nfs_types.specs.Sent.{Wanted}
 use Rattle.nfs_types.specs.declared.status.Status.TheVariants as statuses
-use Rattle.nfs_ops.specs.Forms.{close_args, verify_args, nverify_args, read_args, setattr_args, write_args, reclaim_complete_args, getattr_size}
+use Rattle.nfs_ops.specs.Forms.{close_args, verify_args, nverify_args, read_args, setattr_args, write_args}
+use Rattle.nfs_ops.specs.Forms.{reclaim_complete_args, getattr_size}
 use Rattle.nfs_ops.specs.Operations.{Known}
 use Rattle.nfs_ops.specs.Parts.{set_of, values_of, set_stateid, read_offset, read_count, read_gives}
 use Rattle.nfs_ops.specs.declared.OpKind.TheVariants as kinds
@@ -40,8 +41,11 @@ getattr_seen c h asked w = (
       λ live. (
         refl,
         λ granted.
-            let same = values_seen c.book w c.caller (here h) statuses.Ok asked (may_see w c.caller h.current asked set live granted) in
-            (ap (λ values. nat_le (getattr_size (length (given_set asked)) (length values)) c.room) same, λ _. ap (λ values. Done kinds.GetAttr (given_set asked, values)) same),
+            let same =
+            values_seen c.book w c.caller (here h) statuses.Ok asked
+            (may_see w c.caller h.current asked set live granted) in
+            (ap (λ values. nat_le (getattr_size (length (given_set asked)) (length values)) c.room) same,
+            λ _. ap (λ values. Done kinds.GetAttr (given_set asked, values)) same),
       ),
     ),
   ),
@@ -60,7 +64,9 @@ verify_seen c h v w = (
         λ _. (
           refl,
           λ granted.
-              let same = values_seen c.book w c.caller (here h) statuses.Ok (set_of v) (may_see w c.caller h.current (set_of v) set live granted) in
+              let same =
+              values_seen c.book w c.caller (here h) statuses.Ok (set_of v)
+              (may_see w c.caller h.current (set_of v) set live granted) in
               (ap (λ values. pointwise nat_eq values (values_of v)) same, λ _. refl),
         ),
       ),
@@ -81,7 +87,9 @@ nverify_seen c h v w = (
         λ _. (
           refl,
           λ granted.
-              let same = values_seen c.book w c.caller (here h) statuses.Ok (set_of v) (may_see w c.caller h.current (set_of v) set live granted) in
+              let same =
+              values_seen c.book w c.caller (here h) statuses.Ok (set_of v)
+              (may_see w c.caller h.current (set_of v) set live granted) in
               (ap (λ values. not (pointwise nat_eq values (values_of v))) same, λ _. refl),
         ),
       ),
@@ -117,33 +125,44 @@ read_seen c h v w = (
   ),
 )
 
-pub close_discloses_nothing : (c : Context) (h : Handles) (v : Value close_args) → DisclosesNothing (meaning c h (Known kinds.Close v))
+pub close_discloses_nothing : (c : Context) (h : Handles) (v : Value close_args)
+    → DisclosesNothing (meaning c h (Known kinds.Close v))
 close_discloses_nothing c h v = discloses_nothing (meaning c h (Known kinds.Close v)) (close_seen c h v)
 
-pub getattr_discloses_nothing : (c : Context) (h : Handles) (asked : List ℕ) → DisclosesNothing (meaning c h (Known kinds.GetAttr asked))
-getattr_discloses_nothing c h asked = discloses_nothing (meaning c h (Known kinds.GetAttr asked)) (getattr_seen c h asked)
+pub getattr_discloses_nothing : (c : Context) (h : Handles) (asked : List ℕ)
+    → DisclosesNothing (meaning c h (Known kinds.GetAttr asked))
+getattr_discloses_nothing c h asked =
+    discloses_nothing (meaning c h (Known kinds.GetAttr asked)) (getattr_seen c h asked)
 
-pub verify_discloses_nothing : (c : Context) (h : Handles) (v : Value verify_args) → DisclosesNothing (meaning c h (Known kinds.Verify v))
+pub verify_discloses_nothing : (c : Context) (h : Handles) (v : Value verify_args)
+    → DisclosesNothing (meaning c h (Known kinds.Verify v))
 verify_discloses_nothing c h v = discloses_nothing (meaning c h (Known kinds.Verify v)) (verify_seen c h v)
 
-pub nverify_discloses_nothing : (c : Context) (h : Handles) (v : Value nverify_args) → DisclosesNothing (meaning c h (Known kinds.NVerify v))
+pub nverify_discloses_nothing : (c : Context) (h : Handles) (v : Value nverify_args)
+    → DisclosesNothing (meaning c h (Known kinds.NVerify v))
 nverify_discloses_nothing c h v = discloses_nothing (meaning c h (Known kinds.NVerify v)) (nverify_seen c h v)
 
-pub read_discloses_nothing : (c : Context) (h : Handles) (v : Value read_args) → DisclosesNothing (meaning c h (Known kinds.Read v))
+pub read_discloses_nothing : (c : Context) (h : Handles) (v : Value read_args)
+    → DisclosesNothing (meaning c h (Known kinds.Read v))
 read_discloses_nothing c h v = discloses_nothing (meaning c h (Known kinds.Read v)) (read_seen c h v)
 
 write_seen : (c : Context) (h : Handles) (v : Value write_args) → IsSeen (meaning c h (Known kinds.Write v))
-write_seen c h v w = (refl, λ _. (refl, λ _. (refl, λ _. (refl, λ _. (refl, λ _. (refl, λ _. (refl, λ _. (refl, λ _. (refl, λ _. refl)))))))))
+write_seen c h v w =
+    (refl, λ _. (refl, λ _. (refl, λ _. (refl,
+    λ _. (refl, λ _. (refl, λ _. (refl, λ _. (refl, λ _. (refl, λ _. refl)))))))))
 
-pub write_discloses_nothing : (c : Context) (h : Handles) (v : Value write_args) → DisclosesNothing (meaning c h (Known kinds.Write v))
+pub write_discloses_nothing : (c : Context) (h : Handles) (v : Value write_args)
+    → DisclosesNothing (meaning c h (Known kinds.Write v))
 write_discloses_nothing c h v = discloses_nothing (meaning c h (Known kinds.Write v)) (write_seen c h v)
 
-size_seen : (w : Realm) (c : Context) (number : ℕ) (id : Value stateid) (size : Option ℕ) → size_fault size c number id (whole w) ≡ size_fault size c number id (view w c.caller)
+size_seen : (w : Realm) (c : Context) (number : ℕ) (id : Value stateid) (size : Option ℕ)
+    → size_fault size c number id (whole w) ≡ size_fault size c number id (view w c.caller)
 size_seen w c number id None = refl
 size_seen w c number id (Some size) = refl
 
 -- every caller sees the counters, and the access control list into which a dacl, a sacl or a mode is put
-space_seen : (w : Realm) (caller : Identity) (wanted : Wanted) (number : ℕ) → has_space_to_set wanted number (whole w) ≡ has_space_to_set wanted number (view w caller)
+space_seen : (w : Realm) (caller : Identity) (wanted : Wanted) (number : ℕ)
+    → has_space_to_set wanted number (whole w) ≡ has_space_to_set wanted number (view w caller)
 unfolding can_count
 space_seen w caller wanted number = refl
 
@@ -165,12 +184,16 @@ setattr_seen c h v w = (
   ),
 )
 
-pub setattr_discloses_nothing : (c : Context) (h : Handles) (v : Value setattr_args) → DisclosesNothing (meaning c h (Known kinds.SetAttr v))
+pub setattr_discloses_nothing : (c : Context) (h : Handles) (v : Value setattr_args)
+    → DisclosesNothing (meaning c h (Known kinds.SetAttr v))
 setattr_discloses_nothing c h v = discloses_nothing (meaning c h (Known kinds.SetAttr v)) (setattr_seen c h v)
 
-reclaim_complete_seen : (c : Context) (h : Handles) (v : Value reclaim_complete_args) → IsSeen (meaning c h (Known kinds.ReclaimComplete v))
+reclaim_complete_seen : (c : Context) (h : Handles) (v : Value reclaim_complete_args)
+    → IsSeen (meaning c h (Known kinds.ReclaimComplete v))
 reclaim_complete_seen c h true w = (refl, λ _. (refl, λ _. (refl, λ _. refl)))
 reclaim_complete_seen c h false w = (refl, λ _. (refl, λ _. refl))
 
-pub reclaim_complete_discloses_nothing : (c : Context) (h : Handles) (v : Value reclaim_complete_args) → DisclosesNothing (meaning c h (Known kinds.ReclaimComplete v))
-reclaim_complete_discloses_nothing c h v = discloses_nothing (meaning c h (Known kinds.ReclaimComplete v)) (reclaim_complete_seen c h v)
+pub reclaim_complete_discloses_nothing : (c : Context) (h : Handles) (v : Value reclaim_complete_args)
+    → DisclosesNothing (meaning c h (Known kinds.ReclaimComplete v))
+reclaim_complete_discloses_nothing c h v =
+    discloses_nothing (meaning c h (Known kinds.ReclaimComplete v)) (reclaim_complete_seen c h v)

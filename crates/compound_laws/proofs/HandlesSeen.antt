@@ -40,27 +40,33 @@ readlink_seen c h w = (
     refl,
     λ set. (
       refl,
-      λ live. (refl, λ _. (refl, λ granted. (refl, λ _. ap (λ text. Done kinds.ReadLink text) (bytes_seen w c.caller (here h) (reads w c.caller h.current set live granted))))),
+      λ live. (refl, λ _. (refl, λ granted. (refl,
+      λ _. ap (λ text. Done kinds.ReadLink text)
+      (bytes_seen w c.caller (here h) (reads w c.caller h.current set live granted))))),
     ),
   ),
 )
 
-pub access_discloses_nothing : (c : Context) (h : Handles) (asked : ℕ) → DisclosesNothing (meaning c h (Known kinds.Access asked))
+pub access_discloses_nothing : (c : Context) (h : Handles) (asked : ℕ)
+    → DisclosesNothing (meaning c h (Known kinds.Access asked))
 access_discloses_nothing c h asked = discloses_nothing (meaning c h (Known kinds.Access asked)) (access_seen c h asked)
 
 pub getfh_discloses_nothing : (c : Context) (h : Handles) → DisclosesNothing (meaning c h (Known kinds.GetFh tt))
 getfh_discloses_nothing c h = discloses_nothing (meaning c h (Known kinds.GetFh tt)) (getfh_seen c h)
 
-pub putfh_discloses_nothing : (c : Context) (h : Handles) (handle : List ℕ) → DisclosesNothing (meaning c h (Known kinds.PutFh handle))
+pub putfh_discloses_nothing : (c : Context) (h : Handles) (handle : List ℕ)
+    → DisclosesNothing (meaning c h (Known kinds.PutFh handle))
 putfh_discloses_nothing c h handle = discloses_nothing (meaning c h (Known kinds.PutFh handle)) (putfh_seen c h handle)
 
-pub putrootfh_discloses_nothing : (c : Context) (h : Handles) → DisclosesNothing (meaning c h (Known kinds.PutRootFh tt))
+pub putrootfh_discloses_nothing : (c : Context) (h : Handles)
+    → DisclosesNothing (meaning c h (Known kinds.PutRootFh tt))
 putrootfh_discloses_nothing c h = discloses_nothing (meaning c h (Known kinds.PutRootFh tt)) (putrootfh_seen c h)
 
 pub savefh_discloses_nothing : (c : Context) (h : Handles) → DisclosesNothing (meaning c h (Known kinds.SaveFh tt))
 savefh_discloses_nothing c h = discloses_nothing (meaning c h (Known kinds.SaveFh tt)) (savefh_seen c h)
 
-pub restorefh_discloses_nothing : (c : Context) (h : Handles) → DisclosesNothing (meaning c h (Known kinds.RestoreFh tt))
+pub restorefh_discloses_nothing : (c : Context) (h : Handles)
+    → DisclosesNothing (meaning c h (Known kinds.RestoreFh tt))
 restorefh_discloses_nothing c h = discloses_nothing (meaning c h (Known kinds.RestoreFh tt)) (restorefh_seen c h)
 
 pub lookupp_discloses_nothing : (c : Context) (h : Handles) → DisclosesNothing (meaning c h (Known kinds.LookupP tt))

@@ -16,12 +16,15 @@ use Rattle.compound_laws.proofs.Changing.{OfWrite, OfReclaimComplete, operation_
 use Rattle.compound_laws.proofs.Operations.{laws_of}
 use Rattle.compound_laws.proofs.KeptByRuns.{Keeps}
 
-with_open_leaves : (c : Context) (v : Value open_args) (file : ℕ) (o : Option Opened) (r : Realm) → (with_open c v file o r).lasting ≡ r.lasting
+with_open_leaves : (c : Context) (v : Value open_args) (file : ℕ) (o : Option Opened) (r : Realm)
+    → (with_open c v file o r).lasting ≡ r.lasting
 with_open_leaves c v file (Some o) r = refl
 with_open_leaves c v file None r = refl
 
-opened_leaves : (c : Context) (v : Value open_args) (directory : ℕ) (file : Option ℕ) (r : Realm) → (opened_on c v directory file r).lasting ≡ r.lasting
-opened_leaves c v directory file r = with_open_leaves c v (unwrap_or file r.world.next_number) (joined c v file r.opens) r
+opened_leaves : (c : Context) (v : Value open_args) (directory : ℕ) (file : Option ℕ) (r : Realm)
+    → (opened_on c v directory file r).lasting ≡ r.lasting
+opened_leaves c v directory file r =
+    with_open_leaves c v (unwrap_or file r.world.next_number) (joined c v file r.opens) r
 
 reclaimed_leaves : (one_fs : Bool) (c : Context) (r : Realm) → (reclaimed one_fs c r).lasting ≡ r.lasting
 reclaimed_leaves true c r = refl

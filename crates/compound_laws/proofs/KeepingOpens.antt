@@ -1,5 +1,6 @@
 -- Each operation preserves the law of open files.
-use Rattle.std.proofs.Common.{◌≡◌, ℕ, ◌<◌, ◌≤◌, Bool, true, false, ◌&&◌, List, inl, inr, refl, sym, ap, subst, length, nat_lt, arith}
+use Rattle.std.proofs.Common.{◌≡◌, ℕ, ◌<◌, ◌≤◌, Bool, true, false, ◌&&◌, List, inl, inr, refl, sym, ap, subst, length}
+use Rattle.std.proofs.Common.{nat_lt, arith}
 use Rattle.std.specs.Prelude.{[], ◌∷◌, ◌++◌, ◌==◌, Option, Some, None, IsSome, Ok, not, unwrap_or, if◌then◌else◌}
 use Rattle.std.specs.List.{AllByRecursion}
 use Rattle.std.specs.Option.{option_map, option_map_or}
@@ -13,7 +14,8 @@ use Rattle.nfs_types.specs.Sent.{Wanted}
 use Rattle.nfs_types.specs.declared.status.Status.{Status}
 use Rattle.nfs_ops.specs.Forms.{open_args}
 use Rattle.nfs_ops.specs.Operations.{Operation, Known}
-use Rattle.nfs_ops.specs.Parts.{How, NoCreate, Unchecked, Guarded, Claim, ByName, ByHandle, how_of, claim_of, created_name, old_name, new_name}
+use Rattle.nfs_ops.specs.Parts.{How, NoCreate, Unchecked, Guarded, Claim, ByName, ByHandle, how_of, claim_of}
+use Rattle.nfs_ops.specs.Parts.{created_name, old_name, new_name}
 use Rattle.nfs_ops.specs.Results.{Outcome}
 use Rattle.nfs_ops.specs.declared.OpKind.TheVariants as kinds
 use Rattle.session_slots.proofs.Members.{length_filter}
@@ -30,7 +32,9 @@ use Rattle.compound_run.specs.Operations.Close.{ended}
 use Rattle.compound_run.specs.Operations.Create.{created, list_at}
 use Rattle.compound_run.specs.Lists.{set_list}
 use Rattle.compound_run.specs.Operations.Setattr.{sets_acl, sets_owner, sized, listed, owned, set_on, setting}
-use Rattle.compound_run.specs.Operations.Open.{access_of, found_by, found, found_fault, wanted, truncates, joined, reopened, with_reopened, with_open, new_open, file_of, file_in, opened_on, name_in, has_open_space, has_file_space, has_space_for}
+use Rattle.compound_run.specs.Operations.Open.{access_of, found_by, found, found_fault, wanted, truncates, joined}
+use Rattle.compound_run.specs.Operations.Open.{reopened, with_reopened, with_open, new_open, file_of, file_in}
+use Rattle.compound_run.specs.Operations.Open.{opened_on, name_in, has_open_space, has_file_space, has_space_for}
 use Rattle.compound_run.specs.Operations.{meaning}
 use Rattle.compound_run.specs.Runs.{outcome}
 use Rattle.compound_run.specs.Exact.{ArePassedOrSuffice}
@@ -45,21 +49,27 @@ use Rattle.compound_laws.proofs.Changing.{Changing, OfClose, OfCreate, OfLink, O
 use Rattle.compound_laws.proofs.Changing.{OfWrite, OfReclaimComplete, operation_of}
 use Rattle.compound_laws.proofs.Operations.{laws_of}
 use Rattle.compound_laws.proofs.KeptByRuns.{Keeps}
-use Rattle.compound_laws.proofs.LivingOpens.{LiveIn, each_left, one_more, of_child, Same, same_again, same_then, hold_same, hold_linked, hold_new, kind_there, kept_new, live_new, hold_removed, hold_renamed, hold_registry}
+use Rattle.compound_laws.proofs.LivingOpens.{LiveIn, each_left, one_more, of_child, Same, same_again, same_then}
+use Rattle.compound_laws.proofs.LivingOpens.{hold_same, hold_linked, hold_new, kind_there, kept_new, live_new}
+use Rattle.compound_laws.proofs.LivingOpens.{hold_removed, hold_renamed, hold_registry}
 
 -- ---- WRITE and SETATTR
 
 written_same : (w : World) (file offset : ℕ) (more : List ℕ) (at : At) → Same w (with_write w file offset more at)
 written_same w file offset [] at = same_again w
 written_same w file offset (byte ∷ more) at = record {
-  kinds = λ k. option_map-changed (λ o. o.kind) file (λ o. touched at (record o { bytes = written o.bytes offset (byte ∷ more) })) w.objects (λ o. refl) k;
+  kinds =
+      λ k. option_map-changed (λ o. o.kind) file
+      (λ o. touched at (record o { bytes = written o.bytes offset (byte ∷ more) })) w.objects (λ o. refl) k;
   names = refl;
   next = refl;
 }
 
 truncated_same : (w : World) (file size : ℕ) (at : At) → Same w (with_size w file size at)
 truncated_same w file size at = record {
-  kinds = λ k. option_map-changed (λ o. o.kind) file (λ o. touched at (record o { bytes = resized o.bytes size })) w.objects (λ o. refl) k;
+  kinds =
+      λ k. option_map-changed (λ o. o.kind) file (λ o. touched at (record o { bytes = resized o.bytes size })) w.objects
+      (λ o. refl) k;
   names = refl;
   next = refl;
 }
@@ -71,9 +81,13 @@ sized_same w file (Some size) at = truncated_same w file size at
 listed_same : (w : World) (number : ℕ) (o : Object) (wanted : Wanted) (at : At) → Same w (listed number o wanted at w)
 listed_same w number o wanted at = of (sets_acl wanted)
   where
-    of : (b : Bool) → Same w (if b then with_list w number (set_list wanted o.kind o.list) (changed_high o.high wanted.mode) at else w)
+    of : (b : Bool) → Same w (if b then with_list w number (set_list wanted o.kind o.list)
+        (changed_high o.high wanted.mode) at else w)
     of true = record {
-      kinds = λ k. option_map-changed (λ o. o.kind) number (λ x. retold at (record x { list = set_list wanted o.kind o.list; high = changed_high o.high wanted.mode; stamp = w.next_stamp })) w.objects (λ o. refl) k;
+      kinds =
+          λ k. option_map-changed (λ o. o.kind) number
+          (λ x. retold at (record x { list = set_list wanted o.kind o.list; high = changed_high o.high wanted.mode;
+          stamp = w.next_stamp })) w.objects (λ o. refl) k;
       names = refl;
       next = refl;
     }
@@ -82,9 +96,13 @@ listed_same w number o wanted at = of (sets_acl wanted)
 owned_same : (w : World) (number : ℕ) (o : Object) (wanted : Wanted) (at : At) → Same w (owned number o wanted at w)
 owned_same w number o wanted at = of (sets_owner wanted)
   where
-    of : (b : Bool) → Same w (if b then with_owner w number (unwrap_or wanted.owner o.owner) (unwrap_or wanted.group o.group) at else w)
+    of : (b : Bool) → Same w (if b then with_owner w number (unwrap_or wanted.owner o.owner)
+        (unwrap_or wanted.group o.group) at else w)
     of true = record {
-      kinds = λ k. option_map-changed (λ o. o.kind) number (λ x. retold at (record x { owner = unwrap_or wanted.owner o.owner; group = unwrap_or wanted.group o.group; stamp = w.next_stamp })) w.objects (λ o. refl) k;
+      kinds =
+          λ k. option_map-changed (λ o. o.kind) number
+          (λ x. retold at (record x { owner = unwrap_or wanted.owner o.owner; group = unwrap_or wanted.group o.group;
+          stamp = w.next_stamp })) w.objects (λ o. refl) k;
       names = refl;
       next = refl;
     }
@@ -99,29 +117,38 @@ setting_same number wanted at w = of (object w number)
     of (Some o) =
         let mid = sized number wanted.size at w in
         let next = listed number o wanted at mid in
-        same_then w mid (owned number o wanted at next) (sized_same w number wanted.size at) (same_then mid next (owned number o wanted at next) (listed_same mid number o wanted at) (owned_same next number o wanted at))
+        same_then w mid (owned number o wanted at next) (sized_same w number wanted.size at)
+        (same_then mid next (owned number o wanted at next) (listed_same mid number o wanted at)
+        (owned_same next number o wanted at))
 
 -- ---- CLOSE
 
 hold_closed : (r : Realm) (number : ℕ) → OpensHold r → OpensHold (ended number r)
 hold_closed r number hold = record {
-  live = each_left (LiveIn r.world) (LiveIn r.world) (λ (o : Opened). not (o.number == number)) r.opens (λ o other is. is) hold.live;
-  few = let less = length_filter (λ (o : Opened). not (o.number == number)) r.opens in let few = hold.few in omega (arith, less, few);
+  live =
+      each_left (LiveIn r.world) (LiveIn r.world) (λ (o : Opened). not (o.number == number)) r.opens
+      (λ o other is. is) hold.live;
+  few =
+      let less = length_filter (λ (o : Opened). not (o.number == number)) r.opens in
+      let few = hold.few in omega (arith, less, few);
   kept = hold.kept;
 }
 
 -- ---- OPEN
 
-one_reopened : (w : World) (access number : ℕ) (o : Opened) → kind_of w o.object ≡ Some File → kind_of w (if o.number == number then reopened access o else o).object ≡ Some File
+one_reopened : (w : World) (access number : ℕ) (o : Opened) → kind_of w o.object ≡ Some File
+    → kind_of w (if o.number == number then reopened access o else o).object ≡ Some File
 one_reopened w access number o is = of (o.number == number)
   where
     of : (b : Bool) → kind_of w (if b then reopened access o else o).object ≡ Some File
     of true = is
     of false = is
 
-all_reopened : (w : World) (access number : ℕ) (opens : List Opened) → AllByRecursion (LiveIn w) opens → AllByRecursion (LiveIn w) (with_reopened number access opens)
+all_reopened : (w : World) (access number : ℕ) (opens : List Opened) → AllByRecursion (LiveIn w) opens
+    → AllByRecursion (LiveIn w) (with_reopened number access opens)
 all_reopened w access number [] live = tt
-all_reopened w access number (o ∷ opens) live = (one_reopened w access number o live.0, all_reopened w access number opens live.1)
+all_reopened w access number (o ∷ opens) live =
+    (one_reopened w access number o live.0, all_reopened w access number opens live.1)
 
 -- one more fitted
 within : (n : ℕ) (more : Bool) → nat_lt n 4096 && more ≡ true → n < 4096
@@ -135,10 +162,14 @@ few_more : (opens : List Opened) (o : Opened) → length opens < 4096 → length
 few_more opens o less = let long = length-append opens (o ∷ []) in omega (arith, long, less)
 
 -- an existing file is opened
-hold_found : (c : Context) (v : Value open_args) (directory file : ℕ) (r : Realm) (o : Option Opened) → kind_of r.world file ≡ Some File → has_open_space o (whole r) ≡ true → OpensHold r → OpensHold (with_open c v file o r)
+hold_found : (c : Context) (v : Value open_args) (directory file : ℕ) (r : Realm) (o : Option Opened)
+    → kind_of r.world file ≡ Some File → has_open_space o (whole r) ≡ true → OpensHold r
+    → OpensHold (with_open c v file o r)
 hold_found c v directory file r (Some o) is space hold = record {
   live = all_reopened r.world (access_of v) o.number r.opens hold.live;
-  few = let long = length-map r.opens (λ (x : Opened). if x.number == o.number then reopened (access_of v) x else x) in let few = hold.few in omega (arith, long, few);
+  few =
+      let long = length-map r.opens (λ (x : Opened). if x.number == o.number then reopened (access_of v) x else x) in
+      let few = hold.few in omega (arith, long, few);
   kept = hold.kept;
 }
 hold_found c v directory file r None is space hold = record {
@@ -148,19 +179,24 @@ hold_found c v directory file r None is space hold = record {
 }
 
 -- a new file is opened
-hold_made : (c : Context) (v : Value open_args) (directory : ℕ) (r : Realm) → has_open_space None (whole r) ≡ true → OpensHold r → OpensHold (opened_on c v directory None r)
+hold_made : (c : Context) (v : Value open_args) (directory : ℕ) (r : Realm) → has_open_space None (whole r) ≡ true
+    → OpensHold r → OpensHold (opened_on c v directory None r)
 hold_made c v directory r space hold =
     let w = r.world in
     let made = created c (file_of (wanted c v)) (wanted c v) (list_at w directory) w.next_stamp (at c w) in
     let name = name_in (claim_of v) in
     record {
-      live = one_more (LiveIn (file_in c v directory None w)) r.opens (new_open c v r.next_open w.next_number) (live_new w directory name made (at c w) hold.kept r.opens hold.live) (kind_there w directory name made (at c w) hold.kept);
+      live =
+          one_more (LiveIn (file_in c v directory None w)) r.opens (new_open c v r.next_open w.next_number)
+          (live_new w directory name made (at c w) hold.kept r.opens hold.live)
+          (kind_there w directory name made (at c w) hold.kept);
       few = few_more r.opens (new_open c v r.next_open w.next_number) (within (length r.opens) _ space);
       kept = kept_new w directory name made (at c w) hold.kept;
     }
 
 -- a truncated file still exists
-file_same : (c : Context) (v : Value open_args) (directory file : ℕ) (w : World) → Same w (file_in c v directory (Some file) w)
+file_same : (c : Context) (v : Value open_args) (directory file : ℕ) (w : World)
+    → Same w (file_in c v directory (Some file) w)
 file_same c v directory file w = of (truncates c v)
   where
     of : (b : Bool) → Same w (if b then with_size w file 0 (at c w) else w)
@@ -181,7 +217,8 @@ found_kind (Unchecked set) Directory none = cc
 found_kind (Unchecked set) Link none = cc
 found_kind (Guarded set) kind none = cc
 
-found_there : (r : Realm) (h : Handles) (claim : Claim) (file : ℕ) → OpensHold r → IsSome (kind_of r.world (here h)) → found_by claim h (whole r) ≡ Some file → IsSome (kind_of r.world file)
+found_there : (r : Realm) (h : Handles) (claim : Claim) (file : ℕ) → OpensHold r → IsSome (kind_of r.world (here h))
+    → found_by claim h (whole r) ≡ Some file → IsSome (kind_of r.world file)
 found_there r h (ByName name) file hold live is = of_child r.world (here h) name file hold.kept is
 found_there r h ByHandle file hold live is = subst (λ x. IsSome (kind_of r.world (number_in x))) is live
 
@@ -189,9 +226,12 @@ second : (a b : Bool) → a && b ≡ true → b ≡ true
 second true b h = h
 second false b h = cc
 
-hold_opened : (c : Context) (v : Value open_args) (h : Handles) (r : Realm) (file : Option ℕ) → found v h (whole r) ≡ file → IsSome (kind_of r.world (here h)) → found_fault (how_of v) (option_map (kind_at (whole r)) file) ≡ None
+hold_opened : (c : Context) (v : Value open_args) (h : Handles) (r : Realm) (file : Option ℕ)
+    → found v h (whole r) ≡ file → IsSome (kind_of r.world (here h))
+    → found_fault (how_of v) (option_map (kind_at (whole r)) file) ≡ None
     → has_space_for c v (here h) file (whole r) ≡ true → OpensHold r → OpensHold (opened_on c v (here h) file r)
-hold_opened c v h r None is live fault space hold = hold_made c v (here h) r (second (has_file_space c v (here h) None (whole r)) _ space) hold
+hold_opened c v h r None is live fault space hold =
+    hold_made c v (here h) r (second (has_file_space c v (here h) None (whole r)) _ space) hold
 hold_opened c v h r (Some file) is live fault space hold =
     let there = found_there r h (claim_of v) file hold live is in
     let kind = is_kind (kind_of r.world file) there (found_kind (how_of v) (kind_at (whole r) file) fault) in
@@ -199,9 +239,14 @@ hold_opened c v h r (Some file) is live fault space hold =
     let opened = hold_found c v (here h) file r (joined c v (Some file) r.opens) kind open_space hold in
     hold_again (joined c v (Some file) r.opens) opened
   where
-    hold_again : (o : Option Opened) → OpensHold (with_open c v file o r) → OpensHold (record (with_open c v file o r) { world = file_in c v (here h) (Some file) r.world })
-    hold_again None opened = hold_same (with_open c v file None r) (file_in c v (here h) (Some file) r.world) (file_same c v (here h) file r.world) opened
-    hold_again (Some o) opened = hold_same (with_open c v file (Some o) r) (file_in c v (here h) (Some file) r.world) (file_same c v (here h) file r.world) opened
+    hold_again : (o : Option Opened) → OpensHold (with_open c v file o r)
+        → OpensHold (record (with_open c v file o r) { world = file_in c v (here h) (Some file) r.world })
+    hold_again None opened =
+        hold_same (with_open c v file None r) (file_in c v (here h) (Some file) r.world)
+        (file_same c v (here h) file r.world) opened
+    hold_again (Some o) opened =
+        hold_same (with_open c v file (Some o) r) (file_in c v (here h) (Some file) r.world)
+        (file_same c v (here h) file r.world) opened
 
 -- ---- RECLAIM_COMPLETE
 
@@ -215,8 +260,12 @@ no_failure : (f : Option Status) (answer o : Outcome) → result_unless f answer
 no_failure None answer o is = refl
 no_failure (Some status) answer o is = cc
 
-all_passed : (c : Context) (h : Handles) (op : Operation) (r : Realm) (o : Outcome) → outcome (meaning c h op) r ≡ Ok o → ArePassedOrSuffice (meaning c h op).caller (whole r) (meaning c h op).questions
-all_passed c h op r o is = let m = meaning c h op in passed m.caller (whole r) m.questions (no_failure (failure m.caller (whole r) m.questions) (m.answer (whole r)) o is)
+all_passed : (c : Context) (h : Handles) (op : Operation) (r : Realm) (o : Outcome) → outcome (meaning c h op) r ≡ Ok o
+    → ArePassedOrSuffice (meaning c h op).caller (whole r) (meaning c h op).questions
+all_passed c h op r o is =
+    let m = meaning c h op in
+    passed m.caller (whole r) m.questions (no_failure (failure m.caller (whole r) m.questions)
+    (m.answer (whole r)) o is)
 
 changing_keeps : (c : Context) (h : Handles) (k : Changing) (r : Realm) (o : Outcome) → OpensHold r
     → outcome (meaning c h (operation_of k)) r ≡ Ok o → OpensHold ((meaning c h (operation_of k)).effect r)
@@ -250,11 +299,16 @@ operations_keep c h op r o hold is =
 -- ---- each call
 
 -- the opens of a client are closed
-hold_without : (r : Realm) (registry : Registry) (expired : Option ℕ) → OpensHold r → OpensHold (record r { registry = registry; opens = opens_without expired r.opens })
+hold_without : (r : Realm) (registry : Registry) (expired : Option ℕ) → OpensHold r
+    → OpensHold (record r { registry = registry; opens = opens_without expired r.opens })
 hold_without r registry None hold = record { live = hold.live; few = hold.few; kept = hold.kept }
 hold_without r registry (Some client) hold = record {
-  live = each_left (LiveIn r.world) (LiveIn r.world) (λ o. not (o.client == client)) r.opens (λ o stays live. live) hold.live;
-  few = let less = length_filter (λ (o : Opened). not (o.client == client)) r.opens in let few = hold.few in omega (arith, less, few);
+  live =
+      each_left (LiveIn r.world) (LiveIn r.world) (λ o. not (o.client == client)) r.opens
+      (λ o stays live. live) hold.live;
+  few =
+      let less = length_filter (λ (o : Opened). not (o.client == client)) r.opens in
+      let few = hold.few in omega (arith, less, few);
   kept = hold.kept;
 }
 

@@ -22,7 +22,9 @@ use Rattle.compound_run.specs.Questions.{all_granted}
 use Rattle.compound_run.specs.Rows.{object_of, opening_facts}
 use Rattle.compound_run.specs.Lists.{new_fits}
 use Rattle.compound_run.specs.Values.{list_at}
-use Rattle.compound_run.specs.Operations.Open.{found_by, found, found_fault, wanted, joined, is_permitted, is_within, has_file_space, has_open_space, has_space_for, change_of, stateid_of, set_by, result_on}
+use Rattle.compound_run.specs.Operations.Open.{found_by, found, found_fault, wanted, joined, is_permitted, is_within}
+use Rattle.compound_run.specs.Operations.Open.{has_file_space, has_open_space, has_space_for, change_of, stateid_of}
+use Rattle.compound_run.specs.Operations.Open.{set_by, result_on}
 use Rattle.compound_run.specs.Meaning.{here}
 use Rattle.compound_run.specs.Operations.{meaning}
 use Rattle.compound_laws.specs.Disclosure.{DisclosesNothing}
@@ -31,38 +33,49 @@ use Rattle.compound_laws.proofs.NamesSeen.{names_seen, executes}
 
 -- the first row of an OPEN, by its claim
 abbrev Opens : Realm → Identity → Handles → Claim → Type 0
-Opens w caller h claim = all_granted (judged_of w.world) caller (open_first claim (object_of (whole w) h.current) ∷ None ∷ []) ≡ true
+Opens w caller h claim =
+    all_granted (judged_of w.world) caller (open_first claim (object_of (whole w) h.current) ∷ None ∷ []) ≡ true
 
 -- a name is looked up if EXECUTE is granted; a filehandle is the current filehandle
-found_seen : (w : Realm) (caller : Identity) (h : Handles) (claim : Claim) → is_some h.current ≡ true → is_some (kind_of w.world (here h)) ≡ true → Opens w caller h claim
+found_seen : (w : Realm) (caller : Identity) (h : Handles) (claim : Claim) → is_some h.current ≡ true
+    → is_some (kind_of w.world (here h)) ≡ true → Opens w caller h claim
     → found_by claim h (whole w) ≡ found_by claim h (view w caller)
-found_seen w caller h (ByName name) set live granted = ap (λ all. child_in all name) (names_seen w caller (here h) (executes w caller h.current EXECUTE (omega arith) refl refl set live granted))
+found_seen w caller h (ByName name) set live granted =
+    ap (λ all. child_in all name) (names_seen w caller (here h)
+    (executes w caller h.current EXECUTE (omega arith) refl refl set live granted))
 found_seen w caller h ByHandle set live granted = refl
 
 apart : false ≡ true → ⊥
 apart h = cc
 
 -- a new file is created by name
-space_seen : (c : Context) (v : Value open_args) (w : Realm) (h : Handles) (claim : Claim) (file : Option ℕ) → is_some h.current ≡ true → is_some (kind_of w.world (here h)) ≡ true → Opens w c.caller h claim
-    → found_by claim h (whole w) ≡ file → has_file_space c v (here h) file (whole w) ≡ has_file_space c v (here h) file (view w c.caller)
+space_seen : (c : Context) (v : Value open_args) (w : Realm) (h : Handles) (claim : Claim) (file : Option ℕ)
+    → is_some h.current ≡ true → is_some (kind_of w.world (here h)) ≡ true → Opens w c.caller h claim
+    → found_by claim h (whole w) ≡ file → has_file_space c v (here h) file (whole w)
+    ≡ has_file_space c v (here h) file (view w c.caller)
 space_seen c v w h (ByName name) None set live granted is =
-    ap (λ all. has_left w.world.next_tick && (new_fits (wanted c v) File (list_at (whole w) (here h)) && may_add (length all) (length w.world.objects) w.world.next_number w.world.next_stamp w.world.next_cookie))
+    ap (λ all. has_left w.world.next_tick && (new_fits (wanted c v) File (list_at (whole w) (here h))
+    && may_add (length all) (length w.world.objects) w.world.next_number w.world.next_stamp w.world.next_cookie))
     (names_seen w c.caller (here h) (executes w c.caller h.current EXECUTE (omega arith) refl refl set live granted))
 space_seen c v w h ByHandle None set live granted is = absurd (apart (ap is_some (sym is) ∙ set))
 space_seen c v w h claim (Some file) set live granted is = refl
 
-open_space_seen : (w : Realm) (caller : Identity) (o : Option Opened) → has_open_space o (whole w) ≡ has_open_space o (view w caller)
+open_space_seen : (w : Realm) (caller : Identity) (o : Option Opened)
+    → has_open_space o (whole w) ≡ has_open_space o (view w caller)
 open_space_seen w caller None = refl
 open_space_seen w caller (Some o) = refl
 
-change_seen : (w : Realm) (caller : Identity) (directory : ℕ) (claim : Claim) (file : Option ℕ) → change_of claim directory file (whole w) ≡ change_of claim directory file (view w caller)
+change_seen : (w : Realm) (caller : Identity) (directory : ℕ) (claim : Claim) (file : Option ℕ)
+    → change_of claim directory file (whole w) ≡ change_of claim directory file (view w caller)
 change_seen w caller directory (ByName name) None = refl
 change_seen w caller directory (ByName name) (Some file) = refl
 change_seen w caller directory ByHandle file = refl
 
-result_seen : (c : Context) (v : Value open_args) (w : Realm) (directory : ℕ) (file : Option ℕ) → result_on c v directory file (whole w) ≡ result_on c v directory file (view w c.caller)
+result_seen : (c : Context) (v : Value open_args) (w : Realm) (directory : ℕ) (file : Option ℕ)
+    → result_on c v directory file (whole w) ≡ result_on c v directory file (view w c.caller)
 result_seen c v w directory file =
-    ap (λ change. let r : Value open_result = (stateid_of (joined c v file w.opens) w.next_open, (change, (inl tt, (set_by c v file, inl tt)))) in r) (change_seen w c.caller directory (claim_of v) file)
+    ap (λ change. let r : Value open_result = (stateid_of (joined c v file w.opens) w.next_open,
+    (change, (inl tt, (set_by c v file, inl tt)))) in r) (change_seen w c.caller directory (claim_of v) file)
 
 open_seen : (c : Context) (h : Handles) (v : Value open_args) → IsSeen (meaning c h (Known kinds.Open v))
 open_seen c h v w = (
@@ -91,9 +104,12 @@ open_seen c h v w = (
                           λ i. is_within c v (file i),
                           λ _. (
                             ap (λ b. b && has_open_space (joined c v (found v h (whole w)) w.opens) (whole w)) space
-                                ∙ ap (λ b. has_file_space c v (here h) (found v h (whole w)) (view w c.caller) && b) (open_space_seen w c.caller (joined c v (found v h (whole w)) w.opens))
+                                ∙ ap (λ b. has_file_space c v (here h) (found v h (whole w)) (view w c.caller) && b)
+                                (open_space_seen w c.caller (joined c v (found v h (whole w)) w.opens))
                                 ∙ (λ i. has_space_for c v (here h) (file i) (view w c.caller)),
-                            λ _. ap (λ result. Done kinds.Open result) (ap (λ x. result_on c v (here h) x (whole w)) file ∙ result_seen c v w (here h) (found v h (view w c.caller))),
+                            λ _. ap (λ result. Done kinds.Open result)
+                            (ap (λ x. result_on c v (here h) x (whole w)) file
+                            ∙ result_seen c v w (here h) (found v h (view w c.caller))),
                           ),
                         ),
                       ),
@@ -107,5 +123,6 @@ open_seen c h v w = (
   ),
 )
 
-pub open_discloses_nothing : (c : Context) (h : Handles) (v : Value open_args) → DisclosesNothing (meaning c h (Known kinds.Open v))
+pub open_discloses_nothing : (c : Context) (h : Handles) (v : Value open_args)
+    → DisclosesNothing (meaning c h (Known kinds.Open v))
 open_discloses_nothing c h v = discloses_nothing (meaning c h (Known kinds.Open v)) (open_seen c h v)

@@ -16,13 +16,20 @@ use Rattle.compound_run.specs.Questions.{all_granted}
 use Rattle.compound_run.specs.Sight.{Sight}
 use Rattle.compound_laws.specs.Disclosure.{DisclosesNothing}
 use Rattle.compound_laws.specs.internal.Lines.{AreExactly}
-use Rattle.compound_laws.specs.RowsAsked.{first_of, second_of, table_rows, HasNoFirst, HasNoSecond, IsAmong, IsOntoItself}
+use Rattle.compound_laws.specs.RowsAsked.{first_of, second_of, table_rows, HasNoFirst, HasNoSecond, IsAmong}
+use Rattle.compound_laws.specs.RowsAsked.{IsOntoItself}
 use Rattle.compound_laws.proofs.Changing.{Parts, OfClose, OfCreate, OfLink, OfOpen, OfRemove, OfRename, OfSetAttr}
 use Rattle.compound_laws.proofs.Changing.{OfWrite, OfReclaimComplete}
 use Rattle.compound_laws.proofs.Seen.{IsSeen, discloses_nothing, lookup_discloses_nothing, remove_discloses_nothing}
-use Rattle.compound_laws.proofs.HandlesSeen.{access_discloses_nothing, getfh_discloses_nothing, lookupp_discloses_nothing, putfh_discloses_nothing, putrootfh_discloses_nothing, readlink_discloses_nothing, restorefh_discloses_nothing, savefh_discloses_nothing}
+use Rattle.compound_laws.proofs.HandlesSeen.{access_discloses_nothing, getfh_discloses_nothing}
+use Rattle.compound_laws.proofs.HandlesSeen.{lookupp_discloses_nothing, putfh_discloses_nothing}
+use Rattle.compound_laws.proofs.HandlesSeen.{putrootfh_discloses_nothing, readlink_discloses_nothing}
+use Rattle.compound_laws.proofs.HandlesSeen.{restorefh_discloses_nothing, savefh_discloses_nothing}
 use Rattle.compound_laws.proofs.NamesSeen.{create_discloses_nothing, link_discloses_nothing, rename_discloses_nothing}
-use Rattle.compound_laws.proofs.Disclosed.{close_discloses_nothing, getattr_discloses_nothing, nverify_discloses_nothing, read_discloses_nothing, reclaim_complete_discloses_nothing, setattr_discloses_nothing, verify_discloses_nothing, write_discloses_nothing}
+use Rattle.compound_laws.proofs.Disclosed.{close_discloses_nothing, getattr_discloses_nothing}
+use Rattle.compound_laws.proofs.Disclosed.{nverify_discloses_nothing, read_discloses_nothing}
+use Rattle.compound_laws.proofs.Disclosed.{reclaim_complete_discloses_nothing, setattr_discloses_nothing}
+use Rattle.compound_laws.proofs.Disclosed.{verify_discloses_nothing, write_discloses_nothing}
 use Rattle.compound_laws.proofs.ListingSeen.{readdir_discloses_nothing}
 use Rattle.compound_laws.proofs.OpenSeen.{open_discloses_nothing}
 
@@ -48,12 +55,16 @@ pub record Laws (c : Context) (h : Handles) (op : Operation) : Type 0 where
   pub second_granted : (s : Sight) → Passed c h op s → IsGranted c (second_of c h op) s ⊎ IsOntoItself h op s
 
 -- an operation that is refused in every realm
-refused_seen : (c : Context) (h : Handles) (op : Operation) (number : ℕ) (status : Status) (is : IsFault status) → IsSeen (entered (entry_fault c op) (entry_may c op) (refusing c h number status is))
+refused_seen : (c : Context) (h : Handles) (op : Operation) (number : ℕ) (status : Status) (is : IsFault status)
+    → IsSeen (entered (entry_fault c op) (entry_may c op) (refusing c h number status is))
 refused_seen c h op number status is w = (refl, λ _. (refl, λ _. refl))
 
-refusals_disclose_nothing : (c : Context) (h : Handles) (op : Operation) (number : ℕ) (status : Status) (is : IsFault status)
+refusals_disclose_nothing : (c : Context) (h : Handles) (op : Operation) (number : ℕ) (status : Status)
+    (is : IsFault status)
     → DisclosesNothing (entered (entry_fault c op) (entry_may c op) (refusing c h number status is))
-refusals_disclose_nothing c h op number status is = discloses_nothing (entered (entry_fault c op) (entry_may c op) (refusing c h number status is)) (refused_seen c h op number status is)
+refusals_disclose_nothing c h op number status is =
+    discloses_nothing (entered (entry_fault c op) (entry_may c op) (refusing c h number status is))
+    (refused_seen c h op number status is)
 
 -- one of these, after a question that may suffice
 unless : {A B C : Type 0} → (A → B) → C ⊎ A → B ⊎ C
@@ -86,7 +97,9 @@ laws_of c h (Known kinds.Close v) = record {
   second_granted = λ s p. inl refl;
 }
 laws_of c h (Known kinds.Commit v) = record {
-  discloses = discloses_nothing (meaning c h (Known kinds.Commit v)) (λ w. (refl, λ _. (refl, λ _. (refl, λ _. (refl, λ _. (refl, λ _. refl))))));
+  discloses =
+      discloses_nothing (meaning c h (Known kinds.Commit v))
+      (λ w. (refl, λ _. (refl, λ _. (refl, λ _. (refl, λ _. (refl, λ _. refl))))));
   changes = inl (λ r. refl);
   asks = (refl, refl);
   first_asked = inr (λ facts. tt);
@@ -284,7 +297,8 @@ laws_of c h (Known kinds.ReclaimComplete v) = record {
   second_granted = λ s p. inl refl;
 }
 laws_of c h (Known kinds.ExchangeId v) = record {
-  discloses = refusals_disclose_nothing c h (Known kinds.ExchangeId v) (row kinds.ExchangeId).number statuses.NotSupp tt;
+  discloses =
+      refusals_disclose_nothing c h (Known kinds.ExchangeId v) (row kinds.ExchangeId).number statuses.NotSupp tt;
   changes = inl (λ r. refl);
   asks = (refl, refl);
   first_asked = inr (λ facts. tt);
@@ -293,7 +307,8 @@ laws_of c h (Known kinds.ExchangeId v) = record {
   second_granted = λ s p. inl refl;
 }
 laws_of c h (Known kinds.CreateSession v) = record {
-  discloses = refusals_disclose_nothing c h (Known kinds.CreateSession v) (row kinds.CreateSession).number statuses.NotSupp tt;
+  discloses =
+      refusals_disclose_nothing c h (Known kinds.CreateSession v) (row kinds.CreateSession).number statuses.NotSupp tt;
   changes = inl (λ r. refl);
   asks = (refl, refl);
   first_asked = inr (λ facts. tt);
@@ -302,7 +317,9 @@ laws_of c h (Known kinds.CreateSession v) = record {
   second_granted = λ s p. inl refl;
 }
 laws_of c h (Known kinds.DestroySession v) = record {
-  discloses = refusals_disclose_nothing c h (Known kinds.DestroySession v) (row kinds.DestroySession).number statuses.NotSupp tt;
+  discloses =
+      refusals_disclose_nothing c h (Known kinds.DestroySession v)
+      (row kinds.DestroySession).number statuses.NotSupp tt;
   changes = inl (λ r. refl);
   asks = (refl, refl);
   first_asked = inr (λ facts. tt);
@@ -320,7 +337,9 @@ laws_of c h (Known kinds.Sequence v) = record {
   second_granted = λ s p. inl refl;
 }
 laws_of c h (Known kinds.DestroyClientId v) = record {
-  discloses = refusals_disclose_nothing c h (Known kinds.DestroyClientId v) (row kinds.DestroyClientId).number statuses.NotSupp tt;
+  discloses =
+      refusals_disclose_nothing c h (Known kinds.DestroyClientId v)
+      (row kinds.DestroyClientId).number statuses.NotSupp tt;
   changes = inl (λ r. refl);
   asks = (refl, refl);
   first_asked = inr (λ facts. tt);

@@ -106,7 +106,8 @@ fails caller s (Suffices test ∷ before) after row refused =
     (fails caller s before after row refused)
 
 -- the answer after a failure
-answered : (f : Option Status) (given : Outcome) (status : Status) → f ≡ Some status → result_unless f given ≡ Err status
+answered : (f : Option Status) (given : Outcome) (status : Status) → f ≡ Some status
+    → result_unless f given ≡ Err status
 answered f given status is = rw is refl
 
 pub is_refused : (m : Meaning) (r : Realm) (before after : List Question) (row : Sight → Demands)

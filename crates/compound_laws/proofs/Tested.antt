@@ -24,12 +24,14 @@ neither true b is = cc
 neither false b is = (refl, is)
 
 -- if no number of a list passes, a number of it doesn't
-pub fails : (p : ℕ → Bool) (ns : List ℕ) (n : ℕ) → list_any p ns ≡ false → list_any (λ m. nat_eq m n) ns ≡ true → p n ≡ false
+pub fails : (p : ℕ → Bool) (ns : List ℕ) (n : ℕ) → list_any p ns ≡ false → list_any (λ m. nat_eq m n) ns ≡ true
+    → p n ≡ false
 fails p [] n none there = cc
 fails p (m ∷ ns) n none there =
     let parts = neither (p m) (list_any p ns) none in
     of (cases_Bool (nat_eq m n)) parts.0 (λ later. fails p ns n parts.1 later)
   where
-    of : (nat_eq m n ≡ true) ⊎ (nat_eq m n ≡ false) → p m ≡ false → (list_any (λ k. nat_eq k n) ns ≡ true → p n ≡ false) → p n ≡ false
+    of : (nat_eq m n ≡ true) ⊎ (nat_eq m n ≡ false) → p m ≡ false → (list_any (λ k. nat_eq k n) ns ≡ true → p n ≡ false)
+        → p n ≡ false
     of (inl is) first others = ap p (sym (eqb-true m n is)) ∙ first
     of (inr isnt) first others = others (ap (λ b. b || list_any (λ k. nat_eq k n) ns) (sym isnt) ∙ there)

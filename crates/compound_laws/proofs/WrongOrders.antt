@@ -112,5 +112,6 @@ apart r a b = cc
 pub discloses : (c : Context) (name : List ℕ) → name_fault name ≡ None
     → ((h : Handles) → DisclosesNothing (disclosing_lookup name c h)) → ⊥
 discloses c name valid law =
-    let equal = law at_root (unopened (with_name name)) (unopened (with_name (longer name))) (look_alike c.caller name) in
+    let equal =
+    law at_root (unopened (with_name name)) (unopened (with_name (longer name))) (look_alike c.caller name) in
     apart (answer_in c name name) (refused c name valid) (ap (λ p. p.0) equal ∙ absent c name valid)

@@ -24,7 +24,8 @@ use Rattle.compound_run.proofs.Exactly.{never_delays}
 err_same : (a b : Status) → ◌≡◌ {A = Result Outcome Status} (Err a) (Err b) → a ≡ b
 err_same a b e = cc
 
-result_never_delay : (fault : Option Status) (o : Outcome) → fault ≢ Some statuses.Delay → result_unless fault o ≢ Err statuses.Delay
+result_never_delay : (fault : Option Status) (o : Outcome) → fault ≢ Some statuses.Delay
+    → result_unless fault o ≢ Err statuses.Delay
 result_never_delay None o apart e = cc
 result_never_delay (Some status) o apart e = apart (ap Some (err_same status statuses.Delay e))
 
@@ -45,16 +46,22 @@ undelayed (Err status) result_unless = of (is_delay_status status) refl
     of false is = is
     of true is = absurd (result_unless (ap Err (delay_is status is)))
 
-kept : (r : Result Outcome Status) (before after : Log) → r ≢ Err statuses.Delay → before ≡ after → settled (not (is_delay r)) before ≡ settled true after
-kept r before after result_unless is = ap (λ b. settled (not b) before) (undelayed r result_unless) ∙ ap (settled true) is
+kept : (r : Result Outcome Status) (before after : Log) → r ≢ Err statuses.Delay → before ≡ after
+    → settled (not (is_delay r)) before ≡ settled true after
+kept r before after result_unless is =
+    ap (λ b. settled (not b) before) (undelayed r result_unless) ∙ ap (settled true) is
 
-lines_kept : (may : Bool) (m : Meaning) (old : Point) (r : Result Outcome Status) (new : Point) → Answered may m waits old r new
+lines_kept : (may : Bool) (m : Meaning) (old : Point) (r : Result Outcome Status) (new : Point)
+    → Answered may m waits old r new
     → Unless may r (settled (not (is_delay r)) new.log ≡ settled true (held (traced m old.realm) old.log))
-lines_kept true m old r new a = λ result_unless. kept r new.log (held (traced m old.realm) old.log) result_unless (a.log result_unless)
-lines_kept false m old r new a = kept r new.log (held (traced m old.realm) old.log) (λ e. meant_never m old.realm (sym a.outcome ∙ e)) a.log
+lines_kept true m old r new a =
+    λ result_unless. kept r new.log (held (traced m old.realm) old.log) result_unless (a.log result_unless)
+lines_kept false m old r new a =
+    kept r new.log (held (traced m old.realm) old.log) (λ e. meant_never m old.realm (sym a.outcome ∙ e)) a.log
 
 -- an operation's lines go to the trail, unless an allocation failed
-pub ends : (may : Bool) (m : Meaning) (old : Point) (r : Result Outcome Status) (new : Point) → Answered may m waits old r new
+pub ends : (may : Bool) (m : Meaning) (old : Point) (r : Result Outcome Status) (new : Point)
+    → Answered may m waits old r new
     → Answered may m (settled true) old r (record new { log = settled (not (is_delay r)) new.log })
 ends may m old r new a = record {
   outcome = a.outcome;
@@ -69,12 +76,15 @@ ends may m old r new a = record {
 }
 
 -- an operation that may not answer DELAY never does
-never_answers_delay : (may : Bool) (m : Meaning) (log : Log → Log) (old : Point) (r : Result Outcome Status) (new : Point) → may ≡ false → Answered may m log old r new → r ≢ Err statuses.Delay
+never_answers_delay : (may : Bool) (m : Meaning) (log : Log → Log) (old : Point) (r : Result Outcome Status)
+    (new : Point) → may ≡ false → Answered may m log old r new → r ≢ Err statuses.Delay
 never_answers_delay true m log old r new is a = cc
 never_answers_delay false m log old r new is a = λ e. meant_never m old.realm (sym a.outcome ∙ e)
 
-pub never_delayed : (c : Context) (op : Operation) (old new : Point) (r : Result Outcome Status) → may_delay c op ≡ false → Steps c op old r new → r ≢ Err statuses.Delay
-never_delayed c op old new r is steps = never_answers_delay (may_delay c op) (meaning c old.handles op) (settled true) old r new is steps
+pub never_delayed : (c : Context) (op : Operation) (old new : Point) (r : Result Outcome Status)
+    → may_delay c op ≡ false → Steps c op old r new → r ≢ Err statuses.Delay
+never_delayed c op old new r is steps =
+    never_answers_delay (may_delay c op) (meaning c old.handles op) (settled true) old r new is steps
 
 -- ---- the result of the code
 
@@ -82,11 +92,15 @@ result_delay : (m : Meaning) (r : Realm) (x : Result FileHandles Status) → is_
 result_delay m r (Ok done) = refl
 result_delay m r (Err status) = refl
 
-pub gives_end : {A : Type 0} (may : Bool) (room : ℕ) (m : Meaning) (e : realms.Realm A) (h : FileHandles) (before : Buffer) (r : Result FileHandles Status) (e' : realms.Realm A) (after : Buffer) (tree : Guarded)
+pub gives_end : {A : Type 0} (may : Bool) (room : ℕ) (m : Meaning) (e : realms.Realm A) (h : FileHandles)
+    (before : Buffer) (r : Result FileHandles Status) (e' : realms.Realm A) (after : Buffer) (tree : Guarded)
     → tree ≡ record e'.tree { log = settled (not (is_delay r)) e'.tree.log }
-    → OperationGives (sense may m waits) room h (stage e before) r (stage e' after) → OperationGives (sense may m (settled true)) room h (stage e before) r (stage (record e' { tree = tree }) after)
+    → OperationGives (sense may m waits) room h (stage e before) r (stage e' after)
+    → OperationGives (sense may m (settled true)) room h (stage e before) r (stage (record e' { tree = tree }) after)
 gives_end {A} may room m e h before r e' after tree is gives = record {
-  answered = subst (λ t. Answered may m (settled true) (point_at e h) (outcome_as m (realm_of e) r) (point_at (record e' { tree = t }) (handles_after h r))) (sym all)
+  answered =
+      subst (λ t. Answered may m (settled true) (point_at e h) (outcome_as m (realm_of e) r)
+      (point_at (record e' { tree = t }) (handles_after h r))) (sym all)
       (ends may m (point_at e h) (outcome_as m (realm_of e) r) (point_at e' (handles_after h r)) gives.answered);
   written = gives.written;
   within = gives.within;

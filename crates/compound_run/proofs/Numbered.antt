@@ -8,7 +8,9 @@ use Rattle.compound_run.specs.Compound.{args_form, args_in}
 use Rattle.compound_run.specs.Replaying.{IsNumbered, IsNumberedFor, IsNumberedOf}
 use Rattle.compound_run.specs.State.{Call}
 
-pub numbered_call : (call : Call) (args : Value args_form) (operations : List ℕ) → args_in (read_at args_form call.arguments) ≡ Some (args, operations)
+pub numbered_call : (call : Call) (args : Value args_form) (operations : List ℕ)
+    → args_in (read_at args_form call.arguments) ≡ Some (args, operations)
     → IsNumberedFor (beginning args.1.0 args.1.1 operations) → IsNumbered call
 unfolding IsNumbered
-numbered_call call args operations is numbered = subst (λ (a : Option (Value args_form × List ℕ)). IsNumberedOf a) (sym is) numbered
+numbered_call call args operations is numbered =
+    subst (λ (a : Option (Value args_form × List ℕ)). IsNumberedOf a) (sym is) numbered

@@ -1,5 +1,6 @@
 -- Operations run in turn.
-use Rattle.std.proofs.Common.{◌≡◌, ℕ, ◌+◌, ◌-◌, ◌<◌, ◌≤◌, ◌||◌, suc, Bool, true, false, if◌then◌else◌, List, refl, sym, ap, ◌∙◌, subst, length, arith, append-nil}
+use Rattle.std.proofs.Common.{◌≡◌, ℕ, ◌+◌, ◌-◌, ◌<◌, ◌≤◌, ◌||◌, suc, Bool, true, false, if◌then◌else◌, List, refl, sym}
+use Rattle.std.proofs.Common.{ap, ◌∙◌, subst, length, arith, append-nil}
 use Rattle.std.specs.Prelude.{[], ◌∷◌, ◌++◌, Option, Some, None, Result, Ok, Err, MatchResult}
 use Rattle.std.specs.List.{list_any}
 use Rattle.std.specs.Option.{option_map}
@@ -57,7 +58,8 @@ abbrev pub RunsOn : {A : Type 0} → Begun A → RunPoint A → List Given → P
 RunsOn b s rest new = Runs (here_at b s) (b.context.count - s.position) s.rest (point_at s.realm s.handles) rest new
 
 abbrev pub RunsAll : {A : Type 0} → Begun A → List Given → Point → Type 0
-RunsAll b results new = Runs b.context (b.context.count - b.context.position) b.operations (point_at b.realm no_handles) results new
+RunsAll b results new =
+    Runs b.context (b.context.count - b.context.position) b.operations (point_at b.realm no_handles) results new
 
 -- one of the remaining operations fails its allocation, or one of all
 abbrev pub DelaysOn : {A : Type 0} → Begun A → RunPoint A → ℕ → List Given → Type 0
@@ -83,18 +85,24 @@ last-context_after [] given = refl
 last-context_after (a ∷ []) given = refl
 last-context_after (a ∷ b ∷ results) given = last-context_after (b ∷ results) given
 
-bytes-context_after : (results : List Given) (given : Given) → results_bytes (results ++ given ∷ []) ≡ results_bytes results ++ result_bytes given
+bytes-context_after : (results : List Given) (given : Given)
+    → results_bytes (results ++ given ∷ []) ≡ results_bytes results ++ result_bytes given
 bytes-context_after [] given = append-nil (result_bytes given)
-bytes-context_after (a ∷ results) given = ap (λ bytes. result_bytes a ++ bytes) (bytes-context_after results given) ∙ sym (append_assoc (result_bytes a) (results_bytes results) (result_bytes given))
+bytes-context_after (a ∷ results) given =
+    ap (λ bytes. result_bytes a ++ bytes) (bytes-context_after results given)
+    ∙ sym (append_assoc (result_bytes a) (results_bytes results) (result_bytes given))
 
 -- one more result
-any_appended : (results : List Given) (given : Given) → list_any is_change (results ++ given ∷ []) ≡ (list_any is_change results || is_change given)
+any_appended : (results : List Given) (given : Given)
+    → list_any is_change (results ++ given ∷ []) ≡ (list_any is_change results || is_change given)
 any_appended [] given = last (is_change given)
   where
     last : (a : Bool) → (a || false) ≡ a
     last true = refl
     last false = refl
-any_appended (a ∷ results) given = ap (λ b. is_change a || b) (any_appended results given) ∙ joined (is_change a) (list_any is_change results) (is_change given)
+any_appended (a ∷ results) given =
+    ap (λ b. is_change a || b) (any_appended results given)
+    ∙ joined (is_change a) (list_any is_change results) (is_change given)
   where
     joined : (a b c : Bool) → (a || (b || c)) ≡ ((a || b) || c)
     joined true b c = refl
@@ -109,7 +117,8 @@ abbrev delayed_as : Result Outcome Status → ℕ → Option ℕ
 delayed_as (Ok outcome) place = None
 delayed_as (Err status) place = refused_at status place
 
-delayed_after : (results : List Given) (given : Given) → delayed_in results ≡ None → delayed_in (results ++ given ∷ []) ≡ delayed_as given.outcome (length results)
+delayed_after : (results : List Given) (given : Given) → delayed_in results ≡ None
+    → delayed_in (results ++ given ∷ []) ≡ delayed_as given.outcome (length results)
 delayed_after [] given none = one given.outcome
   where
     one : (r : Result Outcome Status) → (if is_delay r then Some 0 else None) ≡ delayed_as r 0
@@ -129,7 +138,8 @@ delayed_after (a ∷ results) given none =
     moved true n = refl
     moved false n = refl
 
-    later : (r : Result Outcome Status) → option_map suc (delayed_as r (length results)) ≡ delayed_as r (suc (length results))
+    later : (r : Result Outcome Status) → option_map suc (delayed_as r (length results))
+        ≡ delayed_as r (suc (length results))
     later (Ok outcome) = refl
     later (Err status) = moved (is_delay_status status) (length results)
 
@@ -139,26 +149,39 @@ one_longer results given = let count = length-append results (given ∷ []) in o
 one_more : (count position : ℕ) → position < count → count - position ≡ suc (count - (position + 1))
 one_more count position below = omega (arith, below)
 
-longer : (before after : Buffer) (item : List ℕ) → Appends before after item → length after.bytes ≡ length before.bytes + length item
+longer : (before after : Buffer) (item : List ℕ) → Appends before after item
+    → length after.bytes ≡ length before.bytes + length item
 longer before after item appends = ap length appends.appended ∙ length-append before.bytes item
 
 less : (limit b i a : ℕ) → a ≡ b + i → limit - b - i ≡ limit - a
 less limit b i a is = omega (arith, is)
 
 -- one more item is appended
-both : (start before after : Buffer) (results : List Given) (given : Given) → Appends start before (results_bytes results) → Appends before after (result_bytes given) → Appends start after (results_bytes (results ++ given ∷ []))
+both : (start before after : Buffer) (results : List Given) (given : Given)
+    → Appends start before (results_bytes results) → Appends before after (result_bytes given)
+    → Appends start after (results_bytes (results ++ given ∷ []))
 both start before after results given first second = record {
-  appended = second.appended ∙ ap (λ b. b ++ result_bytes given) first.appended ∙ append_assoc start.bytes (results_bytes results) (result_bytes given) ∙ ap (λ b. start.bytes ++ b) (sym (bytes-context_after results given));
+  appended =
+      second.appended ∙ ap (λ b. b ++ result_bytes given) first.appended
+      ∙ append_assoc start.bytes (results_bytes results) (result_bytes given)
+      ∙ ap (λ b. start.bytes ++ b) (sym (bytes-context_after results given));
   less_room =
-      let long = ap length (bytes-context_after results given) ∙ length-append (results_bytes results) (result_bytes given) in
+      let long =
+      ap length (bytes-context_after results given) ∙ length-append (results_bytes results) (result_bytes given) in
       omega (arith, long, first.less_room, second.less_room);
 }
 
-pub starts : {A : Type 0} (b : Begun A) → Running b (record { realm = b.realm; handles = no_handles; out = b.out; rest = b.operations; position = b.context.position; changed = false })
+pub starts : {A : Type 0} (b : Begun A) → Running b
+    (record { realm = b.realm; handles = no_handles; out = b.out; rest = b.operations; position = b.context.position;
+    changed = false })
 starts b = record {
   results = [];
-  goes = λ rest new runs. subst (λ room. Runs (at b.context b.context.position room) (b.context.count - b.context.position) b.operations (point_at b.realm no_handles) rest new) all runs;
-  delays = λ rest delays. subst (λ room. DelaysFrom 0 b.refused (at b.context b.context.position room) b.operations rest) all delays;
+  goes =
+      λ rest new runs. subst (λ room. Runs (at b.context b.context.position room)
+      (b.context.count - b.context.position) b.operations (point_at b.realm no_handles) rest new) all runs;
+  delays =
+      λ rest delays. subst (λ room. DelaysFrom 0 b.refused (at b.context b.context.position room) b.operations rest)
+      all delays;
   written = record { appended = sym (append-nil b.out.bytes); less_room = omega arith };
   status = refl;
   many = omega arith;
@@ -172,12 +195,15 @@ starts b = record {
 
 -- the next operation, and those after it
 goes_after : {A : Type 0} (b : Begun A) (s : RunPoint A) (r : Running b s) → s.position < b.context.count
-    → (given : Given) (mid : Point) → given.number ≡ number_of (next_at s.rest).0 → Steps (here_at b s) (next_at s.rest).0 (point_at s.realm s.handles) given.outcome mid
+    → (given : Given) (mid : Point) → given.number ≡ number_of (next_at s.rest).0
+    → Steps (here_at b s) (next_at s.rest).0 (point_at s.realm s.handles) given.outcome mid
     → (rest : List Given) (new : Point)
-    → MatchResult given.outcome (λ outcome. Runs (context_after (here_at b s) (length (result_bytes given))) (b.context.count - (s.position + 1)) (next_at s.rest).1 mid rest new) (λ status. (rest ≡ []) × (new ≡ mid))
+    → MatchResult given.outcome (λ outcome. Runs (context_after (here_at b s) (length (result_bytes given)))
+    (b.context.count - (s.position + 1)) (next_at s.rest).1 mid rest new) (λ status. (rest ≡ []) × (new ≡ mid))
     → RunsAll b (r.results ++ given ∷ rest) new
 goes_after b s r below given mid number steps rest new more =
-    r.goes (given ∷ rest) new (subst (λ n. Runs (here_at b s) n s.rest (point_at s.realm s.handles) (given ∷ rest) new) (sym (one_more b.context.count s.position below)) (mid, number, steps, more))
+    r.goes (given ∷ rest) new (subst (λ n. Runs (here_at b s) n s.rest (point_at s.realm s.handles) (given ∷ rest) new)
+    (sym (one_more b.context.count s.position below)) (mid, number, steps, more))
 
 abbrev pub ok_at : FileHandles → Result FileHandles Status
 ok_at h = Ok h
@@ -189,16 +215,22 @@ err_at status = Err status
 abbrev pub DelaysNext : {A : Type 0} → Begun A → RunPoint A → ℕ → Result Outcome Status → Type 0
 DelaysNext b s place outcome = DelaysIf (is_place b.refused place) (here_at b s) (next_at s.rest).0 outcome
 
-delays_after : {A : Type 0} (b : Begun A) (s : RunPoint A) (r : Running b s) (given : Given) → DelaysNext b s (length r.results) given.outcome
-    → (rest : List Given) → DelaysFrom (suc (length r.results)) b.refused (context_after (here_at b s) (length (result_bytes given))) (next_at s.rest).1 rest
+delays_after : {A : Type 0} (b : Begun A) (s : RunPoint A) (r : Running b s) (given : Given)
+    → DelaysNext b s (length r.results) given.outcome
+    → (rest : List Given) → DelaysFrom (suc (length r.results)) b.refused
+    (context_after (here_at b s) (length (result_bytes given))) (next_at s.rest).1 rest
     → DelaysAll b (r.results ++ given ∷ rest)
 delays_after b s r given next rest more = r.delays (given ∷ rest) (next, more)
 
 more_ok : {A : Type 0} (b : Begun A) (s : RunPoint A) (r : Running b s) → s.position < b.context.count
     → (number : ℕ) (outcome : Result Outcome Status) (e : realms.Realm A) (h : FileHandles) (out : Buffer)
-    → number ≡ number_of (next_at s.rest).0 → Steps (here_at b s) (next_at s.rest).0 (point_at s.realm s.handles) outcome (point_at e h)
-    → Appends s.out out (result_bytes (record { number = number; outcome = outcome })) → length out.bytes ≤ length s.out.bytes + room_at b s → IsAnswerOf (Ok h) outcome
-    → DelaysNext b s (length r.results) outcome → Running b (record { realm = e; handles = h; out = out; rest = (next_at s.rest).1; position = s.position + 1; changed = s.changed || is_changing number })
+    → number ≡ number_of (next_at s.rest).0 → Steps (here_at b s) (next_at s.rest).0
+    (point_at s.realm s.handles) outcome (point_at e h)
+    → Appends s.out out (result_bytes (record { number = number; outcome = outcome }))
+    → length out.bytes ≤ length s.out.bytes + room_at b s → IsAnswerOf (Ok h) outcome
+    → DelaysNext b s (length r.results) outcome
+    → Running b (record { realm = e; handles = h; out = out; rest = (next_at s.rest).1; position = s.position + 1;
+    changed = s.changed || is_changing number })
 more_ok b s r below number (Ok o) e h out is steps appends fits answers next =
     let given : Given = record { number = number; outcome = Ok o } in
     let long = longer s.out out (result_bytes given) appends in
@@ -206,11 +238,18 @@ more_ok b s r below number (Ok o) e h out is steps appends fits answers next =
       results = r.results ++ given ∷ [];
       goes = λ rest new runs. subst (λ results. RunsAll b results new) (sym (append_assoc r.results (given ∷ []) rest))
           (goes_after b s r below given (point_at e h) is steps rest new
-          (subst (λ room. Runs (at b.context (s.position + 1) room) (b.context.count - (s.position + 1)) (next_at s.rest).1 (point_at e h) rest new) (sym (less (length b.out.bytes + b.context.room) (length s.out.bytes) (length (result_bytes given)) (length out.bytes) long)) runs));
+          (subst (λ room. Runs (at b.context (s.position + 1) room) (b.context.count - (s.position + 1))
+          (next_at s.rest).1 (point_at e h) rest new)
+          (sym (less (length b.out.bytes + b.context.room) (length s.out.bytes) (length (result_bytes given))
+          (length out.bytes) long)) runs));
       delays = λ rest delays. subst (λ results. DelaysAll b results) (sym (append_assoc r.results (given ∷ []) rest))
           (delays_after b s r given next rest
-          (subst (λ room. DelaysFrom (suc (length r.results)) b.refused (at b.context (s.position + 1) room) (next_at s.rest).1 rest) (sym (less (length b.out.bytes + b.context.room) (length s.out.bytes) (length (result_bytes given)) (length out.bytes) long))
-          (subst (λ place. DelaysFrom place b.refused (at b.context (s.position + 1) (length b.out.bytes + b.context.room - length out.bytes)) (next_at s.rest).1 rest) (one_longer r.results given) delays)));
+          (subst (λ room. DelaysFrom (suc (length r.results)) b.refused (at b.context (s.position + 1) room)
+          (next_at s.rest).1 rest) (sym (less (length b.out.bytes + b.context.room) (length s.out.bytes)
+          (length (result_bytes given)) (length out.bytes) long))
+          (subst (λ place. DelaysFrom place b.refused
+          (at b.context (s.position + 1) (length b.out.bytes + b.context.room - length out.bytes))
+          (next_at s.rest).1 rest) (one_longer r.results given) delays)));
       written = both b.out s.out out r.results given r.written appends;
       status = last-context_after r.results given;
       many = let count = length-append r.results (given ∷ []) in omega (arith, count, r.many);
@@ -228,41 +267,64 @@ err_same : (a b : Status) → ◌≡◌ {A = Result FileHandles Status} (Err a) 
 err_same a b e = cc
 
 -- an answer of DELAY is an outcome of DELAY
-result_delay : (answer : Result FileHandles Status) (outcome : Result Outcome Status) → IsAnswerOf answer outcome → answer ≡ Err statuses.Delay → outcome ≡ Err statuses.Delay
+result_delay : (answer : Result FileHandles Status) (outcome : Result Outcome Status) → IsAnswerOf answer outcome
+    → answer ≡ Err statuses.Delay → outcome ≡ Err statuses.Delay
 result_delay (Ok h) outcome answers is = cc
 result_delay (Err status) (Ok o) answers is = absurd answers
 result_delay (Err status) (Err result) answers is = ap Err (sym answers ∙ err_same status statuses.Delay is)
 
 -- the next operation fails its allocation, by its position
 delays_next : {A : Type 0} (b : Begun A) (s : RunPoint A) (r : Running b s) (room : ℕ) → room ≡ room_at b s
-    → (op : Operation) (rest : List ℕ) (refused : Bool) (answer : Result FileHandles Status) (outcome : Result Outcome Status) → (op, rest) ≡ next_at s.rest
-    → refused ≡ is_place b.refused (s.position - b.context.position) → IsAnswerOf answer outcome → DelaysIf refused (at b.context s.position room) op answer
+    → (op : Operation) (rest : List ℕ) (refused : Bool) (answer : Result FileHandles Status)
+    (outcome : Result Outcome Status) → (op, rest) ≡ next_at s.rest
+    → refused ≡ is_place b.refused (s.position - b.context.position) → IsAnswerOf answer outcome
+    → DelaysIf refused (at b.context s.position room) op answer
     → DelaysNext b s (length r.results) outcome
 delays_next b s r room is_room op rest refused answer outcome is placed answers delays = λ here may.
     result_delay answer outcome answers
     (delays (placed ∙ ap (is_place b.refused) (place_at s.position b.context.position (length r.results) r.many) ∙ here)
-    (subst (λ x. may_delay (at b.context s.position x) op ≡ true) (sym is_room) (subst (λ o. may_delay (here_at b s) o ≡ true) (sym (ap (λ x. x.0) is)) may)))
+    (subst (λ x. may_delay (at b.context s.position x) op ≡ true) (sym is_room)
+    (subst (λ o. may_delay (here_at b s) o ≡ true) (sym (ap (λ x. x.0) is)) may)))
 
 -- the result of a step, at the next operation of the bytes
-abbrev pub StepOf : {A : Type 0} → Begun A → RunPoint A → ℕ → Operation → Result FileHandles Status → realms.Realm A → FileHandles → Buffer → Type 0
-StepOf b s room op answer e h out = StepGives (at b.context s.position room) op (stage (point_at s.realm s.handles) s.out) answer (stage (point_at e h) out)
+abbrev pub StepOf : {A : Type 0} → Begun A → RunPoint A → ℕ → Operation → Result FileHandles Status → realms.Realm A
+    → FileHandles → Buffer → Type 0
+StepOf b s room op answer e h out =
+    StepGives (at b.context s.position room) op (stage (point_at s.realm s.handles) s.out) answer
+    (stage (point_at e h) out)
 
-pub goes_on : {A : Type 0} (b : Begun A) (s : RunPoint A) (r : Running b s) → s.position < b.context.count → (room : ℕ) → room ≡ room_at b s
-    → (op : Operation) (rest : List ℕ) (e : realms.Realm A) (h : FileHandles) (out : Buffer) (changes refused : Bool) → (op, rest) ≡ next_at s.rest → changes ≡ is_changing (number_of op)
-    → refused ≡ is_place b.refused (s.position - b.context.position) → DelaysIf refused (at b.context s.position room) op (ok_at h)
-    → StepOf b s room op (Ok h) e h out → Running b (record { realm = e; handles = h; out = out; rest = rest; position = s.position + 1; changed = s.changed || changes })
+pub goes_on : {A : Type 0} (b : Begun A) (s : RunPoint A) (r : Running b s) → s.position < b.context.count → (room : ℕ)
+    → room ≡ room_at b s
+    → (op : Operation) (rest : List ℕ) (e : realms.Realm A) (h : FileHandles) (out : Buffer) (changes refused : Bool)
+    → (op, rest) ≡ next_at s.rest → changes ≡ is_changing (number_of op)
+    → refused ≡ is_place b.refused (s.position - b.context.position)
+    → DelaysIf refused (at b.context s.position room) op (ok_at h)
+    → StepOf b s room op (Ok h) e h out → Running b
+    (record { realm = e; handles = h; out = out; rest = rest; position = s.position + 1;
+    changed = s.changed || changes })
 goes_on {A} b s r below room is_room op rest e h out changes refused is changing placed delays gives =
     let g = subst (λ x. StepOf b s x op (Ok h) e h out) is_room gives in
-    subst (λ x. Running b (record { realm = e; handles = h; out = out; rest = x; position = s.position + 1; changed = s.changed || changes })) (sym (ap (λ x. x.1) is))
-    (subst (λ c. Running b (record { realm = e; handles = h; out = out; rest = (next_at s.rest).1; position = s.position + 1; changed = s.changed || c })) (sym changing)
-    (more_ok b s r below (number_of op) g.outcome e h out (ap (λ x. number_of x.0) is) (subst (λ o. Steps (here_at b s) o (point_at s.realm s.handles) g.outcome (point_at e h)) (ap (λ x. x.0) is) g.steps) g.written g.fits g.answers
+    subst (λ x. Running b (record { realm = e; handles = h; out = out; rest = x; position = s.position + 1;
+    changed = s.changed || changes })) (sym (ap (λ x. x.1) is))
+    (subst (λ c. Running b (record { realm = e; handles = h; out = out; rest = (next_at s.rest).1;
+    position = s.position + 1; changed = s.changed || c })) (sym changing)
+    (more_ok b s r below (number_of op) g.outcome e h out (ap (λ x. number_of x.0) is)
+    (subst (λ o. Steps (here_at b s) o (point_at s.realm s.handles) g.outcome (point_at e h))
+    (ap (λ x. x.0) is) g.steps) g.written g.fits g.answers
     (delays_next b s r room is_room op rest refused (Ok h) g.outcome is placed g.answers delays)))
 
 last_err : {A : Type 0} (b : Begun A) (s : RunPoint A) (r : Running b s) → s.position < b.context.count
-    → (number : ℕ) (outcome : Result Outcome Status) (status : Status) (e : realms.Realm A) (h : FileHandles) (out : Buffer)
-    → number ≡ number_of (next_at s.rest).0 → Steps (here_at b s) (next_at s.rest).0 (point_at s.realm s.handles) outcome (point_at e h)
-    → Appends s.out out (result_bytes (record { number = number; outcome = outcome })) → length out.bytes ≤ length s.out.bytes + room_at b s + REFUSAL_ROOM → IsAnswerOf {A = FileHandles} (Err status) outcome
-    → DelaysNext b s (length r.results) outcome → RunGives b.refused b.context b.operations (stage b.realm b.out) (record { status = status; ran = s.position + 1; changed = s.changed; delayed = refused_at status (s.position - b.context.position) }) (stage e out)
+    → (number : ℕ) (outcome : Result Outcome Status) (status : Status) (e : realms.Realm A) (h : FileHandles)
+    (out : Buffer)
+    → number ≡ number_of (next_at s.rest).0 → Steps (here_at b s) (next_at s.rest).0
+    (point_at s.realm s.handles) outcome (point_at e h)
+    → Appends s.out out (result_bytes (record { number = number; outcome = outcome }))
+    → length out.bytes ≤ length s.out.bytes + room_at b s + REFUSAL_ROOM
+    → IsAnswerOf {A = FileHandles} (Err status) outcome
+    → DelaysNext b s (length r.results) outcome
+    → RunGives b.refused b.context b.operations (stage b.realm b.out)
+    (record { status = status; ran = s.position + 1; changed = s.changed;
+    delayed = refused_at status (s.position - b.context.position) }) (stage e out)
 last_err b s r below number (Ok o) status e h out is steps appends within answers next = absurd answers
 last_err b s r below number (Err result) status e h out is steps appends within answers next =
     let given : Given = record { number = number; outcome = Err result } in
@@ -287,25 +349,34 @@ last_err b s r below number (Err result) status e h out is steps appends within 
     last_of true = refl
     last_of false = refl
 
-pub ends_with : {A : Type 0} (b : Begun A) (s : RunPoint A) (r : Running b s) → s.position < b.context.count → (room : ℕ) → room ≡ room_at b s
-    → (op : Operation) (rest : List ℕ) (status : Status) (e : realms.Realm A) (h : FileHandles) (out : Buffer) (delayed : Option ℕ) (refused : Bool) → (op, rest) ≡ next_at s.rest
+pub ends_with : {A : Type 0} (b : Begun A) (s : RunPoint A) (r : Running b s) → s.position < b.context.count
+    → (room : ℕ) → room ≡ room_at b s
+    → (op : Operation) (rest : List ℕ) (status : Status) (e : realms.Realm A) (h : FileHandles) (out : Buffer)
+    (delayed : Option ℕ) (refused : Bool) → (op, rest) ≡ next_at s.rest
     → delayed ≡ refused_at status (s.position - b.context.position)
-    → refused ≡ is_place b.refused (s.position - b.context.position) → DelaysIf refused (at b.context s.position room) op (err_at status)
+    → refused ≡ is_place b.refused (s.position - b.context.position)
+    → DelaysIf refused (at b.context s.position room) op (err_at status)
     → StepOf b s room op (Err status) e h out
-    → RunGives b.refused b.context b.operations (stage b.realm b.out) (record { status = status; ran = s.position + 1; changed = s.changed; delayed = delayed }) (stage e out)
+    → RunGives b.refused b.context b.operations (stage b.realm b.out)
+    (record { status = status; ran = s.position + 1; changed = s.changed; delayed = delayed }) (stage e out)
 ends_with b s r below room is_room op rest status e h out delayed refused is result placed delays gives =
     let g = subst (λ x. StepOf b s x op (Err status) e h out) is_room gives in
-    subst (λ d. RunGives b.refused b.context b.operations (stage b.realm b.out) (record { status = status; ran = s.position + 1; changed = s.changed; delayed = d }) (stage e out)) (sym result)
-    (last_err b s r below (number_of op) g.outcome status e h out (ap (λ x. number_of x.0) is) (subst (λ o. Steps (here_at b s) o (point_at s.realm s.handles) g.outcome (point_at e h)) (ap (λ x. x.0) is) g.steps) g.written g.within g.answers
+    subst (λ d. RunGives b.refused b.context b.operations (stage b.realm b.out)
+    (record { status = status; ran = s.position + 1; changed = s.changed; delayed = d }) (stage e out)) (sym result)
+    (last_err b s r below (number_of op) g.outcome status e h out (ap (λ x. number_of x.0) is)
+    (subst (λ o. Steps (here_at b s) o (point_at s.realm s.handles) g.outcome (point_at e h))
+    (ap (λ x. x.0) is) g.steps) g.written g.within g.answers
     (delays_next b s r room is_room op rest refused (Err status) g.outcome is placed g.answers delays))
 
 pub ends_whole : {A : Type 0} (b : Begun A) (s : RunPoint A) → Running b s → s.position ≡ b.context.count
-    → RunGives b.refused b.context b.operations (stage b.realm b.out) (record { status = statuses.Ok; ran = b.context.count; changed = s.changed; delayed = None }) (stage s.realm s.out)
+    → RunGives b.refused b.context b.operations (stage b.realm b.out)
+    (record { status = statuses.Ok; ran = b.context.count; changed = s.changed; delayed = None }) (stage s.realm s.out)
 ends_whole b s r all = record {
   handles = s.handles;
   results = r.results;
   runs = subst (λ results. RunsAll b results (point_at s.realm s.handles)) (append-nil r.results)
-      (r.goes [] (point_at s.realm s.handles) (subst (λ n. Runs (here_at b s) n s.rest (point_at s.realm s.handles) [] (point_at s.realm s.handles)) (sym none) refl));
+      (r.goes [] (point_at s.realm s.handles) (subst
+      (λ n. Runs (here_at b s) n s.rest (point_at s.realm s.handles) [] (point_at s.realm s.handles)) (sym none) refl));
   written = r.written;
   status = sym r.status;
   ran = omega (arith, all, r.many);

@@ -1,5 +1,6 @@
 -- The answers when attributes are set.
-use Rattle.std.proofs.Common.{◌≡◌, ℕ, Bool, List, cond, ◌≤◌, ◌+◌, true, false, refl, append-nil, length, ap, sym, ◌∙◌, subst}
+use Rattle.std.proofs.Common.{◌≡◌, ℕ, Bool, List, cond, ◌≤◌, ◌+◌, true, false, refl, append-nil, length, ap, sym, ◌∙◌}
+use Rattle.std.proofs.Common.{subst}
 use Rattle.access_guard.specs.declared.line.Line.{Line}
 use Rattle.std.specs.Prelude.{[], ◌≢◌, if◌then◌else◌, is_some, Option, Some, None, Ok, Err, unwrap_or, IsSome, IfSome}
 use Rattle.std.specs.Option.{option_map, option_map_or}
@@ -33,7 +34,8 @@ use Rattle.compound_run.specs.Meaning.{at, here}
 use Rattle.compound_run.specs.Questions.{failure, trace, result_unless, all_granted, demand_lines}
 use Rattle.compound_run.specs.Rows.{sized_facts}
 use Rattle.compound_run.specs.Runs.{spelled, waits}
-use Rattle.compound_run.specs.Operations.Setattr.{setattr, sent, size_fault, size_fits, can_count, sets_acl, sized, listed, set_on, setting, with_attributes}
+use Rattle.compound_run.specs.Operations.Setattr.{setattr, sent, size_fault, size_fits, can_count, sets_acl, sized}
+use Rattle.compound_run.specs.Operations.Setattr.{listed, set_on, setting, with_attributes}
 use Rattle.compound_run.specs.Sight.{kind_at}
 use Rattle.compound_run.specs.Views.{OperationGives, holding, realm_of, with_world, stage, sense}
 
@@ -42,13 +44,19 @@ live None is = cc
 live (Some o) is = refl
 
 -- the attributes that are sent have a fault
-pub not_wanted : {A : Type 0} (room : ℕ) (c : Context) (h : FileHandles) (v : Value setattr_args) (e : realms.Realm A) (out : Buffer) (number : ℕ) (status : Status)
-    → h.current ≡ Some number → IsSome (object e.tree.world number) → (status ≢ statuses.Delay → sent c v (kind_at (sight_of e) number) ≡ Err status)
+pub not_wanted : {A : Type 0} (room : ℕ) (c : Context) (h : FileHandles) (v : Value setattr_args) (e : realms.Realm A)
+    (out : Buffer) (number : ℕ) (status : Status)
+    → h.current ≡ Some number → IsSome (object e.tree.world number)
+    → (status ≢ statuses.Delay → sent c v (kind_at (sight_of e) number) ≡ Err status)
     → OperationGives (sense true (setattr v c h) waits) room h (stage e out) (Err status) (stage e out)
 not_wanted room c h v e out number status is_here there wrong = record {
   answered = record {
-    outcome = λ apart. rw is_here (rw (live (object e.tree.world number) there) (rw (wrong (λ is. apart (ap Err is))) refl));
-    log = λ apart. rw is_here (rw (live (object e.tree.world number) there) (rw (wrong (λ is. apart (ap Err is))) (ap (λ l. record e.tree.log { held = l }) (sym (append-nil e.tree.log.held)))));
+    outcome =
+        λ apart. rw is_here (rw (live (object e.tree.world number) there) (rw (wrong (λ is. apart (ap Err is))) refl));
+    log =
+        λ apart. rw is_here (rw (live (object e.tree.world number) there)
+        (rw (wrong (λ is. apart (ap Err is))) (ap (λ l. record e.tree.log { held = l })
+        (sym (append-nil e.tree.log.held)))));
     trail_stays = λ d. refl;
     total_stays = λ d. refl;
     realm = tt;
@@ -63,13 +71,17 @@ not_wanted room c h v e out number status is_here there wrong = record {
 }
 
 -- the size of the object can't be set
-pub not_sized : {A : Type 0} (room : ℕ) (c : Context) (h : FileHandles) (v : Value setattr_args) (e : realms.Realm A) (out : Buffer) (number : ℕ) (wanted : Wanted) (status : Status)
-    → h.current ≡ Some number → IsSome (object e.tree.world number) → sent c v (kind_at (sight_of e) number) ≡ Ok wanted → size_fault wanted.size c number (set_stateid v) (sight_of e) ≡ Some status
+pub not_sized : {A : Type 0} (room : ℕ) (c : Context) (h : FileHandles) (v : Value setattr_args) (e : realms.Realm A)
+    (out : Buffer) (number : ℕ) (wanted : Wanted) (status : Status)
+    → h.current ≡ Some number → IsSome (object e.tree.world number) → sent c v (kind_at (sight_of e) number) ≡ Ok wanted
+    → size_fault wanted.size c number (set_stateid v) (sight_of e) ≡ Some status
     → OperationGives (sense true (setattr v c h) waits) room h (stage e out) (Err status) (stage e out)
 not_sized room c h v e out number wanted status is_here there is_wanted wrong = record {
   answered = record {
     outcome = λ apart. rw is_here (rw (live (object e.tree.world number) there) (rw is_wanted (rw wrong refl)));
-    log = λ apart. rw is_here (rw (live (object e.tree.world number) there) (rw is_wanted (rw wrong (ap (λ l. record e.tree.log { held = l }) (sym (append-nil e.tree.log.held))))));
+    log =
+        λ apart. rw is_here (rw (live (object e.tree.world number) there)
+        (rw is_wanted (rw wrong (ap (λ l. record e.tree.log { held = l }) (sym (append-nil e.tree.log.held))))));
     trail_stays = λ d. refl;
     total_stays = λ d. refl;
     realm = tt;
@@ -105,24 +117,36 @@ module _ {A : Type 0} (c : Context) (h : FileHandles) (v : Value setattr_args) (
   none_more true = refl
   none_more false = refl
 
-  its_lines : trace c.caller (row kinds.SetAttr).number (sight_of e) (setattr v c h).questions ≡ demand_lines (judged_of e.tree.world) c.caller (row kinds.SetAttr).number (demanded v h e wanted)
-  its_lines = rw set (rw is_live (rw is_wanted (rw size (rw granted (rw fits (rw counts (rw bounds (rw (none_more bounded) (append-nil (demand_lines (judged_of e.tree.world) c.caller (row kinds.SetAttr).number (demanded v h e wanted)))))))))))
+  its_lines : trace c.caller (row kinds.SetAttr).number (sight_of e) (setattr v c h).questions
+      ≡ demand_lines (judged_of e.tree.world) c.caller (row kinds.SetAttr).number (demanded v h e wanted)
+  its_lines =
+      rw set (rw is_live (rw is_wanted (rw size
+      (rw granted (rw fits (rw counts (rw bounds
+      (rw (none_more bounded) (append-nil (demand_lines (judged_of e.tree.world) c.caller (row kinds.SetAttr).number
+      (demanded v h e wanted)))))))))))
 
   world_set : setting (here h) wanted (at c e.tree.world) e.tree.world ≡ with_attributes c h v e.tree.world
   world_set = ap (λ r. setting (here h) (wanted_in r) (at c e.tree.world) e.tree.world) (sym is_wanted)
 
   gives_set : (room : ℕ) (mid new : realms.Realm A) (out out' : Buffer)
-      → bounded ≡ true → mid ≡ holding (demand_lines (judged_of e.tree.world) c.caller (row kinds.SetAttr).number (demanded v h e wanted)) e
+      → bounded ≡ true → mid ≡ holding (demand_lines (judged_of e.tree.world) c.caller (row kinds.SetAttr).number
+      (demanded v h e wanted)) e
       → new ≡ with_world (setting (here h) wanted (at c mid.tree.world) mid.tree.world) mid
-      → Appends out out' (spelled (Done kinds.SetAttr (set_of (set_attributes v)))) → length out'.bytes ≤ length out.bytes + room
+      → Appends out out' (spelled (Done kinds.SetAttr (set_of (set_attributes v))))
+      → length out'.bytes ≤ length out.bytes + room
       → OperationGives (sense true (setattr v c h) waits) room h (stage e out) (Ok h) (stage new out')
   gives_set room mid new out out' within_bounds holds is_set written within =
       let lines = demand_lines (judged_of e.tree.world) c.caller (row kinds.SetAttr).number (demanded v h e wanted) in
-      let end : realms.Realm A = with_world (setting (here h) wanted (at c e.tree.world) e.tree.world) (holding lines e) in
-      let ends : new ≡ end = is_set ∙ (λ i. with_world (setting (here h) wanted (at c (holds i).tree.world) (holds i).tree.world) (holds i)) in
-      subst (λ (x : realms.Realm A). OperationGives (sense true (setattr v c h) waits) room h (stage e out) (Ok h) (stage x out')) (sym ends) (record {
+      let end : realms.Realm A =
+      with_world (setting (here h) wanted (at c e.tree.world) e.tree.world) (holding lines e) in
+      let ends : new ≡ end =
+      is_set ∙ (λ i. with_world (setting (here h) wanted (at c (holds i).tree.world) (holds i).tree.world) (holds i)) in
+      subst (λ (x : realms.Realm A). OperationGives (sense true (setattr v c h) waits) room h (stage e out) (Ok h)
+      (stage x out')) (sym ends) (record {
         answered = record {
-          outcome = λ apart. ap (λ f. result_unless f (Done kinds.SetAttr (set_of (set_attributes v)))) (sym (fails ∙ ap (λ b. cond b None (Some statuses.NoSpc)) within_bounds));
+          outcome =
+              λ apart. ap (λ f. result_unless f (Done kinds.SetAttr (set_of (set_attributes v))))
+              (sym (fails ∙ ap (λ b. cond b None (Some statuses.NoSpc)) within_bounds));
           log = λ apart. ap (λ l. held l e.tree.log) (sym its_lines);
           trail_stays = λ d. refl;
           total_stays = λ d. refl;
@@ -139,15 +163,18 @@ module _ {A : Type 0} (c : Context) (h : FileHandles) (v : Value setattr_args) (
 
   refuses_set : (room : ℕ) (mid new : realms.Realm A) (out : Buffer) (status : Status)
       → (status ≢ statuses.Delay → (status ≡ statuses.NoSpc) × (bounded ≡ false))
-      → mid ≡ holding (demand_lines (judged_of e.tree.world) c.caller (row kinds.SetAttr).number (demanded v h e wanted)) e → new ≡ mid
+      → mid ≡ holding (demand_lines (judged_of e.tree.world) c.caller (row kinds.SetAttr).number
+      (demanded v h e wanted)) e → new ≡ mid
       → OperationGives (sense true (setattr v c h) waits) room h (stage e out) (Err status) (stage new out)
   refuses_set room mid new out status unfit holds stays =
       let lines = demand_lines (judged_of e.tree.world) c.caller (row kinds.SetAttr).number (demanded v h e wanted) in
-      subst (λ (x : realms.Realm A). OperationGives (sense true (setattr v c h) waits) room h (stage e out) (Err status) (stage x out)) (sym (stays ∙ holds)) (record {
+      subst (λ (x : realms.Realm A). OperationGives (sense true (setattr v c h) waits) room h (stage e out) (Err status)
+      (stage x out)) (sym (stays ∙ holds)) (record {
         answered = record {
           outcome = λ apart.
               let none = unfit (λ is. apart (ap Err is)) in
-              ap Err none.0 ∙ ap (λ f. result_unless f (Done kinds.SetAttr (set_of (set_attributes v)))) (sym (fails ∙ ap (λ b. cond b None (Some statuses.NoSpc)) none.1));
+              ap Err none.0 ∙ ap (λ f. result_unless f (Done kinds.SetAttr (set_of (set_attributes v))))
+              (sym (fails ∙ ap (λ b. cond b None (Some statuses.NoSpc)) none.1));
           log = λ apart. ap (λ l. held l e.tree.log) (sym its_lines);
           trail_stays = λ d. refl;
           total_stays = λ d. refl;
@@ -163,17 +190,20 @@ module _ {A : Type 0} (c : Context) (h : FileHandles) (v : Value setattr_args) (
       })
 
 -- attributes of the current object are set
-pub attributes_set : {A : Type 0} (room : ℕ) (c : Context) (h : FileHandles) (v : Value setattr_args) (e mid new : realms.Realm A) (out out' : Buffer) (number : ℕ) (wanted : Wanted)
+pub attributes_set : {A : Type 0} (room : ℕ) (c : Context) (h : FileHandles) (v : Value setattr_args)
+    (e mid new : realms.Realm A) (out out' : Buffer) (number : ℕ) (wanted : Wanted)
     → h.current ≡ Some number → IsSome (object e.tree.world number)
     → sent c v (kind_at (sight_of e) number) ≡ Ok wanted
     → size_fault wanted.size c number (set_stateid v) (sight_of e) ≡ None
     → all_granted (judged_of e.tree.world) c.caller (demanded v h e wanted) ≡ true
-    → mid ≡ holding (demand_lines (judged_of e.tree.world) c.caller (row kinds.SetAttr).number (demanded v h e wanted)) e
+    → mid ≡ holding (demand_lines (judged_of e.tree.world) c.caller (row kinds.SetAttr).number (demanded v h e wanted))
+    e
     → size_fits wanted.size ≡ true
     → can_count wanted (sight_of mid) ≡ true
     → set_fits wanted (kind_at (sight_of mid) number) (list_at mid.tree.world number) ≡ true
     → new ≡ with_world (setting number wanted (at c mid.tree.world) mid.tree.world) mid
-    → Appends out out' (spelled (Done kinds.SetAttr (set_of (set_attributes v)))) → length out'.bytes ≤ length out.bytes + room
+    → Appends out out' (spelled (Done kinds.SetAttr (set_of (set_attributes v))))
+    → length out'.bytes ≤ length out.bytes + room
     → OperationGives (sense true (setattr v c h) waits) room h (stage e out) (Ok h) (stage new out')
 attributes_set room c h v e mid new out out' number wanted is_here there is_wanted size granted holds fits counts bounds is_set written within =
     let same : number ≡ here h = sym (ap (λ n. unwrap_or n 0) is_here) in
@@ -183,27 +213,33 @@ attributes_set room c h v e mid new out out' number wanted is_here there is_want
     (subst (λ n. size_fault wanted.size c n (set_stateid v) (sight_of e) ≡ None) same size)
     granted fits
     (subst (λ x. can_count wanted (sight_of x) ≡ true) holds counts)
-    true ((λ i. set_fits wanted (kind_at (sight_of (sym holds i)) (sym same i)) (list_at (sym holds i).tree.world (sym same i))) ∙ bounds)
+    true ((λ i. set_fits wanted (kind_at (sight_of (sym holds i)) (sym same i))
+    (list_at (sym holds i).tree.world (sym same i))) ∙ bounds)
     room mid new out out' refl holds
     (subst (λ n. new ≡ with_world (setting n wanted (at c mid.tree.world) mid.tree.world) mid) same is_set)
     written within
 
 -- the ACL would exceed its bounds, or an allocation for the attributes fails
-pub attributes_refused : {A : Type 0} (room : ℕ) (c : Context) (h : FileHandles) (v : Value setattr_args) (e mid new : realms.Realm A) (out : Buffer) (number : ℕ) (wanted : Wanted) (status : Status)
+pub attributes_refused : {A : Type 0} (room : ℕ) (c : Context) (h : FileHandles) (v : Value setattr_args)
+    (e mid new : realms.Realm A) (out : Buffer) (number : ℕ) (wanted : Wanted) (status : Status)
     → h.current ≡ Some number → IsSome (object e.tree.world number)
     → sent c v (kind_at (sight_of e) number) ≡ Ok wanted
     → size_fault wanted.size c number (set_stateid v) (sight_of e) ≡ None
     → all_granted (judged_of e.tree.world) c.caller (demanded v h e wanted) ≡ true
-    → mid ≡ holding (demand_lines (judged_of e.tree.world) c.caller (row kinds.SetAttr).number (demanded v h e wanted)) e
+    → mid ≡ holding (demand_lines (judged_of e.tree.world) c.caller (row kinds.SetAttr).number (demanded v h e wanted))
+    e
     → size_fits wanted.size ≡ true
     → can_count wanted (sight_of mid) ≡ true
-    → (status ≢ statuses.Delay → (status ≡ statuses.NoSpc) × (set_fits wanted (kind_at (sight_of mid) number) (list_at mid.tree.world number) ≡ false))
+    → (status ≢ statuses.Delay → (status ≡ statuses.NoSpc)
+    × (set_fits wanted (kind_at (sight_of mid) number) (list_at mid.tree.world number) ≡ false))
     → new ≡ mid
     → OperationGives (sense true (setattr v c h) waits) room h (stage e out) (Err status) (stage new out)
 attributes_refused room c h v e mid new out number wanted status is_here there is_wanted size granted holds fits counts unfit stays =
     let same : number ≡ here h = sym (ap (λ n. unwrap_or n 0) is_here) in
-    let bounds : set_fits wanted (kind_at (sight_of e) (here h)) (list_at e.tree.world (here h)) ≡ set_fits wanted (kind_at (sight_of mid) number) (list_at mid.tree.world number) =
-    λ i. set_fits wanted (kind_at (sight_of (sym holds i)) (sym same i)) (list_at (sym holds i).tree.world (sym same i)) in
+    let bounds : set_fits wanted (kind_at (sight_of e) (here h)) (list_at e.tree.world (here h))
+    ≡ set_fits wanted (kind_at (sight_of mid) number) (list_at mid.tree.world number) =
+    λ i. set_fits wanted (kind_at (sight_of (sym holds i)) (sym same i))
+    (list_at (sym holds i).tree.world (sym same i)) in
     refuses_set c h v e wanted (ap is_some is_here)
     (subst (λ n. is_some (kind_of e.tree.world n) ≡ true) same (live (object e.tree.world number) there))
     (subst (λ n. sent c v (kind_at (sight_of e) n) ≡ Ok wanted) same is_wanted)
@@ -215,22 +251,29 @@ attributes_refused room c h v e mid new out number wanted status is_here there i
 
 -- ---- attributes are set part by part
 
-same_list : {A : Type 0} (number : ℕ) (o : Object) (wanted : Wanted) (a : At) (made : Option (Permissions A)) (before w : World)
+same_list : {A : Type 0} (number : ℕ) (o : Object) (wanted : Wanted) (a : At) (made : Option (Permissions A))
+    (before w : World)
     → object before number ≡ Some o → is_some made ≡ sets_acl wanted → IfSome made (Permits before number wanted)
     → permitted number made a w ≡ listed number o wanted a w
 same_list number o wanted a None before w there some is =
     λ i. if some i then with_list w number (set_list wanted o.kind o.list) (changed_high o.high wanted.mode) a else w
 same_list number o wanted a (Some p) before w there some is =
-    let list : p.list ≡ set_list wanted o.kind o.list = subst (λ (x : Option Object). IfSome x (λ o. p.list ≡ set_list wanted o.kind o.list)) there is.lists in
-    let high : p.high ≡ changed_high o.high wanted.mode = subst (λ (x : Option Object). IfSome x (λ o. p.high ≡ changed_high o.high wanted.mode)) there is.highs in
+    let list : p.list ≡ set_list wanted o.kind o.list =
+    subst (λ (x : Option Object). IfSome x (λ o. p.list ≡ set_list wanted o.kind o.list)) there is.lists in
+    let high : p.high ≡ changed_high o.high wanted.mode =
+    subst (λ (x : Option Object). IfSome x (λ o. p.high ≡ changed_high o.high wanted.mode)) there is.highs in
     (λ i. with_list w number (list i) (high i) a)
-    ∙ (λ i. if some i then with_list w number (set_list wanted o.kind o.list) (changed_high o.high wanted.mode) a else w)
+    ∙ (λ i. if some i then with_list w number (set_list wanted o.kind o.list)
+    (changed_high o.high wanted.mode) a else w)
 
 -- setting the size, the ACL, and the owner with the group, one after the other, sets all attributes
-pub set_by_parts : {A : Type 0} (number : ℕ) (o : Object) (wanted : Wanted) (a : At) (made : Option (Permissions A)) (w : World)
+pub set_by_parts : {A : Type 0} (number : ℕ) (o : Object) (wanted : Wanted) (a : At) (made : Option (Permissions A))
+    (w : World)
     → object w number ≡ Some o → is_some made ≡ sets_acl wanted → IfSome made (Permits w number wanted)
-    → entitled number wanted.owner wanted.group (o.owner, o.group) a (permitted number made a (sized number wanted.size a w)) ≡ setting number wanted a w
+    → entitled number wanted.owner wanted.group (o.owner, o.group) a
+    (permitted number made a (sized number wanted.size a w)) ≡ setting number wanted a w
 unfolding setting
 set_by_parts number o wanted a made w there some is =
-    ap (entitled number wanted.owner wanted.group (o.owner, o.group) a) (same_list number o wanted a made w (sized number wanted.size a w) there some is)
+    ap (entitled number wanted.owner wanted.group (o.owner, o.group) a)
+    (same_list number o wanted a made w (sized number wanted.size a w) there some is)
     ∙ (λ i. option_map_or (λ o. set_on number o wanted a w) (sym there i) w)

@@ -6,7 +6,8 @@ use Rattle.acl_list.specs.declared.entry.Kind.TheVariants.{Link}
 use Rattle.node_tree.specs.World.{World, Object, object, bytes_of, bytes_at}
 use Rattle.node_tree.specs.Sound.{IsSound, most_bytes}
 
-pub text_is_short : (w : World) (link : ℕ) (o : Object) → IsSound w → object w link ≡ Some o → o.kind ≡ Link → length o.bytes ≤ 1024
+pub text_is_short : (w : World) (link : ℕ) (o : Object) → IsSound w → object w link ≡ Some o → o.kind ≡ Link
+    → length o.bytes ≤ 1024
 text_is_short w link o sound is kind = subst (λ k. length o.bytes ≤ most_bytes k) kind (sound.fit link o is).bytes
 
 pub text_is_all : (w : World) (link n : ℕ) → length (bytes_of w link) ≡ n → bytes_at w link 0 n ≡ bytes_of w link

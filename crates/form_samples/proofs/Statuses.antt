@@ -1,5 +1,6 @@
 -- A refusal of any status is read as that refusal.
-use Rattle.std.proofs.Common.{◌≡◌, ◌≢◌, ◌<◌, ◌^◌, ℕ, Bool, cond, List, ◌++◌, Some, Ok, refl, sym, subst, inl, inr, lit<, eq-eqb, arith}
+use Rattle.std.proofs.Common.{◌≡◌, ◌≢◌, ◌<◌, ◌^◌, ℕ, Bool, cond, List, ◌++◌, Some, Ok, refl, sym, subst, inl, inr, lit<}
+use Rattle.std.proofs.Common.{eq-eqb, arith}
 use Rattle.std.proofs.lemmas.Bool.{ne_eqb, cases_eq}
 use Rattle.nfs_types.specs.declared.status.Status.{Status}
 use Rattle.nfs_types.specs.declared.status.Status.TheVariants as status
@@ -94,6 +95,9 @@ refusal_is_read n s rest small =
     let is : IsKnown k = refusal_is_known s in
     let P : Bool → Type 0 = λ b. IsReadAgain rest (cond b (SetAttrRefused k) (Refused n k)) in
     elim (cases_eq n 34) [
-      | inl eq ↦ subst P (sym (eq-eqb n 34 eq)) (written_result_is (SetAttrRefused k) rest (is.0, is.1) (lit< tt, (is.2, (omega arith, lit< tt, tt))) refl)
-      | inr ne ↦ subst P (sym (ne_eqb n 34 ne)) (written_result_is (Refused n k) rest (is.0, ne, is.1) (small, is.2) refl)
+      | inl eq ↦
+          subst P (sym (eq-eqb n 34 eq)) (written_result_is (SetAttrRefused k) rest (is.0, is.1)
+          (lit< tt, (is.2, (omega arith, lit< tt, tt))) refl)
+      | inr ne ↦
+          subst P (sym (ne_eqb n 34 ne)) (written_result_is (Refused n k) rest (is.0, ne, is.1) (small, is.2) refl)
     ]

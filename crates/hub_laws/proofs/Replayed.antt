@@ -1,5 +1,6 @@
 -- Entries that are replayed leave what a checkpoint asks of a server.
-use Rattle.std.proofs.Common.{◌≡◌, ◌≤◌, ◌∙◌, ℕ, Bool, List, [], ◌∷◌, Option, Some, None, Ok, Err, inl, inr, refl, sym, ap, subst, arith}
+use Rattle.std.proofs.Common.{◌≡◌, ◌≤◌, ◌∙◌, ℕ, Bool, List, [], ◌∷◌, Option, Some, None, Ok, Err, inl, inr, refl, sym}
+use Rattle.std.proofs.Common.{ap, subst, arith}
 use Rattle.std.specs.Prelude.{◌⊎◌, MatchOption, Result}
 use Rattle.xdr_wire.specs.Reading.{read_at}
 use Rattle.xdr_wire.specs.Xdr.{Value}
@@ -67,11 +68,13 @@ module _ (P : Realm → Type 0) (keeps : Keeps P) where
   ready_for_keeps (Ends status) s held = held
   ready_for_keeps (Refuses number status) s held = held
   ready_for_keeps (Acts op) s held = held
-  ready_for_keeps (Follows v operations) s held = keeps.registry s.realm (lagging_at (session_of (sequence_session v)) (sequence_slot v) s.realm.registry) held
+  ready_for_keeps (Follows v operations) s held =
+      keeps.registry s.realm (lagging_at (session_of (sequence_session v)) (sequence_slot v) s.realm.registry) held
 
   ready_of_keeps : (a : Option (Value args_form × List ℕ)) (s : State) → P s.realm → P (ready_of a s).realm
   ready_of_keeps None s held = held
-  ready_of_keeps (Some ((tag, (minor, count)), operations)) s held = ready_for_keeps (beginning minor count operations) s held
+  ready_of_keeps (Some ((tag, (minor, count)), operations)) s held =
+      ready_for_keeps (beginning minor count operations) s held
 
   ready_keeps : (call : ServerCall) (s : State) → P s.realm → P (ready call s).realm
   unfolding ready
@@ -81,34 +84,46 @@ module _ (P : Realm → Type 0) (keeps : Keeps P) where
     held_as : (old new : State) → new ≡ old → Holds least old → Holds least new
     held_as old new same held = subst (Holds least) (sym same) held
 
-    call_keeps : (c : Called) (call : ServerCall) (old new : State) → CallEnds (Ok tt) c call old new → Holds least old → Holds least new
+    call_keeps : (c : Called) (call : ServerCall) (old new : State) → CallEnds (Ok tt) c call old new → Holds least old
+        → Holds least new
     call_keeps c call old new (numbered, None, results, again, judges) held = absurd (never_fails Differs judges)
     call_keeps c call old new (numbered, Some ran, results, again, judges) held =
         let s = ready call old in
         let answers = answers_without (fate s call) s call (Some results) ran new again.0 in
-        let same : new.settings ≡ old.settings = by_fate (fate s call) call s (Some results) new answers ∙ ready_set call old in
+        let same : new.settings ≡ old.settings =
+        by_fate (fate s call) call s (Some results) new answers ∙ ready_set call old in
         record {
           realm = session_calls_keep P keeps s call (Some results) new (ready_keeps call old held.realm) answers;
           epoch = subst (λ (x : Settings). least ≤ x.epoch) (sym same) held.epoch;
         }
 
-    caller_keeps : (o : Option Identity) (c : Called) (arguments : List ℕ) (old new : State) → MatchOption o (Strays (Ok tt) old new) (λ caller. CallEnds (Ok tt) c (call_of (arrival_in c) arguments caller) old new) → Holds least old → Holds least new
+    caller_keeps : (o : Option Identity) (c : Called) (arguments : List ℕ) (old new : State)
+        → MatchOption o (Strays (Ok tt) old new)
+        (λ caller. CallEnds (Ok tt) c (call_of (arrival_in c) arguments caller) old new) → Holds least old
+        → Holds least new
     caller_keeps None c arguments old new strays held = absurd (never_fails Differs strays.0)
-    caller_keeps (Some caller) c arguments old new ends held = call_keeps c (call_of (arrival_in c) arguments caller) old new ends held
+    caller_keeps (Some caller) c arguments old new ends held =
+        call_keeps c (call_of (arrival_in c) arguments caller) old new ends held
 
-    asked_keeps : (c : Called) (r : CallResult) (old new : State) → AskedEnds (Ok tt) c r old new → Holds least old → Holds least new
+    asked_keeps : (c : Called) (r : CallResult) (old new : State) → AskedEnds (Ok tt) c r old new → Holds least old
+        → Holds least new
     asked_keeps c (Ok call) old new ends held = caller_keeps call.caller c call.arguments old new ends held
     asked_keeps c (Err fault) old new strays held = absurd (never_fails Differs strays.0)
 
-    book_keeps : (o : Option ℕ) (book : Content) (old new : State) → MatchOption o (Strays (Ok tt) old new) (λ epoch. (Well ≡ Ok tt) × (new ≡ with_book book old)) → Holds least old → Holds least new
+    book_keeps : (o : Option ℕ) (book : Content) (old new : State)
+        → MatchOption o (Strays (Ok tt) old new) (λ epoch. (Well ≡ Ok tt) × (new ≡ with_book book old))
+        → Holds least old → Holds least new
     book_keeps None book old new strays held = absurd (never_fails Differs strays.0)
-    book_keeps (Some epoch) book old new (done, same) held = held_as (with_book book old) new same (record { realm = held.realm; epoch = omega (arith, held.epoch) })
+    book_keeps (Some epoch) book old new (done, same) held =
+        held_as (with_book book old) new same (record { realm = held.realm; epoch = omega (arith, held.epoch) })
 
-    read_keeps : (r : Result Content BookFault) (old new : State) → BookEnds (Ok tt) r old new → Holds least old → Holds least new
+    read_keeps : (r : Result Content BookFault) (old new : State) → BookEnds (Ok tt) r old new → Holds least old
+        → Holds least new
     read_keeps (Ok book) old new ends held = book_keeps (next_epoch old.settings.epoch) book old new ends held
     read_keeps (Err fault) old new strays held = absurd (never_fails Differs strays.0)
 
-    text_keeps : (text : Option (List ℕ)) (old new : State) → TextEnds (Ok tt) text old new → Holds least old → Holds least new
+    text_keeps : (text : Option (List ℕ)) (old new : State) → TextEnds (Ok tt) text old new → Holds least old
+        → Holds least new
     text_keeps text old new (inl memory) held = absurd (never_fails _ memory.0)
     text_keeps text old new (inr (inl strays)) held = absurd (never_fails Differs strays.1.0)
     text_keeps text old new (inr (inr (is_text, ends))) held = read_keeps (book_from text) old new ends held
@@ -117,23 +132,32 @@ module _ (P : Realm → Type 0) (keeps : Keeps P) where
     entry_keeps (Call c) old new ends held = asked_keeps c (asked c.bytes) old new ends held
     entry_keeps (ClientExpired client) old new ends held = of (client_at old.realm.registry client) ends
       where
-        of : {X : Type 0} (o : Option X) → MatchOption o (Strays (Ok tt) old new) (λ known. (Well ≡ Ok tt) × (new ≡ without_client client old)) → Holds least new
+        of : {X : Type 0} (o : Option X) → MatchOption o (Strays (Ok tt) old new)
+            (λ known. (Well ≡ Ok tt) × (new ≡ without_client client old)) → Holds least new
         of None strays = absurd (never_fails Differs strays.0)
-        of (Some known) (done, same) = held_as (without_client client old) new same (record { realm = letting_go_keeps P keeps client old held.realm; epoch = held.epoch })
+        of (Some known) (done, same) =
+            held_as (without_client client old) new same
+            (record { realm = letting_go_keeps P keeps client old held.realm; epoch = held.epoch })
     entry_keeps (Loaded text) old new ends held = text_keeps text old new ends held
 
-    pub all_keep : (entries : List Entry) (old new : State) → ReplaysAll entries old new → Holds least old → Holds least new
+    pub all_keep : (entries : List Entry) (old new : State) → ReplaysAll entries old new → Holds least old
+        → Holds least new
     all_keep [] old new same held = held_as old new same held
-    all_keep (entry ∷ entries) old new (mid, replays, rest) held = all_keep entries mid new rest (entry_keeps entry old mid replays held)
+    all_keep (entry ∷ entries) old new (mid, replays, rest) held =
+        all_keep entries mid new rest (entry_keeps entry old mid replays held)
 
 -- ---- the laws
 
-pub replays_last : (entries : List Entry) (old new : State) → ReplaysAll entries old new → new.realm.lasting ≡ old.realm.lasting
+pub replays_last : (entries : List Entry) (old new : State) → ReplaysAll entries old new
+    → new.realm.lasting ≡ old.realm.lasting
 replays_last entries old new replays =
     let b : Bool = old.realm.lasting in
-    (all_keep (Lasts b) (lasting_keeps b) 0 entries old new replays (record { realm = refl; epoch = omega arith })).realm
+    (all_keep (Lasts b) (lasting_keeps b) 0 entries old new replays
+    (record { realm = refl; epoch = omega arith })).realm
 
-pub replays_later : (entries : List Entry) (old new : State) → ReplaysAll entries old new → old.settings.epoch ≤ new.settings.epoch
+pub replays_later : (entries : List Entry) (old new : State) → ReplaysAll entries old new
+    → old.settings.epoch ≤ new.settings.epoch
 replays_later entries old new replays =
     let b : Bool = old.realm.lasting in
-    (all_keep (Lasts b) (lasting_keeps b) old.settings.epoch entries old new replays (record { realm = refl; epoch = omega arith })).epoch
+    (all_keep (Lasts b) (lasting_keeps b) old.settings.epoch entries old new replays
+    (record { realm = refl; epoch = omega arith })).epoch

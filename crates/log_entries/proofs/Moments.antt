@@ -12,7 +12,9 @@ use Rattle.log_entries.specs.Entries.{moment_in}
 one_moment : (z : ℤ) (n : ℕ) (few : n < 1000000000) (s : (n < 1000000000) ⊎ (1000000000 ≤ n)) →
     (let m : Moment = record { seconds = z; nanoseconds = n; is_fraction = few } in
     Some m ≡ elim s [ inl h ↦ Some (record { seconds = z; nanoseconds = n; is_fraction = h }) | inr h ↦ None ])
-one_moment z n few (inl h) = ap (λ (p : n < 1000000000). let m : Moment = record { seconds = z; nanoseconds = n; is_fraction = p } in Some m) (le_prop few h)
+one_moment z n few (inl h) =
+    ap (λ (p : n < 1000000000). let m : Moment = record { seconds = z; nanoseconds = n; is_fraction = p } in Some m)
+    (le_prop few h)
 one_moment z n few (inr h) = absurd (omega arith)
 
 pub moment_made : (y z : ℤ) (n : ℕ) (few : n < 1000000000) → y ≡ z →
@@ -26,8 +28,11 @@ pub moment_again : (m : Moment) → Some m ≡ moment_in (moment_value m)
 moment_again m = one_moment m.seconds m.nanoseconds m.is_fraction (cases_lt m.nanoseconds 1000000000)
 
 value_by : (v : Value time) (m : Moment) (s : (v.1 < 1000000000) ⊎ (1000000000 ≤ v.1)) →
-    elim s [ inl h ↦ Some (let n : Moment = record { seconds = v.0; nanoseconds = v.1; is_fraction = h } in n) | inr h ↦ None ] ≡ Some m → v ≡ moment_value m
-value_by v m (inl few) is = let same : (let n : Moment = record { seconds = v.0; nanoseconds = v.1; is_fraction = few } in n) ≡ m = cc in ap moment_value same
+    elim s [ inl h ↦ Some (let n : Moment = record { seconds = v.0; nanoseconds = v.1; is_fraction = h } in n) | inr h ↦
+    None ] ≡ Some m → v ≡ moment_value m
+value_by v m (inl few) is =
+    let same : (let n : Moment = record { seconds = v.0; nanoseconds = v.1; is_fraction = few } in n) ≡ m = cc in
+    ap moment_value same
 value_by v m (inr many) is = absurd cc
 
 -- a value that represents a moment is the value of that moment

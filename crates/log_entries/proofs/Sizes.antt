@@ -18,7 +18,8 @@ place_most : (delayed : Option ℕ) → length (spelling (optional uint) delayed
 place_most None = omega arith
 place_most (Some place) = omega arith
 
-call_size : (c : Called) → length (entry_bytes (Call c)) ≡ 28 + length (padded c.bytes) + length (spelling (optional uint) c.delayed)
+call_size : (c : Called) → length (entry_bytes (Call c))
+    ≡ 28 + length (padded c.bytes) + length (spelling (optional uint) c.delayed)
 unfolding entry_bytes
 call_size c = simp length-append (omega arith)
 

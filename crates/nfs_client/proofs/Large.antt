@@ -16,7 +16,8 @@ longer_after n a b le = omega (arith, length-append a b, le)
 
 -- an opaque item includes its bytes
 within : (prefix item : List ℕ) → length item ≤ length (prefix ++ padded item)
-within prefix item = omega (arith, length-append prefix (padded item), length-append item (replicate (padding (length item)) 0))
+within prefix item =
+    omega (arith, length-append prefix (padded item), length-append item (replicate (padding (length item)) 0))
 
 values_within : (s : Seen) (values : List ℕ) → length values ≤ length (op_bytes (set_by s values))
 values_within s values =
@@ -24,7 +25,9 @@ values_within s values =
     let size : List ℕ = to_be_bytes w32 n in
     let set : List ℕ = spelling bitmap (client_set s) in
     let id : List ℕ = spelling stateid anonymous in
-    longer_after n (to_be_bytes w32 34) (id ++ (set ++ (size ++ padded values))) (longer_after n id (set ++ (size ++ padded values)) (longer_after n set (size ++ padded values) (within size values)))
+    longer_after n (to_be_bytes w32 34) (id ++ (set ++ (size ++ padded values)))
+    (longer_after n id (set ++ (size ++ padded values))
+    (longer_after n set (size ++ padded values) (within size values)))
 
 pub setting_is_large : (s : Seen) (values : List ℕ) → most_sent < length values → IsLarge (set_by s values)
 setting_is_large s values large = omega (arith, large, values_within s values)
@@ -35,7 +38,8 @@ unfolding client_values
 size_is_small None = omega arith
 size_is_small (Some n) = omega arith
 
-pub size_is_sent : {Y : Type 0} (bytes : Y → List ℕ) (size : Option ℕ) (f : ToolFault) → ValuesGive bytes (with_size size) (Err f) → f ≡ fault.Memory
+pub size_is_sent : {Y : Type 0} (bytes : Y → List ℕ) (size : Option ℕ) (f : ToolFault)
+    → ValuesGive bytes (with_size size) (Err f) → f ≡ fault.Memory
 size_is_sent bytes size fault.Memory h = refl
 size_is_sent bytes size fault.TooLarge h = absurd (no h)
   where

@@ -8,13 +8,18 @@ use Rattle.nfs_client.specs.declared.fault.ToolFault.{ToolFault}
 use Rattle.nfs_client.specs.declared.fault.ToolFault.TheVariants as fault
 use Rattle.nfs_client.specs.declared.client.Client.{Client}
 
-module _ {S A : Type 0} (talks : Talking S) (old mid last new : Client S A) (first : Ends talks (destroy_session old.session) old mid (Ok tt)) where
+module _ {S A : Type 0} (talks : Talking S) (old mid last new : Client S A)
+    (first : Ends talks (destroy_session old.session) old mid (Ok tt)) where
   -- the second exchange uses the client after the first
-  second : (outcome : Result (Unit {0}) ToolFault) → Ends talks (destroy_client mid.client) mid last outcome → Ends talks (destroy_client old.client) mid last outcome
+  second : (outcome : Result (Unit {0}) ToolFault) → Ends talks (destroy_client mid.client) mid last outcome
+      → Ends talks (destroy_client old.client) mid last outcome
   second outcome h = subst (λ (n : ℕ). Ends talks (destroy_client n) mid last outcome) first.1.client h
 
-  pub ended : (outcome : Result (Unit {0}) ToolFault) → Ends talks (destroy_client mid.client) mid last outcome → Breaks outcome last new → EndGives talks old new outcome
-  ended (Ok done) h is = (mid, first, subst (λ (c : Client S A). Ends talks (destroy_client old.client) mid c (Ok done)) (sym is) (second (Ok done) h))
+  pub ended : (outcome : Result (Unit {0}) ToolFault) → Ends talks (destroy_client mid.client) mid last outcome
+      → Breaks outcome last new → EndGives talks old new outcome
+  ended (Ok done) h is =
+      (mid, first, subst (λ (c : Client S A). Ends talks (destroy_client old.client) mid c (Ok done)) (sym is)
+      (second (Ok done) h))
   ended (Err fault.Memory) h is = inr (mid, last, first, second (Err fault.Memory) h, is)
   ended (Err fault.Reply) h is = inr (mid, last, first, second (Err fault.Reply) h, is)
   ended (Err fault.Read) h is = inr (mid, last, first, second (Err fault.Read) h, is)

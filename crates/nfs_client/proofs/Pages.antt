@@ -12,8 +12,10 @@ use Rattle.nfs_client.specs.declared.fault.ToolFault.TheVariants as fault
 use Rattle.nfs_client.specs.declared.client.Client.{Client}
 
 -- a failure doesn't depend on the value that would be taken
-pub same_failure : {S A X Y V : Type 0} (talks : Talking S) (taken : List Outcome → Option V) (value : X → V) (other : Y → V) (in_session : Bool) (ops : List Operation) (old new : Client S A) (f : ToolFault)
-    → AskGives talks (taking taken value) (record { ops = ops; in_session = in_session }) old new (Err f) → AskGives talks (taking taken other) (record { ops = ops; in_session = in_session }) old new (Err f)
+pub same_failure : {S A X Y V : Type 0} (talks : Talking S) (taken : List Outcome → Option V) (value : X → V)
+    (other : Y → V) (in_session : Bool) (ops : List Operation) (old new : Client S A) (f : ToolFault)
+    → AskGives talks (taking taken value) (record { ops = ops; in_session = in_session }) old new (Err f)
+    → AskGives talks (taking taken other) (record { ops = ops; in_session = in_session }) old new (Err f)
 same_failure talks taken value other in_session ops old new fault.Memory h = h
 same_failure talks taken value other in_session ops old new fault.Reply h = h
 same_failure talks taken value other in_session ops old new fault.Read h = h
@@ -29,8 +31,10 @@ module _ {S A V : Type 0} (paging : Paging S A V) (old : Client S A) where
   pub record Paged (at : Client S A) (before : List V) : Type 0 where
     pub goes : Goes paging old before at
 
-  pub stops : {X W : Type 0} (value : X → W) (whole : List V → W) (mid last new : Client S A) (before : List V) (f : ToolFault) → Goes paging old before mid → length before < most_calls
-      → PageGives paging before mid last (Err f) → Spoils {X = X} (Err f) last new → PagesGive paging value whole old new (Err f)
+  pub stops : {X W : Type 0} (value : X → W) (whole : List V → W) (mid last new : Client S A) (before : List V)
+      (f : ToolFault) → Goes paging old before mid → length before < most_calls
+      → PageGives paging before mid last (Err f) → Spoils {X = X} (Err f) last new
+      → PagesGive paging value whole old new (Err f)
   stops value whole mid last new before fault.Memory g few h is = (mid, last, before, g, few, h, is)
   stops value whole mid last new before fault.Reply g few h is = inl (mid, last, before, g, few, h, is)
   stops value whole mid last new before fault.Read g few h is = (mid, last, before, g, few, h, is)

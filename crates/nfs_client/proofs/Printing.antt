@@ -12,8 +12,10 @@ use Rattle.nfs_client.specs.declared.fault.ToolFault.{ToolFault}
 use Rattle.nfs_client.specs.declared.fault.ToolFault.TheVariants.{Failed}
 
 -- a newline is appended to the bytes of a file; if its allocation fails the client isn't usable
-pub newline_put : {S A : Type 0} (talks : Talking S) (path : List ℕ) (old mid new : Client S A) (bytes : Vec ℕ A) (outcome : Result (Answer A) ToolFault)
-    → CatGives talks (text_of_bytes {A = A}) path old mid (Ok bytes) → NewlineGives bytes.items outcome → Spoils outcome mid new → CatPrints talks path old new outcome
+pub newline_put : {S A : Type 0} (talks : Talking S) (path : List ℕ) (old mid new : Client S A) (bytes : Vec ℕ A)
+    (outcome : Result (Answer A) ToolFault)
+    → CatGives talks (text_of_bytes {A = A}) path old mid (Ok bytes) → NewlineGives bytes.items outcome
+    → Spoils outcome mid new → CatPrints talks path old new outcome
 newline_put {S = S} {A = A} talks path old mid new bytes (Ok answer) gives text spoils =
     let P : Client S A → Type 0 = λ m. CatGives talks (text_of_bytes {A = A}) path old m (Ok bytes) in
     inl (Ok bytes, subst P (sym spoils) gives, text)
@@ -23,7 +25,8 @@ newline_put {S = S} {A = A} talks path old mid new bytes (Err fault) gives text 
     inr (bytes, mid, gives, spoilt, ap (λ (f : ToolFault). Err f) text)
 
 -- on a client that isn't usable no command runs
-pub none_runs : {S A : Type 0} (talks : Talking S) (command : CommandLine) (client : Client S A) → client.usable ≡ false → Runs {S = S} {A = A} talks command client client (Err Failed)
+pub none_runs : {S A : Type 0} (talks : Talking S) (command : CommandLine) (client : Client S A) → client.usable ≡ false
+    → Runs {S = S} {A = A} talks command client client (Err Failed)
 none_runs talks (Ls path) client h = (Err Failed, (h, refl), refl)
 none_runs talks (Cat path) client h = inl (Err Failed, (h, refl), refl)
 none_runs talks (Put path text) client h = (Err Failed, (h, refl), refl)

@@ -20,18 +20,24 @@ module _ {S A X : Type 0} (talks : Talking S) (value : X → List ℕ) (path : L
   PiecesAt route mid r = PagesGive (by_pieces talks route) value bytes_of mid new r
 
   abbrev CatAsked : Result X ToolFault → Type 0
-  CatAsked outcome = (names : List (List ℕ)) × (names_in path ≡ Some names) × Walked talks most_names names PiecesAt old new outcome
+  CatAsked outcome =
+      (names : List (List ℕ)) × (names_in path ≡ Some names) × Walked talks most_names names PiecesAt old new outcome
 
   cat_prints : (result : Result X ToolFault) → CatAsked result → CatGives talks value path old new result
   cat_prints result h =
-      commanded (NoPath path) CatAsked old new result (λ a. no_path talks most_names a.0 PiecesAt old new (λ route mid i. i.5) a.2)
-      (λ a. no_entry talks most_names a.0 PiecesAt old new (λ route mid i. i.5) a.2) (λ a. no_failed talks most_names a.0 PiecesAt old new (λ route mid i. i.5) a.2) h
+      commanded (NoPath path) CatAsked old new result
+      (λ a. no_path talks most_names a.0 PiecesAt old new (λ route mid i. i.5) a.2)
+      (λ a. no_entry talks most_names a.0 PiecesAt old new (λ route mid i. i.5) a.2)
+      (λ a. no_failed talks most_names a.0 PiecesAt old new (λ route mid i. i.5) a.2) h
 
-  pub cat_reads : (names : List (List ℕ)) (mid : Client S A) (route : Route) (result : Result X ToolFault) → names_in path ≡ Some names → WalkGives talks itself most_names names old mid (Ok route)
+  pub cat_reads : (names : List (List ℕ)) (mid : Client S A) (route : Route) (result : Result X ToolFault)
+      → names_in path ≡ Some names → WalkGives talks itself most_names names old mid (Ok route)
       → PagesGive (by_pieces talks route) value bytes_of mid new result → CatGives talks value path old new result
-  cat_reads names mid route result is walk pages = cat_prints result (names, is, walked_after talks most_names names PiecesAt old new mid route result walk pages)
+  cat_reads names mid route result is walk pages =
+      cat_prints result (names, is, walked_after talks most_names names PiecesAt old new mid route result walk pages)
 
-  pub cat_stops : (names : List (List ℕ)) (f : ToolFault) → names_in path ≡ Some names → WalkFails talks most_names names old new f → CatGives talks value path old new (Err f)
+  pub cat_stops : (names : List (List ℕ)) (f : ToolFault) → names_in path ≡ Some names
+      → WalkFails talks most_names names old new f → CatGives talks value path old new (Err f)
   cat_stops names f is fails = cat_prints (Err f) (names, is, inl fails)
 
 -- lines with these ends are listed at the end of a route
@@ -40,16 +46,26 @@ module _ {S A X : Type 0} (talks : Talking S) (value : X → List ℕ) (lines : 
   LinesThere set route mid r = PagesGive (by_listings talks lines.ends route set) value text_of mid new r
 
   abbrev LsAsked : Result X ToolFault → Type 0
-  LsAsked outcome = (names : List (List ℕ)) × (set : List ℕ) × (names_in lines.path ≡ Some names) × AreListed set × Walked talks most_names names (LinesThere set) old new outcome
+  LsAsked outcome =
+      (names : List (List ℕ)) × (set : List ℕ) × (names_in lines.path ≡ Some names) × AreListed set
+      × Walked talks most_names names (LinesThere set) old new outcome
 
   ls_prints : (result : Result X ToolFault) → LsAsked result → LinesGive talks value lines old new result
   ls_prints result h =
-      commanded (NoPath lines.path) LsAsked old new result (λ a. no_path talks most_names a.0 (LinesThere a.1) old new (λ route mid i. i.5) a.4)
-      (λ a. no_entry talks most_names a.0 (LinesThere a.1) old new (λ route mid i. i.5) a.4) (λ a. no_failed talks most_names a.0 (LinesThere a.1) old new (λ route mid i. i.5) a.4) h
+      commanded (NoPath lines.path) LsAsked old new result
+      (λ a. no_path talks most_names a.0 (LinesThere a.1) old new (λ route mid i. i.5) a.4)
+      (λ a. no_entry talks most_names a.0 (LinesThere a.1) old new (λ route mid i. i.5) a.4)
+      (λ a. no_failed talks most_names a.0 (LinesThere a.1) old new (λ route mid i. i.5) a.4) h
 
-  pub ls_lists : (names : List (List ℕ)) (set : List ℕ) (mid : Client S A) (route : Route) (result : Result X ToolFault) → names_in lines.path ≡ Some names → AreListed set
-      → WalkGives talks itself most_names names old mid (Ok route) → PagesGive (by_listings talks lines.ends route set) value text_of mid new result → LinesGive talks value lines old new result
-  ls_lists names set mid route result is listed walk pages = ls_prints result (names, set, is, listed, walked_after talks most_names names (LinesThere set) old new mid route result walk pages)
+  pub ls_lists : (names : List (List ℕ)) (set : List ℕ) (mid : Client S A) (route : Route) (result : Result X ToolFault)
+      → names_in lines.path ≡ Some names → AreListed set
+      → WalkGives talks itself most_names names old mid (Ok route)
+      → PagesGive (by_listings talks lines.ends route set) value text_of mid new result
+      → LinesGive talks value lines old new result
+  ls_lists names set mid route result is listed walk pages =
+      ls_prints result (names, set, is, listed,
+      walked_after talks most_names names (LinesThere set) old new mid route result walk pages)
 
-  pub ls_stops : (names : List (List ℕ)) (set : List ℕ) (f : ToolFault) → names_in lines.path ≡ Some names → AreListed set → WalkFails talks most_names names old new f → LinesGive talks value lines old new (Err f)
+  pub ls_stops : (names : List (List ℕ)) (set : List ℕ) (f : ToolFault) → names_in lines.path ≡ Some names
+      → AreListed set → WalkFails talks most_names names old new f → LinesGive talks value lines old new (Err f)
   ls_stops names set f is listed fails = ls_prints (Err f) (names, set, is, listed, inl fails)

@@ -14,10 +14,12 @@ last_after (p ∷ []) o = refl
 last_after (p ∷ q ∷ prefix) o = last_after (q ∷ prefix) o
 
 -- the popped result is the last
-pub popped : (items rest : List OpResult) (last : Option OpResult) → items ≡ rest ++ option_to_list last → (last ≡ None → items ≡ []) → option_map read_view last ≡ last_of (outcomes items)
+pub popped : (items rest : List OpResult) (last : Option OpResult) → items ≡ rest ++ option_to_list last
+    → (last ≡ None → items ≡ []) → option_map read_view last ≡ last_of (outcomes items)
 popped items rest None is none = ap (λ (os : List OpResult). last_of (outcomes os)) (sym (none refl))
 popped items rest (Some o) is none =
-    sym (ap (λ (os : List OpResult). last_of (outcomes os)) is ∙ ap last_of (map-append read_view rest (o ∷ [])) ∙ last_after (outcomes rest) (read_view o))
+    sym (ap (λ (os : List OpResult). last_of (outcomes os)) is ∙ ap last_of (map-append read_view rest (o ∷ []))
+    ∙ last_after (outcomes rest) (read_view o))
 
 last_two_after : (prefix : List Outcome) (o p : Outcome) → last_two (prefix ++ o ∷ p ∷ []) ≡ Some (o, p)
 last_two_after [] o p = refl
@@ -26,7 +28,11 @@ last_two_after (q ∷ r ∷ []) o p = refl
 last_two_after (q ∷ r ∷ s ∷ prefix) o p = last_two_after (r ∷ s ∷ prefix) o p
 
 -- the two popped results are the last two
-pub popped_two : (items rest rest' : List OpResult) (last before : OpResult) → items ≡ rest ++ last ∷ [] → rest ≡ rest' ++ before ∷ [] → Some (read_view before, read_view last) ≡ last_two (outcomes items)
+pub popped_two : (items rest rest' : List OpResult) (last before : OpResult) → items ≡ rest ++ last ∷ []
+    → rest ≡ rest' ++ before ∷ [] → Some (read_view before, read_view last) ≡ last_two (outcomes items)
 popped_two items rest rest' last before is was =
-    let both : items ≡ rest' ++ before ∷ last ∷ [] = is ∙ ap (λ (os : List OpResult). os ++ last ∷ []) was ∙ append_assoc rest' (before ∷ []) (last ∷ []) in
-    sym (ap (λ (os : List OpResult). last_two (outcomes os)) both ∙ ap last_two (map-append read_view rest' (before ∷ last ∷ [])) ∙ last_two_after (outcomes rest') (read_view before) (read_view last))
+    let both : items ≡ rest' ++ before ∷ last ∷ [] =
+    is ∙ ap (λ (os : List OpResult). os ++ last ∷ []) was ∙ append_assoc rest' (before ∷ []) (last ∷ []) in
+    sym (ap (λ (os : List OpResult). last_two (outcomes os)) both
+    ∙ ap last_two (map-append read_view rest' (before ∷ last ∷ []))
+    ∙ last_two_after (outcomes rest') (read_view before) (read_view last))

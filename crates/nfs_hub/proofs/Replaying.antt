@@ -7,7 +7,8 @@ use Rattle.compound_run.specs.Replaying.{ready}
 use Rattle.compound_run.specs.State.{State, Call}
 use Rattle.nfs_hub.specs.Replaying.{RunsAgain}
 
-pub runs_again : (delayed : Option ℕ) (call : Call) (old : State) (ran : Option Ran) (before after : Buffer) (new : State) → before.bytes ≡ []
+pub runs_again : (delayed : Option ℕ) (call : Call) (old : State) (ran : Option Ran) (before after : Buffer)
+    (new : State) → before.bytes ≡ []
     → RunsDelaying delayed (ready call old) call ran before after new → RunsAgain delayed call old ran after.bytes new
 runs_again delayed call old None before after new empty runs = runs.0
 runs_again delayed call old (Some ran) before after new empty runs =

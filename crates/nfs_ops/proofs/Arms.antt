@@ -19,7 +19,8 @@ ReadsItem i old new = in_normal_form i.normal (read_at i.form old) ≡ Ok (i.val
 abbrev Faults : List ℕ → XdrFault → Spelled → Type 0
 Faults old fault s = in_normal_form s.normal (read_at s.form old) ≡ Err fault
 
-pub read_is : (k : OpKind) (o : Operation) (i : Item) (old new : List ℕ) → IsOperation k i o → ReadsItem i old new → arguments_of k old ≡ Ok (o, new)
+pub read_is : (k : OpKind) (o : Operation) (i : Item) (old new : List ℕ) → IsOperation k i o → ReadsItem i old new
+    → arguments_of k old ≡ Ok (o, new)
 unfolding arguments_of
 read_is k (Known j v) i old new is e =
     let same : j ≡ k = let found = is.kind in cc in
@@ -28,16 +29,20 @@ read_is k (Known j v) i old new is e =
 read_is k _ i old new is e = let found = is.kind in absurd cc
 
 -- the arguments can't be read, and no argument of the operation is unsupported
-pub unread_is : (k : OpKind) (s : Spelled) (old : List ℕ) (fault : XdrFault) → (row k).takes ≡ s → (row k).unsupported ≡ [] → Faults old fault s → arguments_of k old ≡ Err fault
+pub unread_is : (k : OpKind) (s : Spelled) (old : List ℕ) (fault : XdrFault) → (row k).takes ≡ s
+    → (row k).unsupported ≡ [] → Faults old fault s → arguments_of k old ≡ Err fault
 unfolding arguments_of
 unread_is k s old fault takes all e =
-    ap (supported k old) (subst (Faults old fault) (sym takes) e) ∙ ap (λ (ts : List Xdr). let x : ReadOf Operation = cond (any_at_start ts old) (Ok (Unsupported (row k).number, old)) (Err fault) in x) all
+    ap (supported k old) (subst (Faults old fault) (sym takes) e)
+    ∙ ap (λ (ts : List Xdr). let x : ReadOf Operation = cond (any_at_start ts old)
+    (Ok (Unsupported (row k).number, old)) (Err fault) in x) all
 
 -- the result of an operation, and the same if it can't be read
 abbrev gives : (k : OpKind) → ReadOf (Value (row k).gives.form) → ReadOf Outcome
 gives k read = read >>= λ x. Ok (Done k x.0, x.1)
 
-pub given_is : (k : OpKind) (o : Outcome) (i : Item) (old new : List ℕ) → IsDone k i o → ReadsItem i old new → spelled_of k old ≡ Ok (o, new)
+pub given_is : (k : OpKind) (o : Outcome) (i : Item) (old new : List ℕ) → IsDone k i o → ReadsItem i old new
+    → spelled_of k old ≡ Ok (o, new)
 unfolding spelled_of
 given_is k (Done j v) i old new is e =
     let same : j ≡ k = let found = is.kind in cc in
@@ -45,6 +50,7 @@ given_is k (Done j v) i old new is e =
     ap (λ (m : OpKind). spelled_of m old) (sym same) ∙ ap (gives j) here
 given_is k _ i old new is e = let found = is.kind in absurd cc
 
-pub ungiven_is : (k : OpKind) (s : Spelled) (old : List ℕ) (fault : XdrFault) → (row k).gives ≡ s → Faults old fault s → spelled_of k old ≡ Err fault
+pub ungiven_is : (k : OpKind) (s : Spelled) (old : List ℕ) (fault : XdrFault) → (row k).gives ≡ s → Faults old fault s
+    → spelled_of k old ≡ Err fault
 unfolding spelled_of
 ungiven_is k s old fault is e = ap (gives k) (subst (Faults old fault) (sym is) e)

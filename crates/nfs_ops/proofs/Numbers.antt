@@ -12,7 +12,8 @@ kind_is Access = refl
 kind_is _ = refl
 
 -- one of the cases of a test of numbers, and the case after it
-pub either : {A : Type 0} (P : Type 0) (n k : ℕ) (x y z : A) → cond (n == k) x y ≡ z → (n ≡ k → x ≡ z → P) → (y ≡ z → P) → P
+pub either : {A : Type 0} (P : Type 0) (n k : ℕ) (x y z : A) → cond (n == k) x y ≡ z → (n ≡ k → x ≡ z → P) → (y ≡ z → P)
+    → P
 either P n k x y z e is_k other =
     elim (cases_eq n k) [
       | inl eq ↦ is_k eq (sym (ap (λ b. cond b x y) (eq-eqb n k eq)) ∙ e)
@@ -25,7 +26,8 @@ some_is j k n e f = e ∙ ap (λ (o : Option OpKind). elim o as (λ w. ℕ) [ So
 found_number : (ks : List OpKind) (n : ℕ) (k : OpKind) → with_number ks n ≡ Some k → n ≡ (row k).number
 found_number [] n k e = absurd cc
 found_number (j ∷ ks) n k e =
-    either (n ≡ (row k).number) n (row j).number (Some j) (with_number ks n) (Some k) e (λ eq h. some_is j k n eq h) (λ h. found_number ks n k h)
+    either (n ≡ (row k).number) n (row j).number (Some j) (with_number ks n) (Some k) e (λ eq h. some_is j k n eq h)
+    (λ h. found_number ks n k h)
 
 pub number_is : (n : ℕ) (k : OpKind) → kind_at n ≡ Some k → n ≡ (row k).number
 unfolding kind_at

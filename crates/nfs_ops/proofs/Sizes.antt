@@ -1,33 +1,42 @@
 -- The size of a result: its largest size bounds each of its encodings.
-use Rattle.std.proofs.Common.{◌≡◌, refl, ap, ◌∙◌, ℕ, ◌+◌, ◌*◌, ◌≤◌, List, [], ◌∷◌, length, Result, Ok, Err, replicate, inl, inr, IsTrue, is_ok, OnOk, arith, true, false, cond, ◌==◌}
+use Rattle.std.proofs.Common.{◌≡◌, refl, ap, ◌∙◌, ℕ, ◌+◌, ◌*◌, ◌≤◌, List, [], ◌∷◌, length, Result, Ok, Err, replicate}
+use Rattle.std.proofs.Common.{inl, inr, IsTrue, is_ok, OnOk, arith, true, false, cond, ◌==◌}
 use Rattle.std.specs.Int.{w32, to_be_bytes}
 use Rattle.std.specs.List.{flat_map, sum_by}
 use Rattle.std.proofs.lemmas.List.{length-append, length-replicate}
 use Rattle.std.proofs.lemmas.Bool.{and_parts}
 use Rattle.std.proofs.lemmas.List.Sums.{sum_by-cons}
-use Rattle.xdr_wire.specs.Xdr.{Xdr, Value, void, uint, hyper, boolean, fixed, opaque, pair, array, chain, union, arm, no_more, fields, padded, padding, spelling, link, HasSpelling}
+use Rattle.xdr_wire.specs.Xdr.{Xdr, Value, void, uint, hyper, boolean, fixed, opaque, pair, array, chain, union, arm}
+use Rattle.xdr_wire.specs.Xdr.{no_more, fields, padded, padding, spelling, link, HasSpelling}
 use Rattle.xdr_wire.specs.Buffer.{Buffer, Puts}
 use Rattle.xdr_wire.proofs.Words.{length_words}
 use Rattle.nfs_types.specs.Forms.{trimmed, cons_trimmed, stateid, bitmap, attributes}
-use Rattle.nfs_ops.specs.Forms.{with_padding, always, zeros, bytes, change_info, entry, size_of_entry, create_result, getattr_result, open_result, read_result, readdir_result, readlink_result, setattr_result}
+use Rattle.nfs_ops.specs.Forms.{with_padding, always, zeros, bytes, change_info, entry, size_of_entry, create_result}
+use Rattle.nfs_ops.specs.Forms.{getattr_result, open_result, read_result, readdir_result, readlink_result}
+use Rattle.nfs_ops.specs.Forms.{setattr_result}
 use Rattle.nfs_ops.specs.Items.{Item, done, ItemHasSpelling, ItemIsNormal, item_spelling}
 use Rattle.nfs_ops.specs.Writing.{IsWrittenWithin}
 use Rattle.nfs_ops.specs.Results.{Outcome, Done, Refused, SetAttrRefused, outcome_item}
-use Rattle.nfs_ops.specs.Sizes.{greatest, has_bound, change_size, setattr_refused_size, most, carries_bytes, is_change, is_refusal}
+use Rattle.nfs_ops.specs.Sizes.{greatest, has_bound, change_size, setattr_refused_size, most, carries_bytes, is_change}
+use Rattle.nfs_ops.specs.Sizes.{is_refusal}
 use Rattle.nfs_ops.specs.Rows.{row}
 use Rattle.nfs_ops.specs.declared.OpKind.{OpKind}
 use Rattle.nfs_ops.specs.declared.OpKind.TheVariants.{Create, GetAttr, Open, Read, ReadDir, ReadLink, SetAttr}
 
 -- n bytes or fewer are written if n bytes fit
-pub fits : {E : Type 0} (old new : Buffer) (item : List ℕ) (r : Result (Unit {0}) E) (n : ℕ) → Puts old new item r → length item ≤ n → n ≤ old.room → IsTrue (is_ok r)
+pub fits : {E : Type 0} (old new : Buffer) (item : List ℕ) (r : Result (Unit {0}) E) (n : ℕ) → Puts old new item r
+    → length item ≤ n → n ≤ old.room → IsTrue (is_ok r)
 fits old new item (Ok x) n puts short room = refl
 fits old new item (Err e) n puts short room = absurd (omega (arith, puts.0, short, room))
 
 -- an item of n bytes or fewer is written if n bytes fit
-pub written_within : {E : Type 0} (i : Item) (n : ℕ) (old new : Buffer) (r : Result (Unit {0}) E) → OnOk r (ItemHasSpelling i) → OnOk r (ItemIsNormal i) → Puts old new (item_spelling i) r
+pub written_within : {E : Type 0} (i : Item) (n : ℕ) (old new : Buffer) (r : Result (Unit {0}) E)
+    → OnOk r (ItemHasSpelling i) → OnOk r (ItemIsNormal i) → Puts old new (item_spelling i) r
     → length (item_spelling i) ≤ n → IsWrittenWithin i n old new r
 unfolding IsWrittenWithin
-written_within i n old new r has normal puts short = record { has_spelling = has; in_normal_form = normal; fits = λ room. fits old new (item_spelling i) r n puts short room; puts = puts }
+written_within i n old new r has normal puts short =
+    record { has_spelling = has; in_normal_form = normal;
+    fits = λ room. fits old new (item_spelling i) r n puts short room; puts = puts }
 
 -- the bytes that a result takes
 abbrev size : (k : OpKind) → Value (row k).gives.form → ℕ
@@ -36,11 +45,14 @@ size k v = length (item_spelling (done (row k).number (row k).gives v))
 -- ---- the parts of results
 
 -- two fields, one after the other
-two : (s t : Xdr) (v : Value (pair s t)) → length (spelling (pair s t) v) ≡ length (spelling s v.0) + length (spelling t v.1)
+two : (s t : Xdr) (v : Value (pair s t)) → length (spelling (pair s t) v)
+    ≡ length (spelling s v.0) + length (spelling t v.1)
 two s t v = length-append (spelling s v.0) (spelling t v.1)
 
 padded_is : (v : List ℕ) → length (padded v) ≡ with_padding (length v)
-padded_is v = length-append v (replicate (padding (length v)) 0) ∙ ap (λ (n : ℕ). length v + n) (length-replicate (padding (length v)) 0)
+padded_is v =
+    length-append v (replicate (padding (length v)) 0)
+    ∙ ap (λ (n : ℕ). length v + n) (length-replicate (padding (length v)) 0)
 
 -- more bytes take as much room or more
 pub rises : (few many : ℕ) → few ≤ many → with_padding few ≤ with_padding many
@@ -73,12 +85,15 @@ entry_is e = omega (arith, two bytes attributes e.1, opaque_is 0xffff_ffff e.1.0
 
 pub entries_are : (es : List (Value entry)) → length (flat_map (link (spelling entry)) es) ≡ sum_by size_of_entry es
 entries_are [] = refl
-entries_are (e ∷ es) = omega (arith, length-append (link (spelling entry) e) (flat_map (link (spelling entry)) es), entry_is e, entries_are es, sum_by-cons size_of_entry e es)
+entries_are (e ∷ es) =
+    omega (arith, length-append (link (spelling entry) e) (flat_map (link (spelling entry)) es), entry_is e,
+    entries_are es, sum_by-cons size_of_entry e es)
 
 -- ---- the parts of a result of the program
 
 cons_trimmed_short : (w : ℕ) (ws : List ℕ) → length (cons_trimmed w ws) ≤ 1 + length ws
-cons_trimmed_short w [] = elim (w == 0) as (λ b. length (cond b [] (w ∷ [])) ≤ 1) [ true ↦ omega arith | false ↦ omega arith ]
+cons_trimmed_short w [] =
+    elim (w == 0) as (λ b. length (cond b [] (w ∷ [])) ≤ 1) [ true ↦ omega arith | false ↦ omega arith ]
 cons_trimmed_short w (v ∷ ws) = omega arith
 
 trimmed_short : (ws : List ℕ) → length (trimmed ws) ≤ length ws
@@ -125,7 +140,10 @@ abbrev after_change : Xdr
 after_change = fields (always 0 ∷ bitmap ∷ always 0 ∷ [])
 
 pub open_short : (v : Value open_result) → length v.0.1 ≡ 12 → length v.1.1.1.0 ≤ 8 → size Open v ≤ 88
-open_short v whole few = omega (arith, two stateid (pair change_info after_change) v, two change_info after_change v.1, two (always 0) (pair bitmap (always 0)) v.1.1, two bitmap (always 0) v.1.1.1, stateid_is v.0 whole, change_info_is v.1.0, always_is 0 v.1.1.0, bitmap_is v.1.1.1.0, always_is 0 v.1.1.1.1, few)
+open_short v whole few =
+    omega (arith, two stateid (pair change_info after_change) v, two change_info after_change v.1,
+    two (always 0) (pair bitmap (always 0)) v.1.1, two bitmap (always 0) v.1.1.1, stateid_is v.0 whole,
+    change_info_is v.1.0, always_is 0 v.1.1.0, bitmap_is v.1.1.1.0, always_is 0 v.1.1.1.1, few)
 
 pub read_is : (v : Value read_result) → size Read v ≡ most (Done Read v)
 read_is v = omega (arith, opaque_is 0xffff_ffff v.1)
@@ -134,7 +152,9 @@ pub read_short : (v : Value read_result) → size Read v ≤ most (Done Read v)
 read_short v = omega (arith, read_is v)
 
 pub readdir_is : (v : Value readdir_result) → size ReadDir v ≡ most (Done ReadDir v)
-readdir_is v = omega (arith, two zeros (pair (chain entry) boolean) v, zeros_is v.0, two (chain entry) boolean v.1, length-append (flat_map (link (spelling entry)) v.1.0) (to_be_bytes w32 0), entries_are v.1.0)
+readdir_is v =
+    omega (arith, two zeros (pair (chain entry) boolean) v, zeros_is v.0, two (chain entry) boolean v.1,
+    length-append (flat_map (link (spelling entry)) v.1.0) (to_be_bytes w32 0), entries_are v.1.0)
 
 pub readdir_short : (v : Value readdir_result) → size ReadDir v ≤ most (Done ReadDir v)
 readdir_short v = omega (arith, readdir_is v)

@@ -12,11 +12,13 @@ use Rattle.hub_laws.proofs.Served.{steps_last}
 use Rattle.hub_laws.proofs.Settled.{steps_later}
 use Rattle.nfs_hub.specs.Machine.{State, Event, Step}
 
-pub lasting_on : (event : Event) (old new : State) → log_goes_on event → Step event old new → IsLasting old.served.state → IsLasting new.served.state
+pub lasting_on : (event : Event) (old new : State) → log_goes_on event → Step event old new → IsLasting old.served.state
+    → IsLasting new.served.state
 lasting_on event old new on step was = record {
   lasting = steps_last event old new step ∙ was.lasting;
   epoch = omega (arith, was.epoch, steps_later event old new step);
 }
 
-pub represents_alone : (store : CallStore) (t : ServerState) (acts : List DiskAct) → Serving store t acts → KeptRepresent (t ∷ []) acts
+pub represents_alone : (store : CallStore) (t : ServerState) (acts : List DiskAct) → Serving store t acts
+    → KeptRepresent (t ∷ []) acts
 represents_alone store t acts serving = served_represents store t acts serving

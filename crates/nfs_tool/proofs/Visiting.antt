@@ -21,8 +21,11 @@ abbrev keeps : {A : Type 0} → Reaching {S = Local A} LocalTalks
 keeps = record { reaches = IsSameStream; stays = stays; joins = joins; goes = λ a b call result h. h.0 }
 
 -- a session with one command keeps it too
-pub kept : {A : Type 0} (command : CommandLine) (owner : ClientOwner) (old new : Client (Local A) A) (answer : Result (Answer A) ToolFault) → RunsOver {S = Local A} LocalTalks command owner old new answer → IsSameStream old.stream new.stream
+pub kept : {A : Type 0} (command : CommandLine) (owner : ClientOwner) (old new : Client (Local A) A)
+    (answer : Result (Answer A) ToolFault) → RunsOver {S = Local A} LocalTalks command owner old new answer
+    → IsSameStream old.stream new.stream
 kept command owner old new answer (inl (fault, begun, is)) = begins LocalTalks keeps owner old new (Err fault) begun
 kept command owner old new answer (inr (begun, ran, ended, first, second, last)) =
     joins old.stream begun.stream new.stream (begins LocalTalks keeps owner old begun (Ok tt) first)
-    (joins begun.stream ran.stream new.stream (runs LocalTalks keeps command begun ran answer second) (ends LocalTalks keeps ran new ended last))
+    (joins begun.stream ran.stream new.stream (runs LocalTalks keeps command begun ran answer second)
+    (ends LocalTalks keeps ran new ended last))

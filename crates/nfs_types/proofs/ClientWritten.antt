@@ -1,5 +1,6 @@
 -- The values that a client writes are read back as these values.
-use Rattle.std.proofs.Common.{◌≡◌, ◌∙◌, ℕ, ◌+◌, Bool, true, false, cond, ◌&&◌, nat_eq, List, [], ◌∷◌, ◌++◌, Option, Some, None, is_some, Ok, bit_and, refl, sym, arith}
+use Rattle.std.proofs.Common.{◌≡◌, ◌∙◌, ℕ, ◌+◌, Bool, true, false, cond, ◌&&◌, nat_eq, List, [], ◌∷◌, ◌++◌, Option}
+use Rattle.std.proofs.Common.{Some, None, is_some, Ok, bit_and, refl, sym, arith}
 use Rattle.std.specs.Int.{bit_at, bit_not, w32}
 use Rattle.std.proofs.lemmas.Bool.{and_parts, eqb-true}
 use Rattle.xdr_wire.specs.Xdr.{Xdr, Value, uint, hyper, spelling}
@@ -14,7 +15,8 @@ use Rattle.nfs_types.proofs.Numbers.{by_word}
 use Rattle.nfs_types.proofs.Within.{StayBelow, one_word, all_words}
 
 -- a value that is present, or none, is read back
-sent_again : (there : Bool) (t : Xdr) (o : Option (Value t)) (rest : List ℕ) → there ≡ is_some o → CanBeSent t o → chosen_at there t (optional_spelling t o ++ rest) ≡ Ok (o, rest)
+sent_again : (there : Bool) (t : Xdr) (o : Option (Value t)) (rest : List ℕ) → there ≡ is_some o → CanBeSent t o
+    → chosen_at there t (optional_spelling t o ++ rest) ≡ Ok (o, rest)
 sent_again there t None rest is can = rw is refl
 sent_again there t (Some v) rest is can = rw (is, again t v (spelling t v) rest (spelled t v can)) refl
 
@@ -47,7 +49,8 @@ is_set word i = nat_eq (bit_at word i) 1
 abbrev first_test : Bool → Bool → Bool → Bool → Bool
 first_test a b c d =
     let word = first_word a b c d in
-    same (is_set word 1) a && (same (is_set word 4) b && (same (is_set word 11) c && (same (is_set word 12) d && nat_eq (bit_and word (bit_not w32 0x1812)) 0)))
+    same (is_set word 1) a && (same (is_set word 4) b
+    && (same (is_set word 11) c && (same (is_set word 12) d && nat_eq (bit_and word (bit_not w32 0x1812)) 0)))
 
 abbrev second_test : Bool → Bool → Bool → Bool → Bool → Bool
 second_test e f g h i =
@@ -131,7 +134,8 @@ second_has e f g h i =
     }
 
 -- a set of two words that has only known attributes
-known_within : (one two : ℕ) → bit_and one (bit_not w32 0x1812) ≡ 0 → bit_and two (bit_not w32 0xc00_0032) ≡ 0 → is_within (trimmed (one ∷ two ∷ [])) seen_words ≡ true
+known_within : (one two : ℕ) → bit_and one (bit_not w32 0x1812) ≡ 0 → bit_and two (bit_not w32 0xc00_0032) ≡ 0
+    → is_within (trimmed (one ∷ two ∷ [])) seen_words ≡ true
 known_within one two p q =
     let ws = one ∷ two ∷ [] in
     let none : StayBelow ws seen_words 0 = λ n lt. absurd (omega (arith, lt)) in
@@ -179,7 +183,9 @@ pub written_seen : (s : Seen) → IsSendable s → seen_of (client_set s) (clien
 unfolding client_values
 written_seen s can =
     let set = client_set s in
-    let there = has (is_some s.kind) (is_some s.size) (is_some s.error) (is_some s.entries) (is_some s.mode) (is_some s.owner) (is_some s.group) (is_some s.dacl) (is_some s.sacl) in
+    let there =
+    has (is_some s.kind) (is_some s.size) (is_some s.error) (is_some s.entries) (is_some s.mode) (is_some s.owner)
+    (is_some s.group) (is_some s.dacl) (is_some s.sacl) in
     let i = optional_spelling acl41 s.sacl ++ [] in
     let h = optional_spelling acl41 s.dacl ++ i in
     let g = optional_spelling text s.group ++ h in

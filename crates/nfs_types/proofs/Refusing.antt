@@ -18,7 +18,8 @@ use Rattle.nfs_types.specs.Sent.{unless}
 use Rattle.nfs_types.specs.SentFaults.{Answers, attrs_fault}
 
 chain : (a b c : Bool) (others : List AdmitFault) → (slice_get others 0 ≡ Some faults.Memory → ⊥)
-    → slice_get (cons_option (cond a (Some faults.AttrNotSupp) (cond b (Some faults.Inval) (cond c (Some faults.BadOwner) None))) others) 0 ≡ Some faults.Memory → ⊥
+    → slice_get (cons_option (cond a (Some faults.AttrNotSupp)
+    (cond b (Some faults.Inval) (cond c (Some faults.BadOwner) None))) others) 0 ≡ Some faults.Memory → ⊥
 chain true b c others h e = absurd cc
 chain false true c others h e = absurd cc
 chain false false true others h e = absurd cc
@@ -28,9 +29,11 @@ chain false false false others h e = h e
 none_is_memory : (raws : List Raw) → slice_get (filter_map fault_of raws) 0 ≡ Some faults.Memory → ⊥
 none_is_memory [] e = absurd cc
 none_is_memory (r ∷ raws) e =
-    chain (is_none (kind_of r.kind)) (nat_lt flag.DEFINED r.flags || not (without r.mask mask.DEFINED == 0)) (is_none r.who) (filter_map fault_of raws) (none_is_memory raws) e
+    chain (is_none (kind_of r.kind)) (nat_lt flag.DEFINED r.flags || not (without r.mask mask.DEFINED == 0))
+    (is_none r.who) (filter_map fault_of raws) (none_is_memory raws) e
 
-first : (long : Bool) (raws : List Raw) → cond long (Some faults.NoSpc) (slice_get (filter_map fault_of raws) 0) ≡ Some faults.Memory → ⊥
+first : (long : Bool) (raws : List Raw) → cond long (Some faults.NoSpc) (slice_get (filter_map fault_of raws) 0)
+    ≡ Some faults.Memory → ⊥
 first true raws e = absurd cc
 first false raws e = none_is_memory raws e
 
@@ -52,21 +55,29 @@ err_inj : (d f : AdmitFault) {X : Type 0} → (let a : Result X AdmitFault = Err
 err_inj d f e = cc
 
 pub acl_refused : (raws : List Raw) (list : List Entry) (e : AdmitFault)
-    → ((f : AdmitFault) → first_fault raws ≡ Some f → (let r : Result (List Entry) AdmitFault = Err e in r) ≡ Err f) → (first_fault raws ≡ None → e ≡ faults.Memory)
+    → ((f : AdmitFault) → first_fault raws ≡ Some f → (let r : Result (List Entry) AdmitFault = Err e in r) ≡ Err f)
+    → (first_fault raws ≡ None → e ≡ faults.Memory)
     → Answers {X = Option (List Entry)} (λ l. l) is_some (unless (first_fault raws) list) (Err (attrs_fault e))
-acl_refused raws list e refused taken = answers (first_fault raws) list e (not_memory raws) (λ f is. err_inj e f (refused f is)) taken
+acl_refused raws list e refused taken =
+    answers (first_fault raws) list e (not_memory raws) (λ f is. err_inj e f (refused f is)) taken
 
 -- ---- the refusal of a part
 
 part_not_memory : (part : Part) (kind : Kind) (raws : List Raw) → part_fault part kind raws ≡ Some faults.Memory → ⊥
-part_not_memory part kind raws e = go (first_fault raws) (list_all (is_of part) (admitted kind raws)) (not_memory raws) e
+part_not_memory part kind raws e =
+    go (first_fault raws) (list_all (is_of part) (admitted kind raws)) (not_memory raws) e
   where
-    go : (found : Option AdmitFault) (whole : Bool) → (found ≡ Some faults.Memory → ⊥) → first_of found (cond whole None (Some faults.Inval)) ≡ Some faults.Memory → ⊥
+    go : (found : Option AdmitFault) (whole : Bool) → (found ≡ Some faults.Memory → ⊥)
+        → first_of found (cond whole None (Some faults.Inval)) ≡ Some faults.Memory → ⊥
     go (Some fault) whole never e = never e
     go None true never e = absurd cc
     go None false never e = absurd cc
 
 pub part_refused : (part : Part) (kind : Kind) (raws : List Raw) (list : List Entry) (e : AdmitFault)
-    → ((f : AdmitFault) → part_fault part kind raws ≡ Some f → (let r : Result (List Entry) AdmitFault = Err e in r) ≡ Err f) → (part_fault part kind raws ≡ None → e ≡ faults.Memory)
+    → ((f : AdmitFault) → part_fault part kind raws ≡ Some f
+    → (let r : Result (List Entry) AdmitFault = Err e in r) ≡ Err f)
+    → (part_fault part kind raws ≡ None → e ≡ faults.Memory)
     → Answers {X = Option (List Entry)} (λ l. l) is_some (unless (part_fault part kind raws) list) (Err (attrs_fault e))
-part_refused part kind raws list e refused taken = answers (part_fault part kind raws) list e (part_not_memory part kind raws) (λ f is. err_inj e f (refused f is)) taken
+part_refused part kind raws list e refused taken =
+    answers (part_fault part kind raws) list e (part_not_memory part kind raws)
+    (λ f is. err_inj e f (refused f is)) taken

@@ -1,5 +1,6 @@
 -- The sets of the attributes are those of the table.
-use Rattle.std.proofs.Common.{◌≡◌, ◌⊎◌, inl, inr, ◌∙◌, ℕ, ◌<◌, ◌≤◌, ◌/◌, ◌%◌, Bool, true, false, not, ◌&&◌, ◌||◌, nat_eq, nat_lt, min, List, [], ◌∷◌, length, get_or, refl, sym, ap, arith}
+use Rattle.std.proofs.Common.{◌≡◌, ◌⊎◌, inl, inr, ◌∙◌, ℕ, ◌<◌, ◌≤◌, ◌/◌, ◌%◌, Bool, true, false, not, ◌&&◌, ◌||◌}
+use Rattle.std.proofs.Common.{nat_eq, nat_lt, min, List, [], ◌∷◌, length, get_or, refl, sym, ap, arith}
 use Rattle.std.specs.Int.{bit_at}
 use Rattle.std.specs.List.{list_all, list_any, range_with_len}
 use Rattle.std.proofs.lemmas.Bool.{cases_Bool, cases_lt, ltb-true, ne_eqb, and_parts}
@@ -33,11 +34,13 @@ below p m n h lt = one (cases_Bool (p n))
     one (inl is) = is
     one (inr isnt) =
         let at : get_or (range_with_len 0 m) n 0 ≡ n = get_or-range_with_len 0 m n 0 lt ∙ (omega arith) in
-        let fails : list_all p (range_with_len 0 m) ≡ false = list_all_at p (range_with_len 0 m) n 0 (omega (arith, lt, length-range_with_len 0 m)) (ap p at ∙ isnt) in
+        let fails : list_all p (range_with_len 0 m) ≡ false =
+        list_all_at p (range_with_len 0 m) n 0 (omega (arith, lt, length-range_with_len 0 m)) (ap p at ∙ isnt) in
         absurd (cc)
 
 -- no attribute of the list has a number that is above all of theirs
-none : (pick : Attribute → Bool) (list : List Attribute) (n : ℕ) → list_all (λ a. nat_lt (number_of a) 96) list ≡ true → 96 ≤ n → list_any (λ a. pick a && nat_eq (number_of a) n) list ≡ false
+none : (pick : Attribute → Bool) (list : List Attribute) (n : ℕ) → list_all (λ a. nat_lt (number_of a) 96) list ≡ true
+    → 96 ≤ n → list_any (λ a. pick a && nat_eq (number_of a) n) list ≡ false
 none pick [] n h le = refl
 none pick (a ∷ list) n h le =
     let parts = and_parts (nat_lt (number_of a) 96) (list_all (λ b. nat_lt (number_of b) 96) list) h in
@@ -55,19 +58,23 @@ past words n short le = rw (get_or_past words (n / 32) 0 (omega (arith, short, l
 
 -- the words have the numbers of the attributes that are picked
 are_picked : (words : List ℕ) (pick : Attribute → Bool) → length words ≤ 3
-    → list_all (λ n. same (has_number words n) (list_any (λ a. pick a && nat_eq (number_of a) n) all)) (range_with_len 0 96) ≡ true
+    → list_all (λ n. same (has_number words n) (list_any (λ a. pick a && nat_eq (number_of a) n) all))
+    (range_with_len 0 96) ≡ true
     → (n : ℕ) → has_number words n ≡ list_any (λ a. pick a && nat_eq (number_of a) n) all
 are_picked words pick short h n = one (cases_lt n 96)
   where
     one : (n < 96) ⊎ (96 ≤ n) → has_number words n ≡ list_any (λ a. pick a && nat_eq (number_of a) n) all
-    one (inl lt) = are_same (has_number words n) (list_any (λ a. pick a && nat_eq (number_of a) n) all) (below (λ m. same (has_number words m) (list_any (λ a. pick a && nat_eq (number_of a) m) all)) 96 n h lt)
+    one (inl lt) =
+        are_same (has_number words n) (list_any (λ a. pick a && nat_eq (number_of a) n) all)
+        (below (λ m. same (has_number words m) (list_any (λ a. pick a && nat_eq (number_of a) m) all)) 96 n h lt)
     one (inr le) = past words n short le ∙ sym (none pick all n refl le)
 
 pub supported_are : (n : ℕ) → has_number supported_words n ≡ list_any (λ a. nat_eq (number_of a) n) all
 unfolding has_number
 supported_are = are_picked supported_words (λ a. true) (omega arith) refl
 
-pub settable_are : (n : ℕ) → has_number settable_words n ≡ list_any (λ a. not (nat_eq (row a).set_by 0) && nat_eq (number_of a) n) all
+pub settable_are : (n : ℕ) → has_number settable_words n
+    ≡ list_any (λ a. not (nat_eq (row a).set_by 0) && nat_eq (number_of a) n) all
 unfolding has_number
 settable_are = are_picked settable_words (λ a. not (nat_eq (row a).set_by 0)) (omega arith) refl
 
@@ -78,4 +85,5 @@ pub shared : (vs ws : List ℕ) (n : ℕ) → has_number (trimmed (common vs ws)
 unfolding has_number
 shared vs ws n =
     by_word (common vs ws) n ∙ ap (λ (w : ℕ). nat_eq (bit_at w (n % 32)) 1) (common_at vs ws (n / 32))
-    ∙ and_test (bit_at (get_or vs (n / 32) 0) (n % 32)) (bit_at (get_or ws (n / 32) 0) (n % 32)) _ (bit_at-lt _ _) (bit_at-lt _ _) (bit_at_and (get_or vs (n / 32) 0) (get_or ws (n / 32) 0) (n % 32))
+    ∙ and_test (bit_at (get_or vs (n / 32) 0) (n % 32)) (bit_at (get_or ws (n / 32) 0) (n % 32)) _ (bit_at-lt _ _)
+    (bit_at-lt _ _) (bit_at_and (get_or vs (n / 32) 0) (get_or ws (n / 32) 0) (n % 32))

@@ -1,7 +1,9 @@
 -- The number that is read of a text that passed a range without negative numbers.
-use Rattle.std.proofs.Common.{◌≡◌, ◌∙◌, ◌<◌, ◌==◌, ◌^◌, ap, ℕ, Bool, true, false, [], ◌∷◌, cond, drop, Option, Some, None, refl, sym, subst, arith}
+use Rattle.std.proofs.Common.{◌≡◌, ◌∙◌, ◌<◌, ◌==◌, ◌^◌, ap, ℕ, Bool, true, false, [], ◌∷◌, cond, drop, Option, Some}
+use Rattle.std.proofs.Common.{None, refl, sym, subst, arith}
 use Rattle.std.specs.Prelude.{Ok, Result, pos, unwrap_or}
-use Rattle.std.specs.Str.Parse.{IsNumeral, ParsesUnsigned, digits_value, signed_digits_value, starts_with_minus, without_leading_plus}
+use Rattle.std.specs.Str.Parse.{IsNumeral, ParsesUnsigned, digits_value, signed_digits_value, starts_with_minus}
+use Rattle.std.specs.Str.Parse.{without_leading_plus}
 use Rattle.std.proofs.lemmas.Bool.{ne_eqb}
 use Rattle.std.proofs.lemmas.Int.{ints}
 use Rattle.std.proofs.lemmas.Str.Parse.{digit_from_value}
@@ -25,7 +27,8 @@ no_plus (d ∷ ds) h =
     let plus : (d == 43) ≡ false = ne_eqb _ _ (λ e. omega (arith, digit_from_value d h.1.0)) in
     ap (λ (b : Bool). drop (cond b 1 0) (d ∷ ds)) plus
 
-spelled : (low high n : ℕ) (t : Text) → IsSignedIn (pos low) (pos high) t → n ≡ digits_value 10 (without_leading_plus (cond (starts_with_minus t) (drop 1 t) t))
+spelled : (low high n : ℕ) (t : Text) → IsSignedIn (pos low) (pos high) t
+    → n ≡ digits_value 10 (without_leading_plus (cond (starts_with_minus t) (drop 1 t) t))
     → signed_digits_value 10 t ≡ pos n
 spelled low high n t passed is = go (starts_with_minus t) refl
   where
@@ -42,7 +45,8 @@ spelled low high n t passed is = go (starts_with_minus t) refl
 
 -- if a text is given that passed the range, a number is read, and it is the number that the text spells
 pub number_read : (E : Type 0) (G : Text → Result ℕ E → Type 0) (bits low high : ℕ) (t : Text) (o : Option ℕ)
-    → ReadsOne G (without_minus t) o → ((u : Text) (x : Result ℕ E) → G u x → ParsesUnsigned bits 10 u x) → high < 2 ^ bits
+    → ReadsOne G (without_minus t) o → ((u : Text) (x : Result ℕ E) → G u x → ParsesUnsigned bits 10 u x)
+    → high < 2 ^ bits
     → IsSignedIn (pos low) (pos high) t
     → (n : ℕ) × (o ≡ Some n) × (signed_digits_value 10 t ≡ pos n)
 number_read E G bits low high t o read only fits passed =

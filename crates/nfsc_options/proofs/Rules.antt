@@ -1,5 +1,6 @@
 -- The nine arguments by their places, and the rules of each that building keeps.
-use Rattle.std.proofs.Common.{◌≡◌, ◌∙◌, ◌<◌, ◌≤◌, ap, ap₂, ℕ, true, false, List, [], ◌∷◌, length, zero, suc, Option, Some, is_some}
+use Rattle.std.proofs.Common.{◌≡◌, ◌∙◌, ◌<◌, ◌≤◌, ap, ap₂, ℕ, true, false, List, [], ◌∷◌, length, zero, suc, Option}
+use Rattle.std.proofs.Common.{Some, is_some}
 use Rattle.std.proofs.Common.{refl, sym, subst, inl, inr, arith, codes}
 use Rattle.std.specs.List.{slice_index_or}
 use Rattle.std.specs.Str.{bytes_eq}
@@ -82,7 +83,8 @@ gid_alone (suc (suc (suc (suc (suc (suc (suc zero))))))) e lt same = cc
 gid_alone (suc (suc (suc (suc (suc (suc (suc (suc zero)))))))) e lt same = cc
 gid_alone (suc (suc (suc (suc (suc (suc (suc (suc (suc j))))))))) e lt same = absurd (omega arith)
 
-command_alone : (j : ℕ) (e : Rule) → j < 9 → bytes_eq (slice_index_or nfsc_rules j e).id (codes "command") ≡ true → j ≡ 3
+command_alone : (j : ℕ) (e : Rule) → j < 9 → bytes_eq (slice_index_or nfsc_rules j e).id (codes "command") ≡ true
+    → j ≡ 3
 command_alone zero e lt same = cc
 command_alone (suc zero) e lt same = cc
 command_alone (suc (suc zero)) e lt same = cc
@@ -94,7 +96,8 @@ command_alone (suc (suc (suc (suc (suc (suc (suc zero))))))) e lt same = cc
 command_alone (suc (suc (suc (suc (suc (suc (suc (suc zero)))))))) e lt same = cc
 command_alone (suc (suc (suc (suc (suc (suc (suc (suc (suc j))))))))) e lt same = absurd (omega arith)
 
-timeout_alone : (j : ℕ) (e : Rule) → j < 9 → bytes_eq (slice_index_or nfsc_rules j e).id (codes "timeout") ≡ true → j ≡ 4
+timeout_alone : (j : ℕ) (e : Rule) → j < 9 → bytes_eq (slice_index_or nfsc_rules j e).id (codes "timeout") ≡ true
+    → j ≡ 4
 timeout_alone zero e lt same = cc
 timeout_alone (suc zero) e lt same = cc
 timeout_alone (suc (suc zero)) e lt same = cc
@@ -178,7 +181,8 @@ nine c is = sym (length-map (args_of c) rule_of) ∙ ap (λ (a : App). length a.
 
 rule_at : (c : Command) → app_of c ≡ nfsc → (k : ℕ) (d : Arg) (e : Rule) → k < length (args_of c)
     → rule_of (slice_index_or (args_of c) k d) ≡ slice_index_or nfsc_rules k e
-rule_at c is k d e lt = sym (get_or-map rule_of (args_of c) k d e lt) ∙ ap (λ (a : App). slice_index_or a.top.rules k e) is
+rule_at c is k d e lt =
+    sym (get_or-map rule_of (args_of c) k d e lt) ∙ ap (λ (a : App). slice_index_or a.top.rules k e) is
 
 simple_rules : (k : ℕ) (e : Rule) → k < 9 → (slice_index_or nfsc_rules k e).is_simple ≡ true
 simple_rules zero e lt = refl
@@ -217,7 +221,8 @@ plain c is = (
   (plain_fields c (ap (λ (a : App). a.top.is_plain) is)).groups,
 )
 
-module _ (old : Command) (m : ArgMatches) (p : IsParsedFrom old m) (is : app_of old ≡ nfsc) (k : ℕ) (r : Rule) (s : IsRuleAt k r) where
+module _ (old : Command) (m : ArgMatches) (p : IsParsedFrom old m) (is : app_of old ≡ nfsc) (k : ℕ) (r : Rule)
+    (s : IsRuleAt k r) where
   within : k < length (args_of old)
   within =
       let count = nine old is in
@@ -234,12 +239,14 @@ module _ (old : Command) (m : ArgMatches) (p : IsParsedFrom old m) (is : app_of 
       → bytes_eq (slice_index_or (args_of old) i e).id.now (slice_index_or (args_of old) k d).id.now ≡ true → i ≡ k
   only d i e low eq =
       let count = nine old is in
-      let other : (slice_index_or (args_of old) i e).id.now ≡ (slice_index_or nfsc_rules i r).id = ap (λ (a : Rule). a.id) (rule_at old is i e r low) in
+      let other : (slice_index_or (args_of old) i e).id.now ≡ (slice_index_or nfsc_rules i r).id =
+      ap (λ (a : Rule). a.id) (rule_at old is i e r low) in
       s.alone i r (omega arith) (sym (ap₂ bytes_eq other (id_of d)) ∙ eq)
 
   -- an argument of the built command with the id of an option has that option's parser
   pub own_parser : (q : ValueParser) → r.parser ≡ Some q
-      → (j : ℕ) (x : Arg) → j < length (args_of p.built) → slice_index_or (args_of p.built) j x ≡ x → bytes_eq x.id.now r.id ≡ true
+      → (j : ℕ) (x : Arg) → j < length (args_of p.built) → slice_index_or (args_of p.built) j x ≡ x
+      → bytes_eq x.id.now r.id ≡ true
       → (parser_of x ≡ q) × (x.ignore_case ≡ false)
   own_parser q parser j x lt at same =
       let kept = same_rules_by_id old m p k x within (only x)
@@ -254,12 +261,14 @@ module _ (old : Command) (m : ArgMatches) (p : IsParsedFrom old m) (is : app_of 
 
   value_at : (d : Arg) → IsAskedFor r → is_some (first_value (found_of m) r.id) ≡ true
   value_at d asked =
-      let has = required_has_value old m p (plain old is) (plain_fields old (ap (λ (a : App). a.top.is_plain) is)).globals
+      let has =
+      required_has_value old m p (plain old is) (plain_fields old (ap (λ (a : App). a.top.is_plain) is)).globals
       (ap (λ (a : App). a.top.subcommand_negates_reqs) is) k d within
       (ap (λ (a : Rule). a.required) (mine d) ∙ asked.required)
       (ap (λ (a : Rule). a.action) (mine d) ∙ asked.set)
       (no_delimiter (slice_index_or (args_of old) k d) (ap (λ (a : Rule). a.is_simple) (mine d) ∙ asked.simple))
-      (subst (λ (x : Option ValueRange). 1 ≤ (unwrap_or_range x).start_inclusive) (sym (ap (λ (a : Rule). a.range) (mine d))) asked.least)
+      (subst (λ (x : Option ValueRange). 1 ≤ (unwrap_or_range x).start_inclusive)
+      (sym (ap (λ (a : Rule). a.range) (mine d))) asked.least)
       (only d)
       (λ empty. differ r.id [] s.named (sym (id_of d) ∙ empty))
       (λ auto. elim auto [

@@ -1,5 +1,6 @@
 -- The values of the options: each passed the parser of its option, and is read by that parser.
-use Rattle.std.proofs.Common.{◌≡◌, ◌∙◌, ◌<◌, ◌^◌, ap, ℕ, Bool, true, false, List, [], ◌∷◌, length, Option, Some, None, refl, sym, subst, inl, inr, arith}
+use Rattle.std.proofs.Common.{◌≡◌, ◌∙◌, ◌<◌, ◌^◌, ap, ℕ, Bool, true, false, List, [], ◌∷◌, length, Option, Some, None}
+use Rattle.std.proofs.Common.{refl, sym, subst, inl, inr, arith}
 use Rattle.std.specs.List.{All}
 use Rattle.std.specs.Str.{bytes_eq}
 use Rattle.std.specs.Borrow.{Bor}
@@ -30,16 +31,19 @@ use Rattle.nfsc_options.proofs.Rules.{IsRuleAt, differ, own_parser}
 abbrev first_text : List (Bor Text) → Option Text
 first_text vs = option_map (λ s. s.now) (slice_get vs 0)
 
-head_of : (P : Bor Text → Type 0) (vs : List (Bor Text)) (t : Text) → All P vs → first_text vs ≡ Some t → (v : Bor Text) × (v.now ≡ t) × P v
+head_of : (P : Bor Text → Type 0) (vs : List (Bor Text)) (t : Text) → All P vs → first_text vs ≡ Some t
+    → (v : Bor Text) × (v.now ≡ t) × P v
 head_of P [] t all e = cc
-head_of P (v ∷ vs) t all e = (v, ap (λ (o : Option Text). unwrap_or o []) e, All-get_or P (v ∷ vs) 0 v (omega arith) all)
+head_of P (v ∷ vs) t all e =
+    (v, ap (λ (o : Option Text). unwrap_or o []) e, All-get_or P (v ∷ vs) 0 v (omega arith) all)
 
 head_read : (how : Reading) (vs : List (Bor Text)) (t : Text) → first_text vs ≡ Some t
     → option_map (λ s. read_as how s.now) (slice_get vs 0) ≡ Some (read_as how t)
 head_read how [] t e = cc
 head_read how (v ∷ vs) t e = ap (option_map (read_as how)) e
 
-no_head : (how : Reading) (vs : List (Bor Text)) → first_text vs ≡ None → option_map (λ s. read_as how s.now) (slice_get vs 0) ≡ None
+no_head : (how : Reading) (vs : List (Bor Text)) → first_text vs ≡ None
+    → option_map (λ s. read_as how s.now) (slice_get vs 0) ≡ None
 no_head how [] e = refl
 no_head how (v ∷ vs) e = cc
 
@@ -49,7 +53,8 @@ no_groups old m p is =
     (p.from.same_groups (simple_groups old (ap (λ (a : App). all_simple a.top.rules) is))).1
     ∙ (plain_fields old (ap (λ (a : App). a.top.is_plain) is)).groups
 
-module _ (old : Command) (m : ArgMatches) (p : IsParsedFrom old m) (is : app_of old ≡ nfsc) (k : ℕ) (r : Rule) (s : IsRuleAt k r) (q : ValueParser)
+module _ (old : Command) (m : ArgMatches) (p : IsParsedFrom old m) (is : app_of old ≡ nfsc) (k : ℕ) (r : Rule)
+    (s : IsRuleAt k r) (q : ValueParser)
     (parser : r.parser ≡ Some q) (t : Text) where
   no_group : (e : Entry) → e.0.now ≡ r.id → EntryPasses p.built e → e.1.is_group ≡ true → ⊥
   no_group e key pass group = elim (pass.3 group) [
@@ -88,18 +93,22 @@ module _ (old : Command) (m : ArgMatches) (p : IsParsedFrom old m) (is : app_of 
       let how_x : x.reading ≡ reading_of q = ap (λ (y : MatchedArg). y.reading) (sym got.1) ∙ how in
       let hd = head_of (λ v. PassesArg p.built r.id v.now) x.vals.items t all first in (
         accepted hd.0 hd.1 hd.2,
-        ap (option_and_then (λ (a : MatchedArg). option_map (λ s. read_as a.reading s.now) (slice_get a.vals.items 0))) found
-            ∙ (ap (λ (h : Reading). option_map (λ s. read_as h s.now) (slice_get x.vals.items 0)) how_x ∙ head_read (reading_of q) x.vals.items t first),
+        ap (option_and_then (λ (a : MatchedArg). option_map (λ s. read_as a.reading s.now) (slice_get a.vals.items 0)))
+        found
+            ∙ (ap (λ (h : Reading). option_map (λ s. read_as h s.now) (slice_get x.vals.items 0)) how_x
+            ∙ head_read (reading_of q) x.vals.items t first),
       )
 
   -- the text that is given for an option passed its parser
-  value_taken : first_value (found_of m) r.id ≡ Some t → Accepts false q t × (one_text (found_of m) r.id ≡ Some (read_as (reading_of q) t))
+  value_taken : first_value (found_of m) r.id ≡ Some t
+      → Accepts false q t × (one_text (found_of m) r.id ≡ Some (read_as (reading_of q) t))
   value_taken first = go (matched_of (found_of m) r.id) refl
     where
       go : (o : Option MatchedArg) → matched_of (found_of m) r.id ≡ o
           → Accepts false q t × (one_text (found_of m) r.id ≡ Some (read_as (reading_of q) t))
       go None none =
-          let bad : None ≡ Some t = sym (ap (option_and_then (λ (a : MatchedArg). first_text a.vals.items)) none) ∙ first in
+          let bad : None ≡ Some t =
+          sym (ap (option_and_then (λ (a : MatchedArg). first_text a.vals.items)) none) ∙ first in
           cc
       go (Some x) found = at_entry x found
           (sym (ap (option_and_then (λ (a : MatchedArg). first_text a.vals.items)) found) ∙ first)
@@ -107,8 +116,10 @@ module _ (old : Command) (m : ArgMatches) (p : IsParsedFrom old m) (is : app_of 
           (p.parsed (p.from.globals ∙ (plain_fields old (ap (λ (a : App). a.top.is_plain) is)).globals)).values found)
 
 -- a number's getter reads the text that is given for its option as the number that it spells
-pub option_reads : (old : Command) (m : ArgMatches) (p : IsParsedFrom old m) → app_of old ≡ nfsc → (k : ℕ) (r : Rule) → IsRuleAt k r
-    → (E : Type 0) (G : Text → Result ℕ E → Type 0) (bits low high : ℕ) → r.parser ≡ Some (vp.Signed (pos low) (pos high)) → high < 2 ^ bits
+pub option_reads : (old : Command) (m : ArgMatches) (p : IsParsedFrom old m) → app_of old ≡ nfsc → (k : ℕ) (r : Rule)
+    → IsRuleAt k r
+    → (E : Type 0) (G : Text → Result ℕ E → Type 0) (bits low high : ℕ)
+    → r.parser ≡ Some (vp.Signed (pos low) (pos high)) → high < 2 ^ bits
     → ((u : Text) (x : Result ℕ E) → G u x → ParsesUnsigned bits 10 u x)
     → (o : Option ℕ) → ((t : Text) → one_text (found_of m) r.id ≡ Some t → ReadsOne G t o)
     → Reads low high o (first_value (found_of m) r.id)
@@ -121,6 +132,11 @@ pub nothing_read : (f : Found) (id : Text) → first_value f id ≡ None → one
 nothing_read f id first = go (matched_of f id) refl
   where
     go : (o : Option MatchedArg) → matched_of f id ≡ o → one_text f id ≡ None
-    go None none = ap (option_and_then (λ (a : MatchedArg). option_map (λ s. read_as a.reading s.now) (slice_get a.vals.items 0))) none
-    go (Some x) found = ap (option_and_then (λ (a : MatchedArg). option_map (λ s. read_as a.reading s.now) (slice_get a.vals.items 0))) found
-        ∙ no_head x.reading x.vals.items (sym (ap (option_and_then (λ (a : MatchedArg). first_text a.vals.items)) found) ∙ first)
+    go None none =
+        ap (option_and_then (λ (a : MatchedArg). option_map (λ s. read_as a.reading s.now) (slice_get a.vals.items 0)))
+        none
+    go (Some x) found =
+        ap (option_and_then (λ (a : MatchedArg). option_map (λ s. read_as a.reading s.now) (slice_get a.vals.items 0)))
+        found
+        ∙ no_head x.reading x.vals.items (sym (ap (option_and_then (λ (a : MatchedArg). first_text a.vals.items)) found)
+        ∙ first)

@@ -1,5 +1,6 @@
 -- A sound world stays sound when an object gets a name: a new object, or an object that isn't a directory.
-use Rattle.std.proofs.Common.{◌≡◌, ◌≢◌, ℕ, ◌+◌, ◌<◌, ◌≤◌, ◌^◌, Bool, true, false, cond, List, length, refl, ap, sym, ◌∙◌, subst, arith, Some, None}
+use Rattle.std.proofs.Common.{◌≡◌, ◌≢◌, ℕ, ◌+◌, ◌<◌, ◌≤◌, ◌^◌, Bool, true, false, cond, List, length, refl, ap, sym}
+use Rattle.std.proofs.Common.{◌∙◌, subst, arith, Some, None}
 use Rattle.std.specs.Prelude.{Option, IsSome, is_some, ◌==◌, ◌&&◌, not, nat_lt}
 use Rattle.std.specs.Ordering.{nat_cmp}
 use Rattle.std.specs.Map.{lookup}
@@ -11,7 +12,8 @@ use Rattle.node_tree.specs.declared.at.At.{At}
 use Rattle.node_tree.specs.Limits.{MAX_NAME, MAX_NAMES, MAX_OBJECTS, MAX_LINKS}
 use Rattle.node_tree.specs.World.{World, Object, object, kind_of, child_named, name_count, link_count}
 use Rattle.node_tree.specs.Changes.{changed, touched, retold, with_new, with_link}
-use Rattle.node_tree.specs.Refusals.{has_left, has_room, has_object_room, may_link, may_name, may_add, add_refusal, link_refusal}
+use Rattle.node_tree.specs.Refusals.{has_left, has_room, has_object_room, may_link, may_name, may_add, add_refusal}
+use Rattle.node_tree.specs.Refusals.{link_refusal}
 use Rattle.node_tree.specs.declared.fault.TreeFault.TheVariants.{Exist, MLink, NoSpc}
 use Rattle.node_tree.specs.Judged.{Judged, judged, judged_of, KeepsJudged}
 use Rattle.node_tree.specs.Sound.{stamp_of, IsRooted, IsStamped, IsFit, IsSound, IsTick}
@@ -26,42 +28,68 @@ use mathlib.Core.Path.{fun_ext}
 
 -- ---- a new object
 
-joins_new : {X : Type 0} (read : Object → X) (es : List (ℕ × Object)) (number directory : ℕ) (o : Object) (at : At) → ((o : Object) → read (touched at o) ≡ read o)
-    → Joins (λ k. option_map read (lookup (is_at (nat_cmp k)) es)) (λ k. option_map read (lookup (is_at (nat_cmp k)) (changed directory (touched at) (insert_entry nat_cmp es number o)))) number (read o)
+joins_new : {X : Type 0} (read : Object → X) (es : List (ℕ × Object)) (number directory : ℕ) (o : Object) (at : At)
+    → ((o : Object) → read (touched at o) ≡ read o)
+    → Joins (λ k. option_map read (lookup (is_at (nat_cmp k)) es))
+    (λ k. option_map read (lookup (is_at (nat_cmp k))
+    (changed directory (touched at) (insert_entry nat_cmp es number o)))) number (read o)
 joins_new read es number directory o at touching = record {
-  there = seen number ∙ ap (λ b. option_map read (cond b (Some o) (lookup (is_at (nat_cmp number)) es))) (is_at-same number);
-  elsewhere = λ k apart. seen k ∙ ap (λ b. option_map read (cond b (Some o) (lookup (is_at (nat_cmp k)) es))) (is_at-apart k number (λ same. apart (sym same)));
+  there =
+      seen number ∙ ap (λ b. option_map read (cond b (Some o) (lookup (is_at (nat_cmp number)) es)))
+      (is_at-same number);
+  elsewhere =
+      λ k apart. seen k ∙ ap (λ b. option_map read (cond b (Some o) (lookup (is_at (nat_cmp k)) es)))
+      (is_at-apart k number (λ same. apart (sym same)));
 }
   where
-    seen : (k : ℕ) → option_map read (lookup (is_at (nat_cmp k)) (changed directory (touched at) (insert_entry nat_cmp es number o))) ≡ option_map read (cond (is_at (nat_cmp k) number) (Some o) (lookup (is_at (nat_cmp k)) es))
-    seen k = option_map-changed read directory (touched at) (insert_entry nat_cmp es number o) touching k ∙ ap (option_map read) (lookup-inserted number k o es)
+    seen : (k : ℕ) → option_map read (lookup (is_at (nat_cmp k))
+        (changed directory (touched at) (insert_entry nat_cmp es number o)))
+        ≡ option_map read (cond (is_at (nat_cmp k) number) (Some o) (lookup (is_at (nat_cmp k)) es))
+    seen k =
+        option_map-changed read directory (touched at) (insert_entry nat_cmp es number o) touching k
+        ∙ ap (option_map read) (lookup-inserted number k o es)
 
 -- no object has the next number
 fresh_number : (w : World) → IsSound w → (k : ℕ) → IsSome (kind_of w k) → w.next_number ≢ k
 fresh_number w sound k h = there (object w k) refl h
   where
-    there : (found : Option Object) → object w k ≡ found → IsSome (option_map (λ (o : Object). o.kind) found) → w.next_number ≢ k
+    there : (found : Option Object) → object w k ≡ found → IsSome (option_map (λ (o : Object). o.kind) found)
+        → w.next_number ≢ k
     there None is h same = cc
-    there (Some o) is h same = let b : k < w.next_number = number-below 1 w.next_number w.objects k o sound.numbered is in omega arith
+    there (Some o) is h same =
+        let b : k < w.next_number = number-below 1 w.next_number w.objects k o sound.numbered is in omega arith
 
-pub IsSound-with_new : (w : World) → IsSound w → (directory : ℕ) (name : List ℕ) (o : Object) (at : At) → IsTick w at.tick
-    → kind_of w directory ≡ Some Directory → child_named w directory name ≡ None → length name ≤ MAX_NAME → IsFit (at.tick + 1) o → o.stamp ≡ w.next_stamp
-    → name_count w.names directory < MAX_NAMES → length w.objects < MAX_OBJECTS → w.next_number < 2 ^ 63 → w.next_stamp < 2 ^ 63 → w.next_cookie < 2 ^ 63
+pub IsSound-with_new : (w : World) → IsSound w → (directory : ℕ) (name : List ℕ) (o : Object) (at : At)
+    → IsTick w at.tick
+    → kind_of w directory ≡ Some Directory → child_named w directory name ≡ None → length name ≤ MAX_NAME
+    → IsFit (at.tick + 1) o → o.stamp ≡ w.next_stamp
+    → name_count w.names directory < MAX_NAMES → length w.objects < MAX_OBJECTS → w.next_number < 2 ^ 63
+    → w.next_stamp < 2 ^ 63 → w.next_cookie < 2 ^ 63
     → IsSound (with_new w directory name o at)
 IsSound-with_new w sound directory name o at tick live none short fit stamped room few number stamp cookie =
     let due : at.tick < at.tick + 1 = omega arith in
     let held = IsHeld-touched directory at _ (w.next_number + 1) (at.tick + 1) due
-    (IsHeld-inserted w.objects w.next_number (at.tick + 1) o fit few (IsHeld-later w.objects w.next_number w.next_tick (at.tick + 1) tick.fresh (held_in w sound))) in
-    let no_links : link_count w.names w.next_number ≡ 0 = count_by-none (λ n. n.child == w.next_number) w.names (λ n present is. fresh_number w sound n.child (sound.rooted.ends n present).1 (sym ((Decides-eqb n.child w.next_number).0 is))) in
+    (IsHeld-inserted w.objects w.next_number (at.tick + 1) o fit few
+    (IsHeld-later w.objects w.next_number w.next_tick (at.tick + 1) tick.fresh (held_in w sound))) in
+    let no_links : link_count w.names w.next_number ≡ 0 =
+    count_by-none (λ n. n.child == w.next_number) w.names
+    (λ n present is. fresh_number w sound n.child (sound.rooted.ends n present).1
+    (sym ((Decides-eqb n.child w.next_number).0 is))) in
     record {
-      rooted = IsRooted-joined (kind_of w) _ w.names w.next_number w.next_cookie directory name o.kind sound.rooted (joins_new (λ o. o.kind) w.objects w.next_number directory o at (λ o. refl)) (fresh_number w sound) live (child_sought w.names directory name ∙ none);
+      rooted =
+          IsRooted-joined (kind_of w) _ w.names w.next_number w.next_cookie directory name o.kind sound.rooted
+          (joins_new (λ o. o.kind) w.objects w.next_number directory o at (λ o. refl)) (fresh_number w sound) live
+          (child_sought w.names directory name ∙ none);
       stamped = IsStamped-joined (stamp_of w) _ w.next_number w.next_stamp sound.stamped
-          (subst (λ s. Joins (stamp_of w) (stamp_of (with_new w directory name o at)) w.next_number s) stamped (joins_new (λ o. o.stamp) w.objects w.next_number directory o at (λ o. refl)));
+          (subst (λ s. Joins (stamp_of w) (stamp_of (with_new w directory name o at)) w.next_number s) stamped
+          (joins_new (λ o. o.stamp) w.objects w.next_number directory o at (λ o. refl)));
       numbered = held.numbered;
       listed = Rises-push (λ n. n.cookie) 3 w.next_cookie w.names _ refl sound.listed;
       few = held.few;
       fit = held.fit;
-      limited = IsLimited-push w.names _ sound.limited room (let goal : link_count w.names w.next_number < MAX_LINKS = omega arith in goal) short;
+      limited =
+          IsLimited-push w.names _ sound.limited room
+          (let goal : link_count w.names w.next_number < MAX_LINKS = omega arith in goal) short;
       counted = record {
         numbers = (let goal : w.next_number + 1 ≤ 2 ^ 63 = omega (arith, number) in goal);
         ticks = (let goal : at.tick + 1 ≤ 2 ^ 63 = omega (arith, tick.left) in goal);
@@ -70,36 +98,52 @@ IsSound-with_new w sound directory name o at tick live none short fit stamped ro
       };
     }
 
-pub KeepsJudged-with_new : (w : World) (directory : ℕ) (name : List ℕ) (o : Object) (at : At) → o.stamp ≡ w.next_stamp → KeepsJudged w (with_new w directory name o at)
+pub KeepsJudged-with_new : (w : World) (directory : ℕ) (name : List ℕ) (o : Object) (at : At) → o.stamp ≡ w.next_stamp
+    → KeepsJudged w (with_new w directory name o at)
 KeepsJudged-with_new w directory name o at stamped =
     let joins = joins_new judged w.objects w.next_number directory o at (λ o. refl) in
     record {
       stamps_rise = omega arith;
       same = λ k j is low. by_number w.next_number k
-          (λ here. let t : judged_of (with_new w directory name o at) k ≡ Some (judged o) = subst (λ k. judged_of (with_new w directory name o at) k ≡ Some (judged o)) here joins.there in
-          let same : judged o ≡ j = cc in let e : o.stamp ≡ j.stamp = ap (λ (j : Judged). j.stamp) same in absurd (omega arith))
+          (λ here. let t : judged_of (with_new w directory name o at) k
+          ≡ Some (judged o) =
+          subst (λ k. judged_of (with_new w directory name o at) k ≡ Some (judged o)) here joins.there in
+          let same : judged o ≡ j = cc in
+          let e : o.stamp ≡ j.stamp = ap (λ (j : Judged). j.stamp) same in absurd (omega arith))
           (λ apart. sym (joins.elsewhere k apart) ∙ is);
     }
 
 -- ---- another name
 
-read_linked : {X : Type 0} (read : Object → X) (directory number : ℕ) (at : At) (es : List (ℕ × Object)) → ((o : Object) → read (touched at o) ≡ read o) → ((o : Object) → read (retold at o) ≡ read o)
-    → (k : ℕ) → option_map read (lookup (is_at (nat_cmp k)) (changed directory (touched at) (changed number (retold at) es))) ≡ option_map read (lookup (is_at (nat_cmp k)) es)
+read_linked : {X : Type 0} (read : Object → X) (directory number : ℕ) (at : At) (es : List (ℕ × Object))
+    → ((o : Object) → read (touched at o) ≡ read o) → ((o : Object) → read (retold at o) ≡ read o)
+    → (k : ℕ) → option_map read (lookup (is_at (nat_cmp k))
+    (changed directory (touched at) (changed number (retold at) es))) ≡ option_map read (lookup (is_at (nat_cmp k)) es)
 read_linked read directory number at es touching retelling k =
-    option_map-changed read directory (touched at) (changed number (retold at) es) touching k ∙ option_map-changed read number (retold at) es retelling k
+    option_map-changed read directory (touched at) (changed number (retold at) es) touching k
+    ∙ option_map-changed read number (retold at) es retelling k
 
-pub IsSound-with_link : (w : World) → IsSound w → (directory : ℕ) (name : List ℕ) (number : ℕ) (at : At) → IsTick w at.tick
-    → kind_of w directory ≡ Some Directory → IsSome (object w number) → kind_of w number ≢ Some Directory → child_named w directory name ≡ None → length name ≤ MAX_NAME
+pub IsSound-with_link : (w : World) → IsSound w → (directory : ℕ) (name : List ℕ) (number : ℕ) (at : At)
+    → IsTick w at.tick
+    → kind_of w directory ≡ Some Directory → IsSome (object w number) → kind_of w number ≢ Some Directory
+    → child_named w directory name ≡ None → length name ≤ MAX_NAME
     → name_count w.names directory < MAX_NAMES → link_count w.names number < MAX_LINKS → w.next_cookie < 2 ^ 63
     → IsSound (with_link w directory name number at)
 IsSound-with_link w sound directory name number at tick live there plain none short room links cookie =
     let due : at.tick < at.tick + 1 = omega arith in
-    let kinds : kind_of (with_link w directory name number at) ≡ kind_of w = fun_ext (read_linked (λ o. o.kind) directory number at w.objects (λ o. refl) (λ o. refl)) in
-    let stamps : stamp_of (with_link w directory name number at) ≡ stamp_of w = fun_ext (read_linked (λ o. o.stamp) directory number at w.objects (λ o. refl) (λ o. refl)) in
-    let held = IsHeld-touched directory at _ w.next_number (at.tick + 1) due (IsHeld-retold number at w.objects w.next_number (at.tick + 1) due
+    let kinds : kind_of (with_link w directory name number at) ≡ kind_of w =
+    fun_ext (read_linked (λ o. o.kind) directory number at w.objects (λ o. refl) (λ o. refl)) in
+    let stamps : stamp_of (with_link w directory name number at) ≡ stamp_of w =
+    fun_ext (read_linked (λ o. o.stamp) directory number at w.objects (λ o. refl) (λ o. refl)) in
+    let held =
+    IsHeld-touched directory at _ w.next_number (at.tick + 1) due
+    (IsHeld-retold number at w.objects w.next_number (at.tick + 1) due
     (IsHeld-later w.objects w.next_number w.next_tick (at.tick + 1) tick.fresh (held_in w sound))) in
     record {
-      rooted = subst (λ k. IsRooted k (with_link w directory name number at).names) (sym kinds) (IsRooted-linked (kind_of w) w.names number w.next_cookie directory name sound.rooted live (alive (object w number) there) plain (child_sought w.names directory name ∙ none));
+      rooted =
+          subst (λ k. IsRooted k (with_link w directory name number at).names) (sym kinds)
+          (IsRooted-linked (kind_of w) w.names number w.next_cookie directory name sound.rooted live
+          (alive (object w number) there) plain (child_sought w.names directory name ∙ none));
       stamped = subst (λ s. IsStamped s w.next_stamp) (sym stamps) sound.stamped;
       numbered = held.numbered;
       listed = Rises-push (λ n. n.cookie) 3 w.next_cookie w.names _ refl sound.listed;
@@ -118,7 +162,8 @@ IsSound-with_link w sound directory name number at tick live there plain none sh
     alive None h = h
     alive (Some o) h = refl
 
-pub KeepsJudged-with_link : (w : World) (directory : ℕ) (name : List ℕ) (number : ℕ) (at : At) → KeepsJudged w (with_link w directory name number at)
+pub KeepsJudged-with_link : (w : World) (directory : ℕ) (name : List ℕ) (number : ℕ) (at : At)
+    → KeepsJudged w (with_link w directory name number at)
 KeepsJudged-with_link w directory name number at = record {
   stamps_rise = omega arith;
   same = λ k j is _. sym (read_linked judged directory number at w.objects (λ o. refl) (λ o. refl) k) ∙ is;
@@ -150,10 +195,12 @@ pub record MayAdd (w : World) (directory : ℕ) (name : List ℕ) : Type 0 where
   pub stamp : w.next_stamp < 2 ^ 63
   pub cookie : w.next_cookie < 2 ^ 63
 
-pub unrefused_add : (w : World) (directory : ℕ) (name : List ℕ) → None ≡ add_refusal w directory name → MayAdd w directory name
+pub unrefused_add : (w : World) (directory : ℕ) (name : List ℕ) → None ≡ add_refusal w directory name
+    → MayAdd w directory name
 unrefused_add w directory name none =
     let may = may_add (name_count w.names directory) (length w.objects) w.next_number w.next_stamp w.next_cookie in
-    elim (is_some (child_named w directory name)) as (λ b. is_some (child_named w directory name) ≡ b → None ≡ cond b (Some Exist) (cond may None (Some NoSpc)) → MayAdd w directory name) [
+    elim (is_some (child_named w directory name)) as (λ b. is_some (child_named w directory name) ≡ b
+    → None ≡ cond b (Some Exist) (cond may None (Some NoSpc)) → MayAdd w directory name) [
       | true ↦ λ _ h. cc
       | false ↦ λ removed h.
           let a1 = has_room (name_count w.names directory) in
@@ -180,14 +227,23 @@ pub record MayLink (w : World) (directory : ℕ) (name : List ℕ) (number : ℕ
   pub room : name_count w.names directory < MAX_NAMES
   pub cookie : w.next_cookie < 2 ^ 63
 
-pub unrefused_link : (w : World) (directory : ℕ) (name : List ℕ) (number : ℕ) → None ≡ link_refusal w directory name number → MayLink w directory name number
+pub unrefused_link : (w : World) (directory : ℕ) (name : List ℕ) (number : ℕ)
+    → None ≡ link_refusal w directory name number → MayLink w directory name number
 unrefused_link w directory name number none =
     let may = may_name (name_count w.names directory) w.next_cookie in
-    elim (is_some (child_named w directory name)) as (λ b. is_some (child_named w directory name) ≡ b → None ≡ cond b (Some Exist) (cond (not (may_link (link_count w.names number))) (Some MLink) (cond may None (Some NoSpc))) → MayLink w directory name number) [
+    elim (is_some (child_named w directory name)) as (λ b. is_some (child_named w directory name) ≡ b
+    → None ≡ cond b (Some Exist) (cond (not (may_link (link_count w.names number))) (Some MLink)
+    (cond may None (Some NoSpc))) → MayLink w directory name number) [
       | true ↦ λ _ h. cc
-      | false ↦ λ removed. elim (may_link (link_count w.names number)) as (λ b. may_link (link_count w.names number) ≡ b → None ≡ cond (not b) (Some MLink) (cond may None (Some NoSpc)) → MayLink w directory name number) [
+      | false ↦
+          λ removed. elim (may_link (link_count w.names number)) as (λ b. may_link (link_count w.names number) ≡ b
+          → None ≡ cond (not b) (Some MLink) (cond may None (Some NoSpc)) → MayLink w directory name number) [
         | false ↦ λ _ h. cc
-        | true ↦ λ links h. let b = both (has_room (name_count w.names directory)) (has_left w.next_cookie) (passed may h) in
-            record { none = absent (child_named w directory name) removed; links = below (link_count w.names number) MAX_LINKS links; room = below (name_count w.names directory) MAX_NAMES b.0; cookie = below w.next_cookie (2 ^ 63) b.1 }
+        | true ↦
+            λ links h. let b = both (has_room (name_count w.names directory)) (has_left w.next_cookie) (passed may h) in
+            record { none = absent (child_named w directory name) removed;
+                links =
+                below (link_count w.names number) MAX_LINKS links; room =
+                below (name_count w.names directory) MAX_NAMES b.0; cookie = below w.next_cookie (2 ^ 63) b.1 }
       ] refl
     ] refl none

@@ -6,5 +6,8 @@ use Rattle.nfs_types.specs.declared.moment.Moment.{Moment}
 use Rattle.node_tree.specs.Changes.{epoch}
 
 -- the epoch, with any proof that its nanoseconds are in range
-pub epoch_is : (few : 0 < 1000000000) → (let m : Moment = record { seconds = pos 0; nanoseconds = 0; is_fraction = few } in m ≡ epoch)
-epoch_is few = ap (λ (p : 0 < 1000000000). let m : Moment = record { seconds = pos 0; nanoseconds = 0; is_fraction = p } in m) (le_prop few (lit< tt))
+pub epoch_is : (few : 0 < 1000000000) → (let
+    m : Moment = record { seconds = pos 0; nanoseconds = 0; is_fraction = few } in m ≡ epoch)
+epoch_is few =
+    ap (λ (p : 0 < 1000000000). let m : Moment = record { seconds = pos 0; nanoseconds = 0; is_fraction = p } in m)
+    (le_prop few (lit< tt))

@@ -1,5 +1,6 @@
 -- Objects keep their properties: rising numbers, a bounded count, and the limits.
-use Rattle.std.proofs.Common.{◌≡◌, ℕ, suc, ◌+◌, ◌<◌, ◌≤◌, Bool, true, false, not, cond, List, [], ◌∷◌, ◌++◌, length, refl, ap, sym, ◌∙◌, subst, arith, Some, None, length-append}
+use Rattle.std.proofs.Common.{◌≡◌, ℕ, suc, ◌+◌, ◌<◌, ◌≤◌, Bool, true, false, not, cond, List, [], ◌∷◌, ◌++◌, length}
+use Rattle.std.proofs.Common.{refl, ap, sym, ◌∙◌, subst, arith, Some, None, length-append}
 use Rattle.std.specs.Prelude.{Option}
 use Rattle.std.specs.Ordering.{nat_cmp}
 use Rattle.std.specs.Map.{lookup}
@@ -19,17 +20,24 @@ pub record IsHeld (objects : List (ℕ × Object)) (next_number next_tick : ℕ)
   pub fit : (k : ℕ) (o : Object) → lookup (is_at (nat_cmp k)) objects ≡ Some o → IsFit next_tick o
 
 fit_later : (t u : ℕ) (o : Object) → t ≤ u → IsFit t o → IsFit u o
-fit_later t u o le fit = record { list = fit.list; bytes = fit.bytes; change = let c : o.change < t = fit.change in let goal : o.change < u = omega arith in goal }
+fit_later t u o le fit =
+    record { list = fit.list; bytes = fit.bytes; change = let c : o.change < t = fit.change in
+    let goal : o.change < u = omega arith in goal }
 
 pub IsHeld-later : (es : List (ℕ × Object)) (n t u : ℕ) → t ≤ u → IsHeld es n t → IsHeld es n u
-IsHeld-later es n t u le held = record { numbered = held.numbered; few = held.few; fit = λ k o is. fit_later t u o le (held.fit k o is) }
+IsHeld-later es n t u le held =
+    record { numbered = held.numbered; few = held.few; fit = λ k o is. fit_later t u o le (held.fit k o is) }
 
-pub IsHeld-changed : (number : ℕ) (f : Object → Object) (es : List (ℕ × Object)) (n t : ℕ) → ((o : Object) → lookup (is_at (nat_cmp number)) es ≡ Some o → IsFit t o → IsFit t (f o)) → IsHeld es n t → IsHeld (changed number f es) n t
+pub IsHeld-changed : (number : ℕ) (f : Object → Object) (es : List (ℕ × Object)) (n t : ℕ)
+    → ((o : Object) → lookup (is_at (nat_cmp number)) es ≡ Some o → IsFit t o → IsFit t (f o)) → IsHeld es n t
+    → IsHeld (changed number f es) n t
 IsHeld-changed number f es n t fits held = record {
   numbered = Rises-changed number f 1 n es held.numbered;
   few = rw (length-changed number f es) held.few;
   fit = λ k o is. ⊎_elim
-      (λ (c : Changed number f es k o). subst (IsFit t) (sym c.new) (fits c.old (subst (λ k. lookup (is_at (nat_cmp k)) es ≡ Some c.old) (sym c.here) c.was_present) (held.fit k c.old c.was_present)))
+      (λ (c : Changed number f es k o). subst (IsFit t) (sym c.new)
+      (fits c.old (subst (λ k. lookup (is_at (nat_cmp k)) es ≡ Some c.old) (sym c.here) c.was_present)
+      (held.fit k c.old c.was_present)))
       (λ (c : Kept number es k o). held.fit k o c.was_present)
       (changed_cases number f es k o is);
 }
@@ -40,45 +48,62 @@ IsFit-touched at t o due fit = record { list = fit.list; bytes = fit.bytes; chan
 pub IsFit-retold : (at : At) (t : ℕ) (o : Object) → at.tick < t → IsFit t o → IsFit t (retold at o)
 IsFit-retold at t o due fit = record { list = fit.list; bytes = fit.bytes; change = due }
 
-pub IsHeld-touched : (number : ℕ) (at : At) (es : List (ℕ × Object)) (n t : ℕ) → at.tick < t → IsHeld es n t → IsHeld (changed number (touched at) es) n t
-IsHeld-touched number at es n t due = IsHeld-changed number (touched at) es n t (λ o is fit. IsFit-touched at t o due fit)
+pub IsHeld-touched : (number : ℕ) (at : At) (es : List (ℕ × Object)) (n t : ℕ) → at.tick < t → IsHeld es n t
+    → IsHeld (changed number (touched at) es) n t
+IsHeld-touched number at es n t due =
+    IsHeld-changed number (touched at) es n t (λ o is fit. IsFit-touched at t o due fit)
 
-pub IsHeld-retold : (number : ℕ) (at : At) (es : List (ℕ × Object)) (n t : ℕ) → at.tick < t → IsHeld es n t → IsHeld (changed number (retold at) es) n t
+pub IsHeld-retold : (number : ℕ) (at : At) (es : List (ℕ × Object)) (n t : ℕ) → at.tick < t → IsHeld es n t
+    → IsHeld (changed number (retold at) es) n t
 IsHeld-retold number at es n t due = IsHeld-changed number (retold at) es n t (λ o is fit. IsFit-retold at t o due fit)
 
 length-filter-le : (p : (ℕ × Object) → Bool) (es : List (ℕ × Object)) → length (filter p es) ≤ length es
 length-filter-le p [] = omega arith
 length-filter-le p (e ∷ es) = let rest : length (filter p es) ≤ length es = length-filter-le p es in
-    elim (p e) as (λ b. length (cond b (e ∷ filter p es) (filter p es)) ≤ suc (length es)) [ true ↦ omega arith | false ↦ omega arith ]
+    elim (p e) as (λ b. length (cond b (e ∷ filter p es) (filter p es)) ≤ suc (length es)) [ true ↦
+    omega arith | false ↦ omega arith ]
 
 IsHeld-without : (number : ℕ) (es : List (ℕ × Object)) (n t : ℕ) → IsHeld es n t → IsHeld (without number es) n t
 IsHeld-without number es n t held = record {
   numbered = Rises-filter (λ e. e.0) (λ e. not (is_at (nat_cmp number) e.0)) 1 n es held.numbered;
-  few = let a : length (without number es) ≤ length es = length-filter-le (λ e. not (is_at (nat_cmp number) e.0)) es in let b : length es ≤ 16384 = held.few in let goal : length (without number es) ≤ 16384 = omega arith in goal;
-  fit = λ k o is. held.fit k o (there (is_at (nat_cmp number) k) (lookup (is_at (nat_cmp k)) es) o (sym (lookup-without number k es) ∙ is));
+  few =
+      let a : length (without number es) ≤ length es = length-filter-le (λ e. not (is_at (nat_cmp number) e.0)) es in
+      let b : length es ≤ 16384 = held.few in let goal : length (without number es) ≤ 16384 = omega arith in goal;
+  fit =
+      λ k o is. held.fit k o (there (is_at (nat_cmp number) k) (lookup (is_at (nat_cmp k)) es) o
+      (sym (lookup-without number k es) ∙ is));
 }
   where
     there : (b : Bool) (found : Option Object) (o : Object) → cond b None found ≡ Some o → found ≡ Some o
     there true found o is = cc
     there false found o is = is
 
-pub IsHeld-released : (names : List Name) (number : ℕ) (at : At) (es : List (ℕ × Object)) (n t : ℕ) → at.tick < t → IsHeld es n t → IsHeld (released names number at es) n t
+pub IsHeld-released : (names : List Name) (number : ℕ) (at : At) (es : List (ℕ × Object)) (n t : ℕ) → at.tick < t
+    → IsHeld es n t → IsHeld (released names number at es) n t
 IsHeld-released names number at es n t due held =
     elim (has_name names number) as (λ b. IsHeld (cond b (changed number (retold at) es) (without number es)) n t) [
       | true ↦ IsHeld-retold number at es n t due held
       | false ↦ IsHeld-without number es n t held
     ]
 
-pub IsHeld-inserted : (es : List (ℕ × Object)) (n t : ℕ) (o : Object) → IsFit t o → length es < 16384 → IsHeld es n t → IsHeld (insert_entry nat_cmp es n o) (n + 1) t
+pub IsHeld-inserted : (es : List (ℕ × Object)) (n t : ℕ) (o : Object) → IsFit t o → length es < 16384 → IsHeld es n t
+    → IsHeld (insert_entry nat_cmp es n o) (n + 1) t
 IsHeld-inserted es n t o fit room held = record {
-  numbered = subst (λ l. Rises (λ (e : ℕ × Object). e.0) 1 l (n + 1)) (sym last) (Rises-push (λ e. e.0) 1 n es (n, o) refl held.numbered);
-  few = let a : length (insert_entry nat_cmp es n o) ≡ length es + 1 = ap length last ∙ length-append es ((n, o) ∷ []) in let goal : length (insert_entry nat_cmp es n o) ≤ 16384 = omega arith in goal;
-  fit = λ k p is. there (is_at (nat_cmp k) n) (lookup (is_at (nat_cmp k)) es) k p refl (sym (lookup-inserted n k o es) ∙ is);
+  numbered =
+      subst (λ l. Rises (λ (e : ℕ × Object). e.0) 1 l (n + 1)) (sym last)
+      (Rises-push (λ e. e.0) 1 n es (n, o) refl held.numbered);
+  few =
+      let a : length (insert_entry nat_cmp es n o) ≡ length es + 1 = ap length last ∙ length-append es ((n, o) ∷ []) in
+      let goal : length (insert_entry nat_cmp es n o) ≤ 16384 = omega arith in goal;
+  fit =
+      λ k p is. there (is_at (nat_cmp k) n) (lookup (is_at (nat_cmp k)) es) k p refl
+      (sym (lookup-inserted n k o es) ∙ is);
 }
   where
     last : insert_entry nat_cmp es n o ≡ es ++ (n, o) ∷ []
     last = inserted_last 1 n es o held.numbered
 
-    there : (b : Bool) (found : Option Object) (k : ℕ) (p : Object) → lookup (is_at (nat_cmp k)) es ≡ found → cond b (Some o) found ≡ Some p → IsFit t p
+    there : (b : Bool) (found : Option Object) (k : ℕ) (p : Object) → lookup (is_at (nat_cmp k)) es ≡ found
+        → cond b (Some o) found ≡ Some p → IsFit t p
     there true found k p was_present is = let same : o ≡ p = cc in subst (IsFit t) same fit
     there false found k p was_present is = held.fit k p (was_present ∙ is)

@@ -1,6 +1,8 @@
 -- The parts restored so far are always parts that a sound tree may have. They are a sound tree if each object has a
 -- place.
-use Rattle.std.proofs.Common.{◌≡◌, ◌≢◌, ℕ, zero, suc, ◌+◌, ◌-◌, ◌<◌, ◌≤◌, ◌^◌, Bool, true, false, not, cond, ◌&&◌, ◌||◌, List, [], ◌∷◌, ◌++◌, length, map, refl, ap, sym, ◌∙◌, subst, arith, Some, None, length-append}
+use Rattle.std.proofs.Common.{◌≡◌, ◌≢◌, ℕ, zero, suc, ◌+◌, ◌-◌, ◌<◌, ◌≤◌, ◌^◌, Bool, true, false, not, cond, ◌&&◌, ◌||◌}
+use Rattle.std.proofs.Common.{List, [], ◌∷◌, ◌++◌, length, map, refl, ap, sym, ◌∙◌, subst, arith, Some, None}
+use Rattle.std.proofs.Common.{length-append}
 use Rattle.std.specs.Prelude.{Option, IsSome, is_some, ◌==◌, find, nat_le, nat_lt}
 use Rattle.std.specs.Ordering.{nat_cmp, match_ordering, is_eq}
 use Rattle.std.specs.declared.cmp.Ordering.TheVariants.{Less, Equal, Greater}
@@ -18,13 +20,16 @@ use Rattle.acl_shape.specs.Inherited.{is_directory}
 use Rattle.acl_shape.specs.Bounds.{fits}
 use Rattle.acl_shape.proofs.Parts.{IsBounded-fits}
 use Rattle.node_tree.specs.Limits.{ROOT, MAX_NAME, MAX_NAMES, MAX_OBJECTS, MAX_LINKS}
-use Rattle.node_tree.specs.World.{World, Object, Name, object, kind_of, child_named, is_directory_at, is_named, has_name, name_count, link_count, parent_of}
+use Rattle.node_tree.specs.World.{World, Object, Name, object, kind_of, child_named, is_directory_at, is_named}
+use Rattle.node_tree.specs.World.{has_name, name_count, link_count, parent_of}
 use Rattle.node_tree.specs.Refusals.{has_room, may_link}
 use Rattle.node_tree.specs.Sound.{IsIn, Climbs, IsStamped, IsFit, IsSound, Rises, stamp_of, most_bytes}
-use Rattle.node_tree.specs.Restored.{Begun, counters_fit, put_object, put_name, has_stamp, is_fit, object_fits, child_fits, name_fits, climbs_to_root, is_placed, is_whole, IsHung, IsBegun}
+use Rattle.node_tree.specs.Restored.{Begun, counters_fit, put_object, put_name, has_stamp, is_fit, object_fits}
+use Rattle.node_tree.specs.Restored.{child_fits, name_fits, climbs_to_root, is_placed, is_whole, IsHung, IsBegun}
 use Rattle.node_tree.proofs.Objects.{is_at-same, is_at-apart, is_at-unlike, is_same, by_number, lookup-inserted}
 use Rattle.node_tree.proofs.Rising.{Rises-push, number-below, inserted_last}
-use Rattle.node_tree.proofs.Names.{Found, found, not_found, from_push, named_at, child_sought, any_passes, none_passes, count_by-none, flipped_back, IsLimited-push}
+use Rattle.node_tree.proofs.Names.{Found, found, not_found, from_push, named_at, child_sought, any_passes, none_passes}
+use Rattle.node_tree.proofs.Names.{count_by-none, flipped_back, IsLimited-push}
 use Rattle.node_tree.proofs.Stamps.{Joins}
 
 at_most : (a b : ℕ) → nat_le a b ≡ true → a ≤ b
@@ -32,25 +37,36 @@ at_most a b h = ⊎_elim (λ yes. yes.1) (λ no. let f : nat_le a b ≡ false = 
 
 -- ---- rising keys
 
-pub Rises-later : {X : Type 0} (key : X → ℕ) (low high later : ℕ) (xs : List X) → high ≤ later → Rises key low xs high → Rises key low xs later
+pub Rises-later : {X : Type 0} (key : X → ℕ) (low high later : ℕ) (xs : List X) → high ≤ later → Rises key low xs high
+    → Rises key low xs later
 Rises-later key low high later [] le rises = omega (arith, rises, le)
 Rises-later key low high later (x ∷ xs) le rises = (rises.0, Rises-later key (key x + 1) high later xs le rises.1)
 
 -- ---- one more object
 
 seen : (es : List (ℕ × Object)) (number : ℕ) (o : Object) → Rises (λ e. e.0) 1 es number → (k : ℕ)
-    → lookup (is_at (nat_cmp k)) (es ++ (number, o) ∷ []) ≡ cond (is_at (nat_cmp k) number) (Some o) (lookup (is_at (nat_cmp k)) es)
-seen es number o rises k = ap (lookup (is_at (nat_cmp k))) (sym (inserted_last 1 number es o rises)) ∙ lookup-inserted number k o es
+    → lookup (is_at (nat_cmp k)) (es ++ (number, o) ∷ [])
+    ≡ cond (is_at (nat_cmp k) number) (Some o) (lookup (is_at (nat_cmp k)) es)
+seen es number o rises k =
+    ap (lookup (is_at (nat_cmp k))) (sym (inserted_last 1 number es o rises)) ∙ lookup-inserted number k o es
 
-joins : {X : Type 0} (read : Object → X) (es : List (ℕ × Object)) (number : ℕ) (o : Object) → Rises (λ e. e.0) 1 es number
-    → Joins (λ k. option_map read (lookup (is_at (nat_cmp k)) es)) (λ k. option_map read (lookup (is_at (nat_cmp k)) (es ++ (number, o) ∷ []))) number (read o)
+joins : {X : Type 0} (read : Object → X) (es : List (ℕ × Object)) (number : ℕ) (o : Object)
+    → Rises (λ e. e.0) 1 es number
+    → Joins (λ k. option_map read (lookup (is_at (nat_cmp k)) es))
+    (λ k. option_map read (lookup (is_at (nat_cmp k)) (es ++ (number, o) ∷ []))) number (read o)
 joins read es number o rises = record {
-  there = ap (option_map read) (seen es number o rises number) ∙ ap (λ b. option_map read (cond b (Some o) (lookup (is_at (nat_cmp number)) es))) (is_at-same number);
-  elsewhere = λ k apart. ap (option_map read) (seen es number o rises k) ∙ ap (λ b. option_map read (cond b (Some o) (lookup (is_at (nat_cmp k)) es))) (is_at-apart k number (λ same. apart (sym same)));
+  there =
+      ap (option_map read) (seen es number o rises number)
+      ∙ ap (λ b. option_map read (cond b (Some o) (lookup (is_at (nat_cmp number)) es))) (is_at-same number);
+  elsewhere =
+      λ k apart. ap (option_map read) (seen es number o rises k)
+      ∙ ap (λ b. option_map read (cond b (Some o) (lookup (is_at (nat_cmp k)) es)))
+      (is_at-apart k number (λ same. apart (sym same)));
 }
 
 -- no object has a number above all others
-fresh : {X : Type 0} (read : Object → X) (es : List (ℕ × Object)) (number : ℕ) → Rises (λ e. e.0) 1 es number → (k : ℕ) → IsSome (option_map read (lookup (is_at (nat_cmp k)) es)) → number ≢ k
+fresh : {X : Type 0} (read : Object → X) (es : List (ℕ × Object)) (number : ℕ) → Rises (λ e. e.0) 1 es number → (k : ℕ)
+    → IsSome (option_map read (lookup (is_at (nat_cmp k)) es)) → number ≢ k
 fresh {X} read es number rises k h = there (lookup (is_at (nat_cmp k)) es) refl h
   where
     there : (o : Option Object) → lookup (is_at (nat_cmp k)) es ≡ o → IsSome (option_map read o) → number ≢ k
@@ -61,21 +77,32 @@ neither : (a b : Bool) → (a || b) ≡ false → (a ≡ false) × (b ≡ false)
 neither true b h = cc
 neither false b h = (refl, h)
 
-unstamped : (es : List (ℕ × Object)) (s k : ℕ) → has_stamp es s ≡ false → option_map (λ (o : Object). o.stamp) (lookup (is_at (nat_cmp k)) es) ≡ Some s → ⊥
+unstamped : (es : List (ℕ × Object)) (s k : ℕ) → has_stamp es s ≡ false
+    → option_map (λ (o : Object). o.stamp) (lookup (is_at (nat_cmp k)) es) ≡ Some s → ⊥
 unstamped [] s k none is = cc
 unstamped (e ∷ es) s k none is =
     let split = neither (s == e.1.stamp) (has_stamp es s) none in
-    elim (is_at (nat_cmp k) e.0) as (λ b. option_map (λ (o : Object). o.stamp) (cond b (Some e.1) (lookup (is_at (nat_cmp k)) es)) ≡ Some s → ⊥) [
-      | true ↦ λ h. let same : e.1.stamp ≡ s = cc in let t : (s == e.1.stamp) ≡ true = (Decides-eqb s e.1.stamp).1 (sym same) in let f : (s == e.1.stamp) ≡ false = split.0 in cc
+    elim (is_at (nat_cmp k) e.0) as (λ b. option_map (λ (o : Object). o.stamp)
+    (cond b (Some e.1) (lookup (is_at (nat_cmp k)) es)) ≡ Some s → ⊥) [
+      | true ↦
+          λ h. let same : e.1.stamp ≡ s =
+          cc in let t : (s == e.1.stamp) ≡ true =
+          (Decides-eqb s e.1.stamp).1 (sym same) in let f : (s == e.1.stamp) ≡ false = split.0 in cc
       | false ↦ λ h. unstamped es s k split.1 h
     ] is
 
-IsStamped-added : (stamps new : ℕ → Option ℕ) (number it next : ℕ) → IsStamped stamps next → Joins stamps new number it → ((k : ℕ) → stamps k ≡ Some it → ⊥) → it < next → IsStamped new next
+IsStamped-added : (stamps new : ℕ → Option ℕ) (number it next : ℕ) → IsStamped stamps next → Joins stamps new number it
+    → ((k : ℕ) → stamps k ≡ Some it → ⊥) → it < next → IsStamped new next
 IsStamped-added stamps new number it next stamped joins absent due = record {
   apart = λ j k s a b. by_number number j
-      (λ at. by_number number k (λ at'. sym at ∙ at') (λ ne. absurd (absent k (subst (λ s. stamps k ≡ Some s) (first j s at a) (old k s ne b)))))
-      (λ ne. by_number number k (λ at'. absurd (absent j (subst (λ s. stamps j ≡ Some s) (first k s at' b) (old j s ne a)))) (λ ne'. stamped.apart j k s (old j s ne a) (old k s ne' b)));
-  below = λ k s a. by_number number k (λ at. subst (λ s. s < next) (sym (first k s at a)) due) (λ ne. stamped.below k s (old k s ne a));
+      (λ at. by_number number k (λ at'. sym at ∙ at')
+      (λ ne. absurd (absent k (subst (λ s. stamps k ≡ Some s) (first j s at a) (old k s ne b)))))
+      (λ ne. by_number number k (λ at'. absurd
+      (absent j (subst (λ s. stamps j ≡ Some s) (first k s at' b) (old j s ne a))))
+      (λ ne'. stamped.apart j k s (old j s ne a) (old k s ne' b)));
+  below =
+      λ k s a. by_number number k (λ at. subst (λ s. s < next) (sym (first k s at a)) due)
+      (λ ne. stamped.below k s (old k s ne a));
 }
   where
     old : (k s : ℕ) → number ≢ k → new k ≡ Some s → stamps k ≡ Some s
@@ -84,12 +111,15 @@ IsStamped-added stamps new number it next stamped joins absent due = record {
     first : (k s : ℕ) → number ≡ k → new k ≡ Some s → s ≡ it
     first k s at is = let t : new k ≡ Some it = subst (λ k. new k ≡ Some it) at joins.there in cc
 
-IsHung-joined : (kinds new : ℕ → Option Kind) (names : List Name) (number : ℕ) (kind : Kind) → IsHung kinds names → Joins kinds new number kind → ((k : ℕ) → IsSome (kinds k) → number ≢ k) → IsHung new names
+IsHung-joined : (kinds new : ℕ → Option Kind) (names : List Name) (number : ℕ) (kind : Kind) → IsHung kinds names
+    → Joins kinds new number kind → ((k : ℕ) → IsSome (kinds k) → number ≢ k) → IsHung new names
 IsHung-joined kinds new names number kind hung joins fresh =
     let kept = λ (k : ℕ) (h : IsSome (kinds k)). joins.elsewhere k (fresh k h) in
     record {
       root_has_no_name = hung.root_has_no_name;
-      ends = λ n h. let e = hung.ends n h in (kept n.directory (ap is_some e.0) ∙ e.0, ap is_some (kept n.child e.1) ∙ e.1);
+      ends =
+          λ n h. let e =
+          hung.ends n h in (kept n.directory (ap is_some e.0) ∙ e.0, ap is_some (kept n.child e.1) ∙ e.1);
       one_child = hung.one_child;
       one_parent = λ m n h i same is. hung.one_parent m n h i same (sym (kept n.child (hung.ends n i).1) ∙ is);
     }
@@ -113,22 +143,31 @@ same_test s k = elim (is_at (nat_cmp s) k) as (λ b. is_at (nat_cmp s) k ≡ b �
 ] refl
 
 -- the stamps so far, with one more
-pub one_stamp_more : (s k : ℕ) (ks : List ℕ) → list_any (is_at (nat_cmp s)) (insert_key nat_cmp ks k) ≡ ((s == k) || list_any (is_at (nat_cmp s)) ks)
+pub one_stamp_more : (s k : ℕ) (ks : List ℕ)
+    → list_any (is_at (nat_cmp s)) (insert_key nat_cmp ks k) ≡ ((s == k) || list_any (is_at (nat_cmp s)) ks)
 one_stamp_more s k [] = ap (λ b. b || false) (same_test s k)
 one_stamp_more s k (x ∷ xs) =
     let rest = list_any (is_at (nat_cmp s)) xs in
-    elim (nat_cmp k x) as (λ r. nat_cmp k x ≡ r → list_any (is_at (nat_cmp s)) (match_ordering r (k ∷ x ∷ xs) (x ∷ xs) (x ∷ insert_key nat_cmp xs k)) ≡ ((s == k) || (is_at (nat_cmp s) x || list_any (is_at (nat_cmp s)) xs))) [
+    elim (nat_cmp k x) as (λ r. nat_cmp k x ≡ r
+    → list_any (is_at (nat_cmp s)) (match_ordering r (k ∷ x ∷ xs) (x ∷ xs) (x ∷ insert_key nat_cmp xs k))
+    ≡ ((s == k) || (is_at (nat_cmp s) x || list_any (is_at (nat_cmp s)) xs))) [
       | Less ↦ λ is. ap (λ b. b || (is_at (nat_cmp s) x || rest)) (same_test s k)
       | Equal ↦ λ is. let same : k ≡ x = is_same k x (ap is_eq is) in
-          subst (λ b. (is_at (nat_cmp s) x || rest) ≡ (b || (is_at (nat_cmp s) x || rest))) (same_test s x ∙ ap (λ y. s == y) (sym same)) (again (is_at (nat_cmp s) x) rest)
-      | Greater ↦ λ is. ap (λ b. is_at (nat_cmp s) x || b) (one_stamp_more s k xs) ∙ turned (is_at (nat_cmp s) x) (s == k) rest
+          subst (λ b. (is_at (nat_cmp s) x || rest) ≡ (b || (is_at (nat_cmp s) x || rest)))
+          (same_test s x ∙ ap (λ y. s == y) (sym same)) (again (is_at (nat_cmp s) x) rest)
+      | Greater ↦
+          λ is. ap (λ b. is_at (nat_cmp s) x || b) (one_stamp_more s k xs) ∙ turned (is_at (nat_cmp s) x) (s == k) rest
     ] refl
 
-stamps_more : (es : List (ℕ × Object)) (number : ℕ) (o : Object) (s : ℕ) → has_stamp (es ++ (number, o) ∷ []) s ≡ ((s == o.stamp) || has_stamp es s)
+stamps_more : (es : List (ℕ × Object)) (number : ℕ) (o : Object) (s : ℕ)
+    → has_stamp (es ++ (number, o) ∷ []) s ≡ ((s == o.stamp) || has_stamp es s)
 stamps_more [] number o s = refl
-stamps_more (e ∷ es) number o s = ap (λ b. (s == e.1.stamp) || b) (stamps_more es number o s) ∙ turned (s == e.1.stamp) (s == o.stamp) (has_stamp es s)
+stamps_more (e ∷ es) number o s =
+    ap (λ b. (s == e.1.stamp) || b) (stamps_more es number o s)
+    ∙ turned (s == e.1.stamp) (s == o.stamp) (has_stamp es s)
 
-numbers_more : (es : List (ℕ × Object)) (number : ℕ) (o : Object) → map (λ (e : ℕ × Object). e.0) (es ++ (number, o) ∷ []) ≡ map (λ (e : ℕ × Object). e.0) es ++ number ∷ []
+numbers_more : (es : List (ℕ × Object)) (number : ℕ) (o : Object)
+    → map (λ (e : ℕ × Object). e.0) (es ++ (number, o) ∷ []) ≡ map (λ (e : ℕ × Object). e.0) es ++ number ∷ []
 numbers_more [] number o = refl
 numbers_more (e ∷ es) number o = ap (λ l. e.0 ∷ l) (numbers_more es number o)
 
@@ -145,63 +184,98 @@ may_put b number o h =
     let w = b.world in
     let places = nat_le b.number number && nat_lt number w.next_number && nat_lt (length w.objects) MAX_OBJECTS in
     let all = and_parts places (is_fit w.next_tick w.next_stamp o && not (has_stamp w.objects o.stamp)) h in
-    let p1 = and_parts (nat_le b.number number && nat_lt number w.next_number) (nat_lt (length w.objects) MAX_OBJECTS) all.0 in
+    let p1 =
+    and_parts (nat_le b.number number && nat_lt number w.next_number) (nat_lt (length w.objects) MAX_OBJECTS) all.0 in
     let p2 = and_parts (nat_le b.number number) (nat_lt number w.next_number) p1.0 in
     let q1 = and_parts (is_fit w.next_tick w.next_stamp o) (not (has_stamp w.objects o.stamp)) all.1 in
-    let q2 = and_parts (nat_le (length o.bytes) (most_bytes o.kind) && fits o.list && nat_lt o.change w.next_tick) (nat_lt o.stamp w.next_stamp) q1.0 in
-    let q3 = and_parts (nat_le (length o.bytes) (most_bytes o.kind) && fits o.list) (nat_lt o.change w.next_tick) q2.0 in
+    let q2 =
+    and_parts (nat_le (length o.bytes) (most_bytes o.kind) && fits o.list && nat_lt o.change w.next_tick)
+    (nat_lt o.stamp w.next_stamp) q1.0 in
+    let q3 =
+    and_parts (nat_le (length o.bytes) (most_bytes o.kind) && fits o.list) (nat_lt o.change w.next_tick) q2.0 in
     let q4 = and_parts (nat_le (length o.bytes) (most_bytes o.kind)) (fits o.list) q3.0 in
     record {
       after = at_most b.number number p2.0;
       before = (Decides-ltb number w.next_number).0 p2.1;
       room = (Decides-ltb (length w.objects) MAX_OBJECTS).0 p1.1;
-      fit = record { list = IsBounded-fits o.list q4.1; bytes = at_most (length o.bytes) (most_bytes o.kind) q4.0; change = (Decides-ltb o.change w.next_tick).0 q3.1 };
+      fit =
+          record { list = IsBounded-fits o.list q4.1; bytes = at_most (length o.bytes) (most_bytes o.kind) q4.0;
+          change = (Decides-ltb o.change w.next_tick).0 q3.1 };
       stamp = (Decides-ltb o.stamp w.next_stamp).0 q2.1;
       absent = flipped_back (has_stamp w.objects o.stamp) q1.1;
     }
 
 pub IsBegun-object : (w : World) (number cookie : ℕ) (numbers stamps : List ℕ) → IsBegun w number cookie numbers stamps
     → (k : ℕ) (o : Object) → MayPut (record { world = w; number = number; cookie = cookie }) k o
-    → (more more_stamps : List ℕ) → more ≡ numbers ++ k ∷ [] → ((s : ℕ) → list_any (is_at (nat_cmp s)) more_stamps ≡ ((s == o.stamp) || list_any (is_at (nat_cmp s)) stamps))
+    → (more more_stamps : List ℕ) → more ≡ numbers ++ k ∷ []
+    → ((s : ℕ) → list_any (is_at (nat_cmp s)) more_stamps ≡ ((s == o.stamp) || list_any (is_at (nat_cmp s)) stamps))
     → IsBegun (put_object w k o) (k + 1) cookie more more_stamps
 IsBegun-object w number cookie numbers stamps begun k o may more more_stamps numbers_are stamps_are =
     let rises = Rises-later (λ e. e.0) 1 number k w.objects may.after begun.numbered in
     record {
-      hung = IsHung-joined (kind_of w) (kind_of (put_object w k o)) w.names k o.kind begun.hung (joins (λ o. o.kind) w.objects k o rises) (fresh (λ o. o.kind) w.objects k rises);
-      stamped = IsStamped-added (stamp_of w) (stamp_of (put_object w k o)) k o.stamp w.next_stamp begun.stamped (joins (λ o. o.stamp) w.objects k o rises) (λ q. unstamped w.objects o.stamp q may.absent) may.stamp;
+      hung =
+          IsHung-joined (kind_of w) (kind_of (put_object w k o)) w.names k o.kind begun.hung
+          (joins (λ o. o.kind) w.objects k o rises) (fresh (λ o. o.kind) w.objects k rises);
+      stamped =
+          IsStamped-added (stamp_of w) (stamp_of (put_object w k o)) k o.stamp w.next_stamp begun.stamped
+          (joins (λ o. o.stamp) w.objects k o rises) (λ q. unstamped w.objects o.stamp q may.absent) may.stamp;
       numbered = Rises-push (λ e. e.0) 1 k w.objects (k, o) refl rises;
       listed = begun.listed;
       numbers_left = let b : k < w.next_number = may.before in let goal : k + 1 ≤ w.next_number = omega arith in goal;
       cookies_left = begun.cookies_left;
-      few = let l : length (w.objects ++ (k, o) ∷ []) ≡ length w.objects + 1 = length-append w.objects ((k, o) ∷ []) in let r : length w.objects < MAX_OBJECTS = may.room in let goal : length (w.objects ++ (k, o) ∷ []) ≤ MAX_OBJECTS = omega arith in goal;
-      fit = λ q p is. there (is_at (nat_cmp q) k) (lookup (is_at (nat_cmp q)) w.objects) q p refl (sym (seen w.objects k o rises q) ∙ is);
+      few =
+          let l : length (w.objects ++ (k, o) ∷ []) ≡ length w.objects + 1 = length-append w.objects ((k, o) ∷ []) in
+          let r : length w.objects < MAX_OBJECTS = may.room in
+          let goal : length (w.objects ++ (k, o) ∷ []) ≤ MAX_OBJECTS = omega arith in goal;
+      fit =
+          λ q p is. there (is_at (nat_cmp q) k) (lookup (is_at (nat_cmp q)) w.objects) q p refl
+          (sym (seen w.objects k o rises q) ∙ is);
       limited = begun.limited;
-      counted = record { numbers = begun.counted.numbers; ticks = begun.counted.ticks; stamps = begun.counted.stamps; cookies = begun.counted.cookies };
+      counted =
+          record { numbers = begun.counted.numbers; ticks = begun.counted.ticks; stamps = begun.counted.stamps;
+          cookies = begun.counted.cookies };
       numbers_are = numbers_are ∙ ap (λ l. l ++ k ∷ []) begun.numbers_are ∙ sym (numbers_more w.objects k o);
-      stamps_are = λ s. stamps_are s ∙ ap (λ b. (s == o.stamp) || b) (begun.stamps_are s) ∙ sym (stamps_more w.objects k o s);
+      stamps_are =
+          λ s. stamps_are s ∙ ap (λ b. (s == o.stamp) || b) (begun.stamps_are s) ∙ sym (stamps_more w.objects k o s);
     }
   where
-    there : (b : Bool) (found : Option Object) (q : ℕ) (p : Object) → lookup (is_at (nat_cmp q)) w.objects ≡ found → cond b (Some o) found ≡ Some p → IsFit w.next_tick p
+    there : (b : Bool) (found : Option Object) (q : ℕ) (p : Object) → lookup (is_at (nat_cmp q)) w.objects ≡ found
+        → cond b (Some o) found ≡ Some p → IsFit w.next_tick p
     there true found q p was_present is = let same : o ≡ p = cc in subst (IsFit w.next_tick) same may.fit
     there false found q p was_present is = begun.fit q p (was_present ∙ is)
 
 -- ---- one more name
 
-IsHung-named : (kinds : ℕ → Option Kind) (names : List Name) (it : Name) → IsHung kinds names → kinds it.directory ≡ Some Directory → IsSome (kinds it.child) → it.child ≢ ROOT
-    → (kinds it.child ≡ Some Directory → (m : Name) → IsIn m names → m.child ≡ it.child → ⊥) → option_map (λ (n : Name). n.child) (find (is_named it.directory it.name) names) ≡ None
+IsHung-named : (kinds : ℕ → Option Kind) (names : List Name) (it : Name) → IsHung kinds names
+    → kinds it.directory ≡ Some Directory → IsSome (kinds it.child) → it.child ≢ ROOT
+    → (kinds it.child ≡ Some Directory → (m : Name) → IsIn m names → m.child ≡ it.child → ⊥)
+    → option_map (λ (n : Name). n.child) (find (is_named it.directory it.name) names) ≡ None
     → IsHung kinds (names ++ it ∷ [])
 IsHung-named kinds names it hung live there below once none =
-    let taken = λ (n : Name) (h : IsIn n names) (d : n.directory ≡ it.directory) (s : n.name ≡ it.name). not_found (λ n. n.child) (is_named it.directory it.name) names none n h (named_at it.directory it.name n d s) in
+    let taken =
+    λ (n : Name) (h : IsIn n names) (d : n.directory ≡ it.directory) (s : n.name ≡ it.name).
+    not_found (λ n. n.child) (is_named it.directory it.name) names none n h (named_at it.directory it.name n d s) in
     record {
-      root_has_no_name = λ n h. ⊎_elim (λ old. hung.root_has_no_name n old) (λ same at. below (sym (ap (λ (n : Name). n.child) same) ∙ at)) (from_push n it names h);
-      ends = λ n h. ⊎_elim (λ old. hung.ends n old) (λ same. subst (λ (n : Name). (kinds n.directory ≡ Some Directory) × IsSome (kinds n.child)) (sym same) (live, there)) (from_push n it names h);
+      root_has_no_name =
+          λ n h. ⊎_elim (λ old. hung.root_has_no_name n old)
+          (λ same at. below (sym (ap (λ (n : Name). n.child) same) ∙ at)) (from_push n it names h);
+      ends =
+          λ n h. ⊎_elim (λ old. hung.ends n old) (λ same.
+          subst (λ (n : Name). (kinds n.directory ≡ Some Directory) × IsSome (kinds n.child)) (sym same) (live, there))
+          (from_push n it names h);
       one_child = λ m n h i d s. ⊎_elim
-          (λ a. ⊎_elim (λ b. hung.one_child m n a b d s) (λ b. absurd (taken m a (d ∙ ap (λ (n : Name). n.directory) b) (s ∙ ap (λ (n : Name). n.name) b))) (from_push n it names i))
-          (λ a. ⊎_elim (λ b. absurd (taken n b (sym d ∙ ap (λ (n : Name). n.directory) a) (sym s ∙ ap (λ (n : Name). n.name) a))) (λ b. a ∙ sym b) (from_push n it names i))
+          (λ a. ⊎_elim (λ b. hung.one_child m n a b d s)
+          (λ b. absurd (taken m a (d ∙ ap (λ (n : Name). n.directory) b) (s ∙ ap (λ (n : Name). n.name) b)))
+          (from_push n it names i))
+          (λ a. ⊎_elim (λ b. absurd (taken n b (sym d ∙ ap (λ (n : Name). n.directory) a)
+          (sym s ∙ ap (λ (n : Name). n.name) a))) (λ b. a ∙ sym b) (from_push n it names i))
           (from_push m it names h);
       one_parent = λ m n h i same is. ⊎_elim
-          (λ a. ⊎_elim (λ b. hung.one_parent m n a b same is) (λ b. absurd (once (ap kinds (sym (ap (λ (n : Name). n.child) b)) ∙ is) m a (same ∙ ap (λ (n : Name). n.child) b))) (from_push n it names i))
-          (λ a. ⊎_elim (λ b. absurd (once (ap kinds (sym (ap (λ (n : Name). n.child) a) ∙ same) ∙ is) n b (sym same ∙ ap (λ (n : Name). n.child) a))) (λ b. a ∙ sym b) (from_push n it names i))
+          (λ a. ⊎_elim (λ b. hung.one_parent m n a b same is)
+          (λ b. absurd (once (ap kinds (sym (ap (λ (n : Name). n.child) b)) ∙ is) m a
+          (same ∙ ap (λ (n : Name). n.child) b))) (from_push n it names i))
+          (λ a. ⊎_elim (λ b. absurd (once (ap kinds (sym (ap (λ (n : Name). n.child) a) ∙ same) ∙ is) n b
+          (sym same ∙ ap (λ (n : Name). n.child) a))) (λ b. a ∙ sym b) (from_push n it names i))
           (from_push m it names h);
     }
 
@@ -238,11 +312,18 @@ record MayChild (w : World) (child : ℕ) : Type 0 where
 
 may_child : (w : World) (child : ℕ) → child_fits w child ≡ true → MayChild w child
 may_child w child h =
-    elim (is_directory_at w child) as (λ b. is_directory_at w child ≡ b → cond b (not (has_name w.names child)) (is_some (object w child) && may_link (link_count w.names child)) ≡ true → MayChild w child) [
+    elim (is_directory_at w child) as (λ b. is_directory_at w child ≡ b
+    → cond b (not (has_name w.names child)) (is_some (object w child) && may_link (link_count w.names child)) ≡ true
+    → MayChild w child) [
       | true ↦ λ is free.
-          let none = λ (m : Name) (i : IsIn m w.names) (at : m.child ≡ child). none_passes (λ n. n.child == child) w.names (flipped_back (has_name w.names child) free) m i ((Decides-eqb m.child child).1 at) in
-          let zero_links : link_count w.names child ≡ 0 = count_by-none (λ n. n.child == child) w.names (λ m i p. none m i ((Decides-eqb m.child child).0 p)) in
-          record { there = ap is_some (of_kind (kind_of w child) is); once = λ _. none; links = let goal : link_count w.names child < MAX_LINKS = omega arith in goal }
+          let none =
+          λ (m : Name) (i : IsIn m w.names) (at : m.child ≡ child).
+          none_passes (λ n. n.child == child) w.names (flipped_back (has_name w.names child) free) m i
+          ((Decides-eqb m.child child).1 at) in
+          let zero_links : link_count w.names child ≡ 0 =
+          count_by-none (λ n. n.child == child) w.names (λ m i p. none m i ((Decides-eqb m.child child).0 p)) in
+          record { there = ap is_some (of_kind (kind_of w child) is); once = λ _. none;
+              links = let goal : link_count w.names child < MAX_LINKS = omega arith in goal }
       | false ↦ λ is fits.
           let both = and_parts (is_some (object w child)) (may_link (link_count w.names child)) fits in
           record {
@@ -253,27 +334,36 @@ may_child w child h =
     ] refl h
   where
     unlike : is_directory_at w child ≡ false → kind_of w child ≡ Some Directory → ⊥
-    unlike is dir = let t : is_directory_at w child ≡ true = ap (λ (o : Option Kind). option_map_or is_directory o false) dir in cc
+    unlike is dir =
+        let t : is_directory_at w child ≡ true = ap (λ (o : Option Kind). option_map_or is_directory o false) dir in cc
 
 pub may_name : (b : Begun) (n : Name) → name_fits b n ≡ true → MayName b n
 may_name b n h =
     let w = b.world in
     let place = nat_le b.cookie n.cookie && nat_lt n.cookie w.next_cookie && nat_le (length n.name) MAX_NAME in
     let child = not (n.child == ROOT) && child_fits w n.child in
-    let directory = is_directory_at w n.directory && has_room (name_count w.names n.directory) && not (is_some (child_named w n.directory n.name)) in
+    let directory =
+    is_directory_at w n.directory && has_room (name_count w.names n.directory)
+    && not (is_some (child_named w n.directory n.name)) in
     let all = and_parts (place && child) directory h in
     let prefix = and_parts place child all.0 in
-    let p1 = and_parts (nat_le b.cookie n.cookie && nat_lt n.cookie w.next_cookie) (nat_le (length n.name) MAX_NAME) prefix.0 in
+    let p1 =
+    and_parts (nat_le b.cookie n.cookie && nat_lt n.cookie w.next_cookie) (nat_le (length n.name) MAX_NAME) prefix.0 in
     let p2 = and_parts (nat_le b.cookie n.cookie) (nat_lt n.cookie w.next_cookie) p1.0 in
     let c = and_parts (not (n.child == ROOT)) (child_fits w n.child) prefix.1 in
-    let d1 = and_parts (is_directory_at w n.directory && has_room (name_count w.names n.directory)) (not (is_some (child_named w n.directory n.name))) all.1 in
+    let d1 =
+    and_parts (is_directory_at w n.directory && has_room (name_count w.names n.directory))
+    (not (is_some (child_named w n.directory n.name))) all.1 in
     let d2 = and_parts (is_directory_at w n.directory) (has_room (name_count w.names n.directory)) d1.0 in
     let may = may_child w n.child c.1 in
     record {
       after = at_most b.cookie n.cookie p2.0;
       before = (Decides-ltb n.cookie w.next_cookie).0 p2.1;
       short = at_most (length n.name) MAX_NAME p1.1;
-      below = λ same. let t : (n.child == ROOT) ≡ true = (Decides-eqb n.child ROOT).1 same in let f : (n.child == ROOT) ≡ false = flipped_back (n.child == ROOT) c.0 in cc;
+      below =
+          λ same. let t : (n.child == ROOT) ≡ true =
+          (Decides-eqb n.child ROOT).1 same in let f : (n.child == ROOT) ≡ false =
+          flipped_back (n.child == ROOT) c.0 in cc;
       there = may.there;
       once = may.once;
       links = may.links;
@@ -283,29 +373,42 @@ may_name b n h =
     }
 
 pub IsBegun-name : (w : World) (number cookie : ℕ) (numbers stamps : List ℕ) → IsBegun w number cookie numbers stamps
-    → (n : Name) → MayName (record { world = w; number = number; cookie = cookie }) n → IsBegun (put_name w n) number (n.cookie + 1) numbers stamps
+    → (n : Name) → MayName (record { world = w; number = number; cookie = cookie }) n
+    → IsBegun (put_name w n) number (n.cookie + 1) numbers stamps
 IsBegun-name w number cookie numbers stamps begun n may = record {
-  hung = IsHung-named (kind_of w) w.names n begun.hung may.live may.there may.below may.once (child_sought w.names n.directory n.name ∙ may.none);
+  hung =
+      IsHung-named (kind_of w) w.names n begun.hung may.live may.there may.below may.once
+      (child_sought w.names n.directory n.name ∙ may.none);
   stamped = begun.stamped;
   numbered = begun.numbered;
-  listed = Rises-push (λ n. n.cookie) 3 n.cookie w.names n refl (Rises-later (λ n. n.cookie) 3 cookie n.cookie w.names may.after begun.listed);
+  listed =
+      Rises-push (λ n. n.cookie) 3 n.cookie w.names n refl
+      (Rises-later (λ n. n.cookie) 3 cookie n.cookie w.names may.after begun.listed);
   numbers_left = begun.numbers_left;
-  cookies_left = let b : n.cookie < w.next_cookie = may.before in let goal : n.cookie + 1 ≤ w.next_cookie = omega arith in goal;
+  cookies_left =
+      let b : n.cookie < w.next_cookie = may.before in let goal : n.cookie + 1 ≤ w.next_cookie = omega arith in goal;
   few = begun.few;
   fit = begun.fit;
   limited = IsLimited-push w.names n begun.limited may.room may.links may.short;
-  counted = record { numbers = begun.counted.numbers; ticks = begun.counted.ticks; stamps = begun.counted.stamps; cookies = begun.counted.cookies };
+  counted =
+      record { numbers = begun.counted.numbers; ticks = begun.counted.ticks; stamps = begun.counted.stamps;
+      cookies = begun.counted.cookies };
   numbers_are = begun.numbers_are;
   stamps_are = begun.stamps_are;
 }
 
 -- ---- the beginning
 
-pub IsBegun-none : (next_number next_tick next_stamp next_cookie : ℕ) → ROOT ≤ next_number → 3 ≤ next_cookie → next_number ≤ 2 ^ 63 → next_tick ≤ 2 ^ 63 → next_stamp ≤ 2 ^ 63 → next_cookie ≤ 2 ^ 63
+pub IsBegun-none : (next_number next_tick next_stamp next_cookie : ℕ) → ROOT ≤ next_number → 3 ≤ next_cookie
+    → next_number ≤ 2 ^ 63 → next_tick ≤ 2 ^ 63 → next_stamp ≤ 2 ^ 63 → next_cookie ≤ 2 ^ 63
     → (numbers stamps : List ℕ) → numbers ≡ [] → stamps ≡ []
-    → IsBegun (record { objects = []; names = []; next_number = next_number; next_tick = next_tick; next_stamp = next_stamp; next_cookie = next_cookie }) ROOT 3 numbers stamps
-IsBegun-none next_number next_tick next_stamp next_cookie numbers_left cookies_left a b c d numbers stamps numbers_are stamps_are = record {
-  hung = record { root_has_no_name = λ n h. absurd h; ends = λ n h. absurd h; one_child = λ m n h. absurd h; one_parent = λ m n h. absurd h };
+    → IsBegun (record { objects = []; names = []; next_number = next_number; next_tick = next_tick;
+    next_stamp = next_stamp; next_cookie = next_cookie }) ROOT 3 numbers stamps
+IsBegun-none next_number next_tick next_stamp next_cookie numbers_left cookies_left a b c d numbers stamps numbers_are
+    stamps_are = record {
+  hung =
+      record { root_has_no_name = λ n h. absurd h; ends = λ n h. absurd h; one_child = λ m n h. absurd h;
+      one_parent = λ m n h. absurd h };
   stamped = record { apart = λ j k s h. cc; below = λ k s h. cc };
   numbered = (let goal : 1 ≤ 1 = omega arith in goal);
   listed = (let goal : 3 ≤ 3 = omega arith in goal);
@@ -313,23 +416,28 @@ IsBegun-none next_number next_tick next_stamp next_cookie numbers_left cookies_l
   cookies_left = cookies_left;
   few = (let goal : 0 ≤ 16384 = omega arith in goal);
   fit = λ k o h. cc;
-  limited = record { directories = λ k. (let goal : 0 ≤ 4096 = omega arith in goal); links = λ k. (let goal : 0 ≤ 1000 = omega arith in goal); short = λ n h. absurd h };
+  limited =
+      record { directories = λ k. (let goal : 0 ≤ 4096 = omega arith in goal);
+      links = λ k. (let goal : 0 ≤ 1000 = omega arith in goal); short = λ n h. absurd h };
   counted = record { numbers = a; ticks = b; stamps = c; cookies = d };
   numbers_are = numbers_are;
   stamps_are = λ s. ap (list_any (is_at (nat_cmp s))) stamps_are;
 }
 
-pub all_left : (next_number next_tick next_stamp next_cookie : ℕ) → ROOT ≤ next_number → 3 ≤ next_cookie → next_number ≤ 2 ^ 63 → next_tick ≤ 2 ^ 63 → next_stamp ≤ 2 ^ 63 → next_cookie ≤ 2 ^ 63
+pub all_left : (next_number next_tick next_stamp next_cookie : ℕ) → ROOT ≤ next_number → 3 ≤ next_cookie
+    → next_number ≤ 2 ^ 63 → next_tick ≤ 2 ^ 63 → next_stamp ≤ 2 ^ 63 → next_cookie ≤ 2 ^ 63
     → true ≡ counters_fit next_number next_tick next_stamp next_cookie
 all_left next_number next_tick next_stamp next_cookie a b c d e f = grind (arith, nat_tests)
 
 -- ---- the end
 
-placed : (p : ℕ → Bool) (es : List (ℕ × Object)) → list_all p (map (λ e. e.0) es) ≡ true → (k : ℕ) (o : Object) → lookup (is_at (nat_cmp k)) es ≡ Some o → p k ≡ true
+placed : (p : ℕ → Bool) (es : List (ℕ × Object)) → list_all p (map (λ e. e.0) es) ≡ true → (k : ℕ) (o : Object)
+    → lookup (is_at (nat_cmp k)) es ≡ Some o → p k ≡ true
 placed p [] all k o is = cc
 placed p (e ∷ es) all k o is =
     let split = and_parts (p e.0) (list_all p (map (λ e. e.0) es)) all in
-    elim (is_at (nat_cmp k) e.0) as (λ b. is_at (nat_cmp k) e.0 ≡ b → cond b (Some e.1) (lookup (is_at (nat_cmp k)) es) ≡ Some o → p k ≡ true) [
+    elim (is_at (nat_cmp k) e.0) as (λ b. is_at (nat_cmp k) e.0 ≡ b
+    → cond b (Some e.1) (lookup (is_at (nat_cmp k)) es) ≡ Some o → p k ≡ true) [
       | true ↦ λ at _. subst (λ k. p k ≡ true) (sym (is_same k e.0 at)) split.0
       | false ↦ λ _ h. placed p es split.1 k o h
     ] refl is
@@ -337,7 +445,9 @@ placed p (e ∷ es) all k o is =
 module _ (w : World) where
   parent_found : (k p : ℕ) → parent_of w k ≡ Some p → Found (λ n. n.directory) (λ n. n.child == k) w.names p
   parent_found k p is =
-      elim (is_directory_at w k) as (λ b. cond b (option_map (λ (n : Name). n.directory) (find (λ n. n.child == k) w.names)) None ≡ Some p → Found (λ n. n.directory) (λ n. n.child == k) w.names p) [
+      elim (is_directory_at w k) as (λ b. cond b
+      (option_map (λ (n : Name). n.directory) (find (λ n. n.child == k) w.names)) None ≡ Some p
+      → Found (λ n. n.directory) (λ n. n.child == k) w.names p) [
         | true ↦ λ h. found (λ n. n.directory) (λ n. n.child == k) w.names p h
         | false ↦ λ h. cc
       ] is
@@ -346,34 +456,48 @@ module _ (w : World) where
   unfolding climbs_to_root
   climbs zero k h = cc
   climbs (suc fuel) k h =
-      elim (k == ROOT) as (λ b. (k == ROOT) ≡ b → (b || option_map_or (λ parent. climbs_to_root (parent_of w) fuel parent) (parent_of w k) false) ≡ true → (steps : ℕ) × Climbs w.names steps k) [
+      elim (k == ROOT) as (λ b. (k == ROOT) ≡ b
+      → (b || option_map_or (λ parent. climbs_to_root (parent_of w) fuel parent) (parent_of w k) false) ≡ true
+      → (steps : ℕ) × Climbs w.names steps k) [
         | true ↦ λ at _. (0, (Decides-eqb k ROOT).0 at)
         | false ↦ λ _ h. up (parent_of w k) refl (λ p h. climbs fuel p h) h
       ] refl h
     where
-      up : (o : Option ℕ) → parent_of w k ≡ o → ((p : ℕ) → climbs_to_root (parent_of w) fuel p ≡ true → (steps : ℕ) × Climbs w.names steps p) → option_map_or (λ parent. climbs_to_root (parent_of w) fuel parent) o false ≡ true → (steps : ℕ) × Climbs w.names steps k
+      up : (o : Option ℕ) → parent_of w k ≡ o → ((p : ℕ) → climbs_to_root (parent_of w) fuel p ≡ true
+          → (steps : ℕ) × Climbs w.names steps p)
+          → option_map_or (λ parent. climbs_to_root (parent_of w) fuel parent) o false ≡ true
+          → (steps : ℕ) × Climbs w.names steps k
       up None is again h = cc
       up (Some p) is again h =
           let f = parent_found k p is in
           let r = again p h in
-          (suc r.0, (f.name, f.present, (Decides-eqb f.name.child k).0 f.passes, subst (Climbs w.names r.0) (sym f.child_is) r.1))
+          (suc r.0, (f.name, f.present, (Decides-eqb f.name.child k).0 f.passes,
+          subst (Climbs w.names r.0) (sym f.child_is) r.1))
 
   module _ (all : list_all (is_placed w) (map (λ e. e.0) w.objects) ≡ true) where
     held : (k : ℕ) (o : Object) → object w k ≡ Some o → k ≢ ROOT → (n : Name) × IsIn n w.names × (n.child ≡ k)
     held k o is below =
-        elim (is_directory_at w k) as (λ b. cond b (climbs_to_root (parent_of w) (length w.objects) k) (has_name w.names k) ≡ true → (n : Name) × IsIn n w.names × (n.child ≡ k)) [
+        elim (is_directory_at w k) as (λ b. cond b (climbs_to_root (parent_of w) (length w.objects) k)
+        (has_name w.names k) ≡ true → (n : Name) × IsIn n w.names × (n.child ≡ k)) [
           | true ↦ λ h. let way = climbs (length w.objects) k h in by_way way.0 way.1
-          | false ↦ λ h. let r = any_passes (λ n. n.child == k) w.names h in (r.name, r.present, (Decides-eqb r.name.child k).0 r.passes)
+          | false ↦
+              λ h. let r =
+              any_passes (λ n. n.child == k) w.names h in (r.name, r.present, (Decides-eqb r.name.child k).0 r.passes)
         ] (placed (is_placed w) w.objects all k o is)
       where
         by_way : (steps : ℕ) → Climbs w.names steps k → (n : Name) × IsIn n w.names × (n.child ≡ k)
         by_way zero way = absurd (below way)
         by_way (suc steps) (n, present, at, up) = (n, present, at)
 
-    reaches_root : (k : ℕ) (o : Object) → object w k ≡ Some o → is_directory_at w k ≡ true → (steps : ℕ) × Climbs w.names steps k
-    reaches_root k o is dir = climbs (length w.objects) k (sym (ap (λ b. cond b (climbs_to_root (parent_of w) (length w.objects) k) (has_name w.names k)) dir) ∙ placed (is_placed w) w.objects all k o is)
+    reaches_root : (k : ℕ) (o : Object) → object w k ≡ Some o → is_directory_at w k ≡ true
+        → (steps : ℕ) × Climbs w.names steps k
+    reaches_root k o is dir =
+        climbs (length w.objects) k (sym (ap (λ b.
+        cond b (climbs_to_root (parent_of w) (length w.objects) k) (has_name w.names k)) dir)
+        ∙ placed (is_placed w) w.objects all k o is)
 
-pub IsSound-whole : (w : World) (number cookie : ℕ) (numbers stamps : List ℕ) → IsBegun w number cookie numbers stamps → is_directory_at w ROOT ≡ true → list_all (is_placed w) (map (λ e. e.0) w.objects) ≡ true → IsSound w
+pub IsSound-whole : (w : World) (number cookie : ℕ) (numbers stamps : List ℕ) → IsBegun w number cookie numbers stamps
+    → is_directory_at w ROOT ≡ true → list_all (is_placed w) (map (λ e. e.0) w.objects) ≡ true → IsSound w
 IsSound-whole w number cookie numbers stamps begun root all = record {
   rooted = record {
     root = of_kind (kind_of w ROOT) root;
@@ -393,57 +517,76 @@ IsSound-whole w number cookie numbers stamps begun root all = record {
   counted = begun.counted;
 }
   where
-    there : (k : ℕ) (o : Option Object) → object w k ≡ o → IsSome (option_map (λ (o : Object). o.kind) o) → k ≢ ROOT → (n : Name) × IsIn n w.names × (n.child ≡ k)
+    there : (k : ℕ) (o : Option Object) → object w k ≡ o → IsSome (option_map (λ (o : Object). o.kind) o) → k ≢ ROOT
+        → (n : Name) × IsIn n w.names × (n.child ≡ k)
     there k None is h below = let no : is_some {T = Kind} None ≡ true = h in cc
     there k (Some o) is h below = held w all k o is below
 
-    way : (k : ℕ) (o : Option Object) → object w k ≡ o → option_map (λ (o : Object). o.kind) o ≡ Some Directory → (steps : ℕ) × Climbs w.names steps k
+    way : (k : ℕ) (o : Option Object) → object w k ≡ o → option_map (λ (o : Object). o.kind) o ≡ Some Directory
+        → (steps : ℕ) × Climbs w.names steps k
     way k None is h = cc
-    way k (Some o) is h = reaches_root w all k o is (ap (λ (o : Option Kind). option_map_or is_directory o false) (ap (option_map (λ (o : Object). o.kind)) is ∙ h))
+    way k (Some o) is h =
+        reaches_root w all k o is (ap (λ (o : Option Kind). option_map_or is_directory o false)
+        (ap (option_map (λ (o : Object). o.kind)) is ∙ h))
 
 -- ---- the walk up, step by step
 
 pub at_root : (parents : ℕ → Option ℕ) (left here : ℕ) → here ≡ ROOT → climbs_to_root parents (suc left) here ≡ true
 unfolding climbs_to_root
-at_root parents left here same = ap (λ b. b || option_map_or (λ parent. climbs_to_root parents left parent) (parents here) false) ((Decides-eqb here ROOT).1 same)
+at_root parents left here same =
+    ap (λ b. b || option_map_or (λ parent. climbs_to_root parents left parent) (parents here) false)
+    ((Decides-eqb here ROOT).1 same)
 
-pub one_up : (parents : ℕ → Option ℕ) (left here : ℕ) (parent : Option ℕ) → (here ≡ ROOT → ⊥) → parents here ≡ parent → climbs_to_root parents (suc left) here ≡ option_map_or (λ parent. climbs_to_root parents left parent) parent false
+pub one_up : (parents : ℕ → Option ℕ) (left here : ℕ) (parent : Option ℕ) → (here ≡ ROOT → ⊥) → parents here ≡ parent
+    → climbs_to_root parents (suc left) here ≡ option_map_or (λ parent. climbs_to_root parents left parent) parent false
 unfolding climbs_to_root
 one_up parents left here parent apart up =
-    elim (here == ROOT) as (λ b. (here == ROOT) ≡ b → (b || option_map_or (λ parent. climbs_to_root parents left parent) (parents here) false) ≡ option_map_or (λ parent. climbs_to_root parents left parent) parent false) [
+    elim (here == ROOT) as (λ b. (here == ROOT) ≡ b
+    → (b || option_map_or (λ parent. climbs_to_root parents left parent) (parents here) false)
+    ≡ option_map_or (λ parent. climbs_to_root parents left parent) parent false) [
       | true ↦ λ is. absurd (apart ((Decides-eqb here ROOT).0 is))
       | false ↦ λ is. ap (λ o. option_map_or (λ parent. climbs_to_root parents left parent) o false) up
     ] refl
 
 abbrev pub GoesUp : (ℕ → Option ℕ) → ℕ → ℕ → ℕ → ℕ → Type 0
-GoesUp parents steps counter here from = climbs_to_root parents (steps - counter) here ≡ climbs_to_root parents steps from
+GoesUp parents steps counter here from =
+    climbs_to_root parents (steps - counter) here ≡ climbs_to_root parents steps from
 
 pub begins : (parents : ℕ → Option ℕ) (steps from : ℕ) → GoesUp parents steps 0 from from
 begins parents steps from = let e : steps - 0 ≡ steps = omega arith in ap (λ n. climbs_to_root parents n from) e
 
-pub arrives : (parents : ℕ → Option ℕ) (steps counter here from : ℕ) → counter < steps → here ≡ ROOT → GoesUp parents steps counter here from → true ≡ climbs_to_root parents steps from
+pub arrives : (parents : ℕ → Option ℕ) (steps counter here from : ℕ) → counter < steps → here ≡ ROOT
+    → GoesUp parents steps counter here from → true ≡ climbs_to_root parents steps from
 arrives parents steps counter here from below same on =
     let e : steps - counter ≡ suc (steps - (counter + 1)) = omega arith in
     sym (ap (λ n. climbs_to_root parents n here) e ∙ at_root parents (steps - (counter + 1)) here same) ∙ on
 
-goes_up : (parents : ℕ → Option ℕ) (steps counter here from : ℕ) (parent : Option ℕ) → counter < steps → (here ≡ ROOT → ⊥) → parents here ≡ parent → GoesUp parents steps counter here from
-    → option_map_or (λ parent. climbs_to_root parents (steps - (counter + 1)) parent) parent false ≡ climbs_to_root parents steps from
+goes_up : (parents : ℕ → Option ℕ) (steps counter here from : ℕ) (parent : Option ℕ) → counter < steps
+    → (here ≡ ROOT → ⊥) → parents here ≡ parent → GoesUp parents steps counter here from
+    → option_map_or (λ parent. climbs_to_root parents (steps - (counter + 1)) parent) parent false
+    ≡ climbs_to_root parents steps from
 goes_up parents steps counter here from parent below apart up on =
     let e : steps - counter ≡ suc (steps - (counter + 1)) = omega arith in
     sym (ap (λ n. climbs_to_root parents n here) e ∙ one_up parents (steps - (counter + 1)) here parent apart up) ∙ on
 
-pub ends : (parents : ℕ → Option ℕ) (steps counter here from : ℕ) → counter < steps → (here ≡ ROOT → ⊥) → parents here ≡ None → GoesUp parents steps counter here from → false ≡ climbs_to_root parents steps from
+pub ends : (parents : ℕ → Option ℕ) (steps counter here from : ℕ) → counter < steps → (here ≡ ROOT → ⊥)
+    → parents here ≡ None → GoesUp parents steps counter here from → false ≡ climbs_to_root parents steps from
 ends parents steps counter here from below apart up on = goes_up parents steps counter here from None below apart up on
 
-pub goes_on : (parents : ℕ → Option ℕ) (steps counter here from parent : ℕ) → counter < steps → (here ≡ ROOT → ⊥) → parents here ≡ Some parent → GoesUp parents steps counter here from
+pub goes_on : (parents : ℕ → Option ℕ) (steps counter here from parent : ℕ) → counter < steps → (here ≡ ROOT → ⊥)
+    → parents here ≡ Some parent → GoesUp parents steps counter here from
     → GoesUp parents steps (counter + 1) parent from
-goes_on parents steps counter here from parent below apart up on = goes_up parents steps counter here from (Some parent) below apart up on
+goes_on parents steps counter here from parent below apart up on =
+    goes_up parents steps counter here from (Some parent) below apart up on
 
-pub runs_out : (parents : ℕ → Option ℕ) (steps counter here from : ℕ) → steps ≤ counter → GoesUp parents steps counter here from → false ≡ climbs_to_root parents steps from
+pub runs_out : (parents : ℕ → Option ℕ) (steps counter here from : ℕ) → steps ≤ counter
+    → GoesUp parents steps counter here from → false ≡ climbs_to_root parents steps from
 unfolding climbs_to_root
-runs_out parents steps counter here from past on = let e : steps - counter ≡ 0 = omega arith in sym (ap (λ n. climbs_to_root parents n here) e) ∙ on
+runs_out parents steps counter here from past on =
+    let e : steps - counter ≡ 0 = omega arith in sym (ap (λ n. climbs_to_root parents n here) e) ∙ on
 
-pub IsSound-begun : (w : World) (number cookie : ℕ) (numbers stamps : List ℕ) → IsBegun w number cookie numbers stamps → is_whole w ≡ true → IsSound w
+pub IsSound-begun : (w : World) (number cookie : ℕ) (numbers stamps : List ℕ) → IsBegun w number cookie numbers stamps
+    → is_whole w ≡ true → IsSound w
 IsSound-begun w number cookie numbers stamps begun h =
     let parts = and_parts (is_directory_at w ROOT) (list_all (is_placed w) (map (λ e. e.0) w.objects)) h in
     IsSound-whole w number cookie numbers stamps begun parts.0 parts.1

@@ -13,20 +13,27 @@ pub record Restamped (stamps : ℕ → Option ℕ) (number next : ℕ) (k s : �
   pub here : number ≡ k
 
 pub IsStamped-restamped : (stamps fresh : ℕ → Option ℕ) (number next : ℕ) → IsStamped stamps next
-    → ((k s : ℕ) → fresh k ≡ Some s → Restamped stamps number next k s ⊎ (stamps k ≡ Some s)) → IsStamped fresh (next + 1)
+    → ((k s : ℕ) → fresh k ≡ Some s → Restamped stamps number next k s ⊎ (stamps k ≡ Some s))
+    → IsStamped fresh (next + 1)
 IsStamped-restamped stamps fresh number next stamped cases = record {
   apart = λ j k s a b. ⊎_elim
-      (λ (x : Restamped stamps number next j s). ⊎_elim (λ (y : Restamped stamps number next k s). sym x.here ∙ y.here) (λ y. absurd (fresh_is_new k s y x.new)) (cases k s b))
-      (λ x. ⊎_elim (λ (y : Restamped stamps number next k s). absurd (fresh_is_new j s x y.new)) (λ y. stamped.apart j k s x y) (cases k s b))
+      (λ (x : Restamped stamps number next j s).
+      ⊎_elim (λ (y : Restamped stamps number next k s). sym x.here ∙ y.here) (λ y. absurd (fresh_is_new k s y x.new))
+      (cases k s b))
+      (λ x. ⊎_elim (λ (y : Restamped stamps number next k s). absurd (fresh_is_new j s x y.new))
+      (λ y. stamped.apart j k s x y) (cases k s b))
       (cases j s a);
-  below = λ k s a. ⊎_elim (λ (x : Restamped stamps number next k s). omega (arith, x.new)) (λ x. let b : s < next = stamped.below k s x in omega arith) (cases k s a);
+  below =
+      λ k s a. ⊎_elim (λ (x : Restamped stamps number next k s). omega (arith, x.new))
+      (λ x. let b : s < next = stamped.below k s x in omega arith) (cases k s a);
 }
   where
     fresh_is_new : (k s : ℕ) → stamps k ≡ Some s → s ≡ next → ⊥
     fresh_is_new k s had new = let b : s < next = stamped.below k s had in omega arith
 
 -- some objects may be removed
-pub IsStamped-fewer : (stamps fewer : ℕ → Option ℕ) (next : ℕ) → ((k s : ℕ) → fewer k ≡ Some s → stamps k ≡ Some s) → IsStamped stamps next → IsStamped fewer next
+pub IsStamped-fewer : (stamps fewer : ℕ → Option ℕ) (next : ℕ) → ((k s : ℕ) → fewer k ≡ Some s → stamps k ≡ Some s)
+    → IsStamped stamps next → IsStamped fewer next
 IsStamped-fewer stamps fewer next had stamped = record {
   apart = λ j k s a b. stamped.apart j k s (had j s a) (had k s b);
   below = λ k s a. stamped.below k s (had k s a);
@@ -37,13 +44,20 @@ pub record Joins {X : Type 0} (old new : ℕ → Option X) (number : ℕ) (x : X
   pub there : new number ≡ Some x
   pub elsewhere : (k : ℕ) → number ≢ k → new k ≡ old k
 
-pub IsStamped-joined : (stamps new : ℕ → Option ℕ) (number next : ℕ) → IsStamped stamps next → Joins stamps new number next → IsStamped new (next + 1)
+pub IsStamped-joined : (stamps new : ℕ → Option ℕ) (number next : ℕ) → IsStamped stamps next
+    → Joins stamps new number next → IsStamped new (next + 1)
 IsStamped-joined stamps new number next stamped joins =
     let old = λ (k s : ℕ) (apart : number ≢ k) (is : new k ≡ Some s). sym (joins.elsewhere k apart) ∙ is in
     record {
-      apart = λ j k s a b. by_number number j (λ at. by_number number k (λ at'. sym at ∙ at') (λ ne. absurd (later k s (old k s ne b) (first j s at a))))
-          (λ ne. by_number number k (λ at'. absurd (later j s (old j s ne a) (first k s at' b))) (λ ne'. stamped.apart j k s (old j s ne a) (old k s ne' b)));
-      below = λ k s a. by_number number k (λ at. let e : s ≡ next = first k s at a in let goal : s < next + 1 = omega arith in goal) (λ ne. let b : s < next = stamped.below k s (old k s ne a) in let goal : s < next + 1 = omega arith in goal);
+      apart =
+          λ j k s a b. by_number number j (λ at. by_number number k (λ at'. sym at ∙ at')
+          (λ ne. absurd (later k s (old k s ne b) (first j s at a))))
+          (λ ne. by_number number k (λ at'. absurd (later j s (old j s ne a) (first k s at' b)))
+          (λ ne'. stamped.apart j k s (old j s ne a) (old k s ne' b)));
+      below =
+          λ k s a. by_number number k (λ at. let e : s ≡ next = first k s at a in
+          let goal : s < next + 1 = omega arith in goal)
+          (λ ne. let b : s < next = stamped.below k s (old k s ne a) in let goal : s < next + 1 = omega arith in goal);
     }
   where
     first : (k s : ℕ) → number ≡ k → new k ≡ Some s → s ≡ next

@@ -13,13 +13,17 @@ use Rattle.node_tree.specs.Sound.{IsFit, IsSound}
 use Rattle.node_tree.proofs.Objects.{is_same}
 
 -- the root is the only object
-only : {X : Type 0} (read : Object → X) (o : Object) (k : ℕ) (x : X) → option_map read (object (alone o) k) ≡ Some x → (k ≡ 1) × (read o ≡ x)
-only {X} read o k x is = elim (is_at (nat_cmp k) 1) as (λ b. is_at (nat_cmp k) 1 ≡ b → option_map read (cond b (Some o) None) ≡ Some x → (k ≡ 1) × (read o ≡ x)) [
+only : {X : Type 0} (read : Object → X) (o : Object) (k : ℕ) (x : X) → option_map read (object (alone o) k) ≡ Some x
+    → (k ≡ 1) × (read o ≡ x)
+only {X} read o k x is =
+    elim (is_at (nat_cmp k) 1) as (λ b. is_at (nat_cmp k) 1 ≡ b → option_map read (cond b (Some o) None) ≡ Some x
+    → (k ≡ 1) × (read o ≡ x)) [
   | true ↦ λ at h. (is_same k 1 at, cc)
   | false ↦ λ at h. cc
 ] refl is
 
-pub IsSound-alone : (o : Object) → o.kind ≡ Directory → o.bytes ≡ [] → IsBounded o.list → o.change ≡ 1 → o.stamp ≡ 1 → IsSound (alone o)
+pub IsSound-alone : (o : Object) → o.kind ≡ Directory → o.bytes ≡ [] → IsBounded o.list → o.change ≡ 1 → o.stamp ≡ 1
+    → IsSound (alone o)
 IsSound-alone o kind bytes list change stamp = record {
   rooted = record {
     root = ap Some kind;

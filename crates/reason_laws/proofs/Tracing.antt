@@ -61,7 +61,8 @@ decision-removal lists caller parent target p t on_parent on_target =
     let add : verdict (names p caller) p.list ADD_FILE ≡ verdict_on_bit places.add_file (on_p places.add_file) =
     verdict-bit (names p caller) p.list places.add_file (omega arith) in
     rw (on_parent, on_target, add)
-    (removal-reason parent target (match_of (first_match (names t caller) t.list places.delete)) (on_p places.delete_child)
+    (removal-reason parent target (match_of (first_match (names t caller) t.list places.delete))
+    (on_p places.delete_child)
     (on_p places.add_file))
 
 pub lines-removal : (lists : Lists) (caller : Identity) (op parent target : ℕ) (p t : Judged)

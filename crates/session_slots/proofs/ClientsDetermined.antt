@@ -7,7 +7,8 @@ use Rattle.nfs_types.specs.declared.status.Status.TheVariants as statuses
 use Rattle.session_slots.specs.declared.creating.Create.{Create}
 use Rattle.session_slots.specs.declared.creating.Made.{Made}
 use Rattle.session_slots.specs.declared.creating.Judged.{Judged}
-use Rattle.session_slots.specs.declared.creating.Judged.TheVariants.{Answers, Refuses as RefusesSession, Makes as MakesOne}
+use Rattle.session_slots.specs.declared.creating.Judged.TheVariants.{Answers, Refuses as RefusesSession}
+use Rattle.session_slots.specs.declared.creating.Judged.TheVariants.{Makes as MakesOne}
 use Rattle.session_slots.specs.declared.exchanging.Exchanged.{Exchanged}
 use Rattle.session_slots.specs.declared.exchanging.ExchangeDecision.{ExchangeDecision}
 use Rattle.session_slots.specs.declared.exchanging.ExchangeDecision.TheVariants.{Refuses, Knows, Makes}
@@ -21,7 +22,8 @@ AreDelayed x y = (x ≡ Err statuses.Delay → y ≡ Err statuses.Delay) × (y �
 
 -- ---- EXCHANGE_ID
 
-exchanges_same : (s : ExchangeDecision) (old : Registry) (a : Exchanging) (x y : Result Exchanged Status) (p q : Registry)
+exchanges_same : (s : ExchangeDecision) (old : Registry) (a : Exchanging) (x y : Result Exchanged Status)
+    (p q : Registry)
     → ExchangesBy s old a x p → ExchangesBy s old a y q → AreDelayed x y → (x ≡ y) × (p ≡ q)
 exchanges_same (Refuses status) old a x y p q e f both = (e.0 ∙ sym f.0, e.1 ∙ sym f.1)
 exchanges_same (Knows known) old a x y p q e f both = (e.0 ∙ sym f.0, e.1 ∙ sym f.1)

@@ -18,10 +18,14 @@ decided : (xs ys : List ℕ) (b : Bool) → (b ≡ true → xs ≡ ys) → (xs �
 decided xs ys true to from = sym ((decides xs ys).1 (to refl))
 decided xs ys false to from = not_if (pointwise nat_eq xs ys) (λ t. let clash = from ((decides xs ys).0 t) in cc)
 
-pub joined : (prefix back bytes rest : List ℕ) (b : Bool) → bytes ≡ prefix ++ rest → b ≡ pointwise nat_eq rest back → b ≡ pointwise nat_eq (prefix ++ back) bytes
+pub joined : (prefix back bytes rest : List ℕ) (b : Bool) → bytes ≡ prefix ++ rest → b ≡ pointwise nat_eq rest back
+    → b ≡ pointwise nat_eq (prefix ++ back) bytes
 joined prefix back bytes rest b is outcome =
-    decided (prefix ++ back) bytes b (λ t. ap (λ xs. prefix ++ xs) (sym ((decides rest back).0 (sym outcome ∙ t))) ∙ sym is)
+    decided (prefix ++ back) bytes b (λ t. ap (λ xs. prefix ++ xs) (sym ((decides rest back).0 (sym outcome ∙ t)))
+    ∙ sym is)
     (λ same. outcome ∙ (decides rest back).1 (append_cancel_left prefix rest back (sym is ∙ sym same)))
 
-pub none_joined : (prefix back bytes : List ℕ) → ((rest : List ℕ) → bytes ≢ prefix ++ rest) → false ≡ pointwise nat_eq (prefix ++ back) bytes
-none_joined prefix back bytes none = decided (prefix ++ back) bytes false (λ t. cc) (λ same. absurd (none back (sym same)))
+pub none_joined : (prefix back bytes : List ℕ) → ((rest : List ℕ) → bytes ≢ prefix ++ rest)
+    → false ≡ pointwise nat_eq (prefix ++ back) bytes
+none_joined prefix back bytes none =
+    decided (prefix ++ back) bytes false (λ t. cc) (λ same. absurd (none back (sym same)))

@@ -1,5 +1,6 @@
 -- Calls by rising number, and how far apart the multiples of 2^20 are.
-use Rattle.std.proofs.Common.{◌≡◌, ℕ, ◌+◌, ◌-◌, ◌%◌, ◌^◌, ◌<◌, ◌≤◌, nat_le, Bool, true, false, if◌then◌else◌, List, [], ◌∷◌, length, Option, Some, None, suc, refl, ◌∙◌, arith}
+use Rattle.std.proofs.Common.{◌≡◌, ℕ, ◌+◌, ◌-◌, ◌%◌, ◌^◌, ◌<◌, ◌≤◌, nat_le, Bool, true, false, if◌then◌else◌, List, []}
+use Rattle.std.proofs.Common.{◌∷◌, length, Option, Some, None, suc, refl, ◌∙◌, arith}
 use Rattle.std.proofs.lemmas.Bool.{leb-false}
 use Rattle.session_slots.specs.declared.slot.Turn.{Turn}
 use Rattle.session_slots.specs.declared.slot.Turn.TheVariants as turns
@@ -27,7 +28,8 @@ pub is_new : (b : Bool) (t : Turn) → (if b then turns.New else t) ≡ turns.Ne
 is_new true t h f = refl
 is_new false t h f = absurd (f h)
 
-not_new_if : (b c : Bool) (status later : _) → (if b then (if c then turns.Repeat else turns.Refused status) else turns.Refused later) ≡ turns.New → ⊥
+not_new_if : (b c : Bool) (status later : _)
+    → (if b then (if c then turns.Repeat else turns.Refused status) else turns.Refused later) ≡ turns.New → ⊥
 not_new_if true true status later e = cc
 not_new_if true false status later e = cc
 not_new_if false c status later e = cc
@@ -44,8 +46,10 @@ within_one n l h = omega (arith, h)
 is_multiple : (n : ℕ) → due (n + (WRITTEN_EVERY - 1 - n % WRITTEN_EVERY)) % WRITTEN_EVERY ≡ 0
 is_multiple n = omega arith
 
-fewer_if : (b : Bool) (n l : ℕ) → nat_le WRITTEN_EVERY l ≡ b → ((k : ℕ) → k < l → due (n + k) % WRITTEN_EVERY ≡ 0 → ⊥) → l < WRITTEN_EVERY
-fewer_if true n l e none = absurd (none (WRITTEN_EVERY - 1 - n % WRITTEN_EVERY) (within_one n l (at_least WRITTEN_EVERY l e)) (is_multiple n))
+fewer_if : (b : Bool) (n l : ℕ) → nat_le WRITTEN_EVERY l ≡ b → ((k : ℕ) → k < l → due (n + k) % WRITTEN_EVERY ≡ 0 → ⊥)
+    → l < WRITTEN_EVERY
+fewer_if true n l e none =
+    absurd (none (WRITTEN_EVERY - 1 - n % WRITTEN_EVERY) (within_one n l (at_least WRITTEN_EVERY l e)) (is_multiple n))
   where
     at_least : (m n : ℕ) → nat_le m n ≡ true → m ≤ n
     at_least m n h = grind (arith, h)

@@ -1,8 +1,10 @@
 -- The turn of a call on a slot that covers another, and the slots after it.
-use Rattle.std.proofs.Common.{◌≡◌, ℕ, ◌+◌, ◌-◌, ◌%◌, ◌/◌, ◌^◌, ◌<◌, ◌≤◌, ◌==◌, ◌&&◌, Bool, true, false, not, nat_le, if◌then◌else◌, List, Option, Some, None, refl, sym, ap, subst, ◌∙◌, inl, inr, arith}
+use Rattle.std.proofs.Common.{◌≡◌, ℕ, ◌+◌, ◌-◌, ◌%◌, ◌/◌, ◌^◌, ◌<◌, ◌≤◌, ◌==◌, ◌&&◌, Bool, true, false, not, nat_le}
+use Rattle.std.proofs.Common.{if◌then◌else◌, List, Option, Some, None, refl, sym, ap, subst, ◌∙◌, inl, inr, arith}
 use Rattle.session_slots.specs.Limits.{MOST_AHEAD}
 use Rattle.session_slots.specs.Counting.{due, ahead, is_next, last_number}
-use Rattle.session_slots.specs.Slots.{Call, Cached, Place, number_of, opened, kept_after, lags_after, begun, finished, with_results}
+use Rattle.session_slots.specs.Slots.{Call, Cached, Place, number_of, opened, kept_after, lags_after, begun, finished}
+use Rattle.session_slots.specs.Slots.{with_results}
 use Rattle.session_slots.specs.Covering.{IsLater, PlaceCovers, lagging}
 use Rattle.session_slots.specs.Keeping.{passes}
 
@@ -22,7 +24,8 @@ one_ahead : (last n : ℕ) → last < 2 ^ 32 → n ≡ due last → (1 ≤ ahead
 one_ahead last n few e = (omega (arith, few, e), omega (arith, few, e))
 
 -- the sequence ID after a later one of the same span is at most 2^20 ahead
-near_ahead : (earlier last n : ℕ) → last < 2 ^ 32 → earlier < last → earlier / MOST_AHEAD ≡ last / MOST_AHEAD → n ≡ due last
+near_ahead : (earlier last n : ℕ) → last < 2 ^ 32 → earlier < last → earlier / MOST_AHEAD ≡ last / MOST_AHEAD
+    → n ≡ due last
     → (1 ≤ ahead earlier n) × (ahead earlier n ≤ MOST_AHEAD)
 near_ahead earlier last n few later near e = (omega (arith, few, later, near, e), omega (arith, few, later, near, e))
 
@@ -33,7 +36,8 @@ due_fits last n e = omega (arith, e)
 next_later : (last n : ℕ) → last < 2 ^ 32 → n ≡ due last → last / MOST_AHEAD ≡ n / MOST_AHEAD → last < n
 next_later last n few e near = omega (arith, few, e, near)
 
-ahead_later : (last n : ℕ) → last < 2 ^ 32 → n < 2 ^ 32 → 1 ≤ ahead last n → ahead last n ≤ MOST_AHEAD → last / MOST_AHEAD ≡ n / MOST_AHEAD → last < n
+ahead_later : (last n : ℕ) → last < 2 ^ 32 → n < 2 ^ 32 → 1 ≤ ahead last n → ahead last n ≤ MOST_AHEAD
+    → last / MOST_AHEAD ≡ n / MOST_AHEAD → last < n
 ahead_later last n few fits some most near = omega (arith, few, fits, some, most, near)
 
 -- ---- a new call is new on the covering slot
@@ -47,18 +51,23 @@ by_lags false last n few is =
     let near = one_ahead last n few (is_number n (due last) is) in
     in_range (ahead last n) near.0 near.1
 
-pub next_covers : (q p : Place) (n : ℕ) → PlaceCovers q p → is_next p.lags (last_of p) n ≡ true → is_next true (last_of q) n ≡ true
+pub next_covers : (q p : Place) (n : ℕ) → PlaceCovers q p → is_next p.lags (last_of p) n ≡ true
+    → is_next true (last_of q) n ≡ true
 next_covers q p n c is = elim (c.kept) [
-  | inl same ↦ subst (λ kept. is_next true (last_number number_of kept) n ≡ true) (sym same) (by_lags p.lags (last_of p) n c.number is)
+  | inl same ↦
+      subst (λ kept. is_next true (last_number number_of kept) n ≡ true) (sym same)
+      (by_lags p.lags (last_of p) n c.number is)
   | inr later ↦
-      let e : n ≡ due (last_of p) = is_number n (due (last_of p)) (ap (λ lags. is_next lags (last_of p) n) (sym later.lags) ∙ is) in
+      let e : n ≡ due (last_of p) =
+      is_number n (due (last_of p)) (ap (λ lags. is_next lags (last_of p) n) (sym later.lags) ∙ is) in
       let near = near_ahead (last_of q) (last_of p) n c.number later.later later.near e in
       in_range (ahead (last_of q) n) near.0 near.1
 ]
 
 -- ---- slots after a new call
 
-pub begun_new : (p : Place) (call : Call) → is_next p.lags (last_of p) call.number ≡ true → begun p call ≡ record p { kept = Some (opened call); lags = false }
+pub begun_new : (p : Place) (call : Call) → is_next p.lags (last_of p) call.number ≡ true
+    → begun p call ≡ record p { kept = Some (opened call); lags = false }
 begun_new p call is = λ i. record p { kept = if' (is i); lags = lags' (is i) }
   where
     if' : Bool → Option Cached
@@ -71,7 +80,8 @@ new_fits : (lags : Bool) (last n : ℕ) → n < 2 ^ 32 → is_next lags last n �
 new_fits lags last n fits is = fits
 
 -- both slots cache the call
-pub begun_covers : (q p : Place) (call : Call) → PlaceCovers q p → call.number < 2 ^ 32 → is_next p.lags (last_of p) call.number ≡ true
+pub begun_covers : (q p : Place) (call : Call) → PlaceCovers q p → call.number < 2 ^ 32
+    → is_next p.lags (last_of p) call.number ≡ true
     → PlaceCovers (begun (lagging q) call) (begun p call)
 begun_covers q p call c fits is =
     let other : is_next true (last_of q) call.number ≡ true = next_covers q p call.number c is in
@@ -79,12 +89,14 @@ begun_covers q p call c fits is =
     (subst (λ x. PlaceCovers (record q { kept = Some (opened call); lags = false }) x) (sym (begun_new p call is))
     (record { arguments = c.arguments; results = c.results; number = fits; kept = inl refl }))
 
-last_results : (results : List ℕ) (kept : Option Cached) → last_number number_of (with_results results kept) ≡ last_number number_of kept
+last_results : (results : List ℕ) (kept : Option Cached)
+    → last_number number_of (with_results results kept) ≡ last_number number_of kept
 last_results results None = refl
 last_results results (Some kept) = refl
 
 -- both slots cache the results
-pub finished_covers : (q p : Place) (results : List ℕ) → PlaceCovers q p → q.kept ≡ p.kept → PlaceCovers (finished q results) (finished p results)
+pub finished_covers : (q p : Place) (results : List ℕ) → PlaceCovers q p → q.kept ≡ p.kept
+    → PlaceCovers (finished q results) (finished p results)
 finished_covers q p results c same = record {
   arguments = c.arguments;
   results = c.results;
@@ -93,14 +105,16 @@ finished_covers q p results c same = record {
 }
 
 same_span : (last n : ℕ) → passes last n ≡ false → last / MOST_AHEAD ≡ n / MOST_AHEAD
-same_span last n none = is_number (last / MOST_AHEAD) (n / MOST_AHEAD) (is_true (last / MOST_AHEAD == n / MOST_AHEAD) none)
+same_span last n none =
+    is_number (last / MOST_AHEAD) (n / MOST_AHEAD) (is_true (last / MOST_AHEAD == n / MOST_AHEAD) none)
   where
     is_true : (b : Bool) → not b ≡ false → b ≡ true
     is_true true h = refl
     is_true false h = cc
 
 -- The covering slot stays if the call isn't logged: its sequence ID is in the span of the one before.
-pub idle_covers : (q p : Place) (call : Call) (results : List ℕ) → PlaceCovers q p → call.number < 2 ^ 32 → is_next p.lags (last_of p) call.number ≡ true
+pub idle_covers : (q p : Place) (call : Call) (results : List ℕ) → PlaceCovers q p → call.number < 2 ^ 32
+    → is_next p.lags (last_of p) call.number ≡ true
     → passes (last_of p) call.number ≡ false → PlaceCovers q (finished (begun p call) results)
 idle_covers q p call results c fits is none =
     let span = same_span (last_of p) call.number none in
@@ -131,4 +145,5 @@ idle_covers q p call results c fits is none =
         let near = is_in_range (ahead (last_of p) call.number) is in
         ahead_later (last_of p) call.number c.number fits near.0 near.1 (same_span (last_of p) call.number none)
     after false is =
-        next_later (last_of p) call.number c.number (is_number call.number (due (last_of p)) is) (same_span (last_of p) call.number none)
+        next_later (last_of p) call.number c.number (is_number call.number (due (last_of p)) is)
+        (same_span (last_of p) call.number none)

@@ -1,5 +1,6 @@
 -- A written value is of one record, of one session, or of one call.
-use Rattle.std.proofs.Common.{◌≡◌, inl, inr, ℕ, Bool, true, false, nat_lt, if◌then◌else◌, length, Option, Some, None, Result, Ok, Err, refl, sym, ap, ◌∙◌}
+use Rattle.std.proofs.Common.{◌≡◌, inl, inr, ℕ, Bool, true, false, nat_lt, if◌then◌else◌, length, Option, Some, None}
+use Rattle.std.proofs.Common.{Result, Ok, Err, refl, sym, ap, ◌∙◌}
 use Rattle.std.specs.Option.{option_map}
 use Rattle.nfs_types.specs.declared.status.Status.{Status}
 use Rattle.nfs_types.specs.declared.status.Status.TheVariants as statuses
@@ -12,7 +13,8 @@ use Rattle.session_slots.specs.Limits.{MOST_OWNER}
 use Rattle.session_slots.specs.Slots.{Cached}
 use Rattle.session_slots.specs.Registry.{Client}
 use Rattle.session_slots.specs.Orderly.{is_cached_refusal, is_cached_result, has_creation_form, has_form}
-use Rattle.session_slots.specs.Forms.{channel_value, created_value, refusal_value, result_value, creation_value, client_value, session_value, call_value}
+use Rattle.session_slots.specs.Forms.{channel_value, created_value, refusal_value, result_value, creation_value}
+use Rattle.session_slots.specs.Forms.{client_value, session_value, call_value}
 
 one_channel : (c d : Channel) → channel_value c ≡ channel_value d → c ≡ d
 one_channel c d h = λ i. record {
@@ -43,16 +45,19 @@ back_again statuses.TooSmall h = refl
 back_again statuses.ClidInUse h = refl
 back_again _ h = cc
 
-one_refusal : (a b : Status) → is_cached_refusal a ≡ true → is_cached_refusal b ≡ true → refusal_value a ≡ refusal_value b → a ≡ b
+one_refusal : (a b : Status) → is_cached_refusal a ≡ true → is_cached_refusal b ≡ true
+    → refusal_value a ≡ refusal_value b → a ≡ b
 one_refusal a b k l h = sym (back_again a k) ∙ ap back h ∙ back_again b l
 
-one_result : (a b : Result Created Status) → is_cached_result a ≡ true → is_cached_result b ≡ true → result_value a ≡ result_value b → a ≡ b
+one_result : (a b : Result Created Status) → is_cached_result a ≡ true → is_cached_result b ≡ true
+    → result_value a ≡ result_value b → a ≡ b
 one_result (Ok c) (Ok d) k l h = let e : created_value c ≡ created_value d = cc in ap Ok (one_created c d e)
 one_result (Ok c) (Err t) k l h = cc
 one_result (Err s) (Ok d) k l h = cc
 one_result (Err s) (Err t) k l h = let e : refusal_value s ≡ refusal_value t = cc in ap Err (one_refusal s t k l e)
 
-one_creation : (a b : Option Creation) → has_creation_form a ≡ true → has_creation_form b ≡ true → option_map creation_value a ≡ option_map creation_value b → a ≡ b
+one_creation : (a b : Option Creation) → has_creation_form a ≡ true → has_creation_form b ≡ true
+    → option_map creation_value a ≡ option_map creation_value b → a ≡ b
 one_creation None None k l h = refl
 one_creation None (Some b) k l h = cc
 one_creation (Some a) None k l h = cc
@@ -67,7 +72,9 @@ formed false c h = h
 
 pub one_client : (c d : Client) → has_form c ≡ true → has_form d ≡ true → client_value c ≡ client_value d → c ≡ d
 one_client c d k l h =
-    let created = one_creation c.created d.created (formed (nat_lt MOST_OWNER (length c.owner)) (has_creation_form c.created) k) (formed (nat_lt MOST_OWNER (length d.owner)) (has_creation_form d.created) l) (λ i. (h i).1.1.1.1.1.0) in
+    let created =
+    one_creation c.created d.created (formed (nat_lt MOST_OWNER (length c.owner)) (has_creation_form c.created) k)
+    (formed (nat_lt MOST_OWNER (length d.owner)) (has_creation_form d.created) l) (λ i. (h i).1.1.1.1.1.0) in
     λ i. record {
       number = (h i).0;
       owner = (h i).1.0;

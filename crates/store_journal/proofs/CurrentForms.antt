@@ -13,14 +13,18 @@ use Rattle.store_journal.specs.declared.disk.Slot.{Slot}
 use Rattle.store_journal.specs.declared.disk.Slot.TheVariants.{A, B}
 use Rattle.store_journal.specs.declared.fault.CurrentFault.{CurrentFault}
 use Rattle.store_journal.specs.declared.fault.CurrentFault.TheVariants.{Corrupt}
-use Rattle.store_journal.specs.Current.{current_bytes, current_form, current_in, current_value, form_of, in_known_slot, of_read, IsFitCurrent}
+use Rattle.store_journal.specs.Current.{current_bytes, current_form, current_in, current_value, form_of, in_known_slot}
+use Rattle.store_journal.specs.Current.{of_read, IsFitCurrent}
 use Rattle.store_journal.specs.Checksum.{current_checksum}
 use Rattle.store_journal.specs.Disk.{Bytes}
 
 if_same : (n : ℕ) (x y : Result Current CurrentFault) → (if n == n then x else y) ≡ x
 if_same n x y = grind (arith, nat_tests)
 
-known : (id : Identity) (generation begun machine : ℕ) (s : Slot) → in_known_slot (form_of (record { identity = id; generation = generation; begun = begun; slot = s; machine = machine })) ≡ Ok (record { identity = id; generation = generation; begun = begun; slot = s; machine = machine })
+known : (id : Identity) (generation begun machine : ℕ) (s : Slot)
+    → in_known_slot (form_of (record { identity = id; generation = generation; begun = begun; slot = s;
+    machine = machine })) ≡ Ok (record { identity = id; generation = generation; begun = begun; slot = s;
+    machine = machine })
 known id generation begun machine A = refl
 known id generation begun machine B = refl
 

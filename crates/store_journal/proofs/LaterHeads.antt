@@ -1,5 +1,6 @@
 -- Where the head of a later frame is.
-use Rattle.std.proofs.Common.{◌≡◌, ℕ, ◌<◌, ◌≤◌, ◌+◌, ◌*◌, Bool, true, false, ◌++◌, length, drop, Some, None, Ok, Err, refl, sym, ◌∙◌, ap, arith, append_assoc, length-append, length-drop}
+use Rattle.std.proofs.Common.{◌≡◌, ℕ, ◌<◌, ◌≤◌, ◌+◌, ◌*◌, Bool, true, false, ◌++◌, length, drop, Some, None, Ok, Err}
+use Rattle.std.proofs.Common.{refl, sym, ◌∙◌, ap, arith, append_assoc, length-append, length-drop}
 use Rattle.std.specs.Bool.{if◌then◌else◌}
 use Rattle.std.specs.Prelude.{◌==◌}
 use Rattle.std.proofs.lemmas.Bool.Decides.{nat_tests}
@@ -31,13 +32,16 @@ picked false h g is = absurd (never is)
     never e = cc
 
 pub gave : (id : Identity) (r : Read (Value (pair head_form hyper))) (h : Head) → fitting_head id r ≡ Some h → Gave r h
-gave id (Ok x) h is = record { value = x.0; after = x.1; is = refl; head_is = picked (x.0.1 == head_checksum id (head_of x.0.0)) (head_of x.0.0) h is }
+gave id (Ok x) h is =
+    record { value = x.0; after = x.1; is = refl;
+    head_is = picked (x.0.1 == head_checksum id (head_of x.0.0)) (head_of x.0.0) h is }
 gave id (Err e) h is = absurd (never is)
   where
     never : None ≡ Some h → ⊥
     never e = cc
 
-pub gave_head : (id : Identity) (bytes : Bytes) (h : Head) → head_at id bytes ≡ Some h → Gave (read_at (pair head_form hyper) bytes) h
+pub gave_head : (id : Identity) (bytes : Bytes) (h : Head) → head_at id bytes ≡ Some h
+    → Gave (read_at (pair head_form hyper) bytes) h
 unfolding head_at
 gave_head id bytes h is = gave id (read_at (pair head_form hyper) bytes) h is
 
@@ -60,13 +64,17 @@ prefix id bytes h is =
     let later = head.second in
     let more : Bytes = later.prefix ++ (later.back ++ (b.spelled.back ++ g.after)) in
     let parts : bytes ≡ head.prefix ++ more =
-    b.parts ∙ ap (λ (l : Bytes). l ++ g.after) (b.spelled.joined ∙ ap (λ (l : Bytes). l ++ b.spelled.back) (head.joined ∙ ap (λ (l : Bytes). head.prefix ++ l) later.joined))
+    b.parts ∙ ap (λ (l : Bytes). l ++ g.after)
+    (b.spelled.joined ∙ ap (λ (l : Bytes). l ++ b.spelled.back)
+    (head.joined ∙ ap (λ (l : Bytes). head.prefix ++ l) later.joined))
     ∙ regrouped head.prefix later.prefix later.back b.spelled.back g.after in
     let eight : length head.prefix ≡ 8 = head.first.len in
     record {
       more = more;
       after = later.back ++ (b.spelled.back ++ g.after);
-      version = ap (read_at hyper) parts ∙ again hyper g.value.0.0 head.prefix more head.first ∙ ap (λ (x : Head). Ok (x.version, more)) (sym g.head_is);
+      version =
+          ap (read_at hyper) parts ∙ again hyper g.value.0.0 head.prefix more head.first
+          ∙ ap (λ (x : Head). Ok (x.version, more)) (sym g.head_is);
       generation = again hyper g.value.0.1.0 later.prefix (later.back ++ (b.spelled.back ++ g.after)) later.first
           ∙ ap (λ (x : Head). Ok (x.generation, later.back ++ (b.spelled.back ++ g.after))) (sym g.head_is);
       long = omega (arith, ap length parts, length-append head.prefix more, eight);
@@ -78,7 +86,8 @@ same a b is = grind (arith, nat_tests)
 passing : (a b : ℕ) (t : Bool) → a ≡ b → (if a == b then t else false) ≡ t
 passing a b t is = grind (arith, nat_tests)
 
-pub later_begins : (id : Identity) (p : Place) (bytes : Bytes) → LaterAt id p bytes → begins_frames p.generation bytes ≡ true
+pub later_begins : (id : Identity) (p : Place) (bytes : Bytes) → LaterAt id p bytes
+    → begins_frames p.generation bytes ≡ true
 unfolding begins_frames
 later_begins id p bytes l =
     let f = prefix id bytes l.head l.at in
@@ -87,14 +96,16 @@ later_begins id p bytes l =
     ∙ ap (has_generation p.generation) f.generation
     ∙ same l.head.generation p.generation l.generation
 
-pub none_at_others : (id : Identity) (p : Place) (bytes : Bytes) (t : Bool) → t ≡ begins_frames p.generation bytes → t ≡ false → LaterAt id p bytes → ⊥
+pub none_at_others : (id : Identity) (p : Place) (bytes : Bytes) (t : Bool) → t ≡ begins_frames p.generation bytes
+    → t ≡ false → LaterAt id p bytes → ⊥
 none_at_others id p bytes t is isnt l = apart (sym isnt ∙ is ∙ later_begins id p bytes l)
   where
     apart : false ≡ true → ⊥
     apart e = cc
 
 -- no head is in the last bytes
-pub none_at_end : (id : Identity) (p : Place) (k n : ℕ) (rest : Bytes) → n ≡ length rest → n < 4 * k + 8 → LaterAt id p (drop (4 * k) rest) → ⊥
+pub none_at_end : (id : Identity) (p : Place) (k n : ℕ) (rest : Bytes) → n ≡ length rest → n < 4 * k + 8
+    → LaterAt id p (drop (4 * k) rest) → ⊥
 none_at_end id p k n rest n_is few l =
     let f = prefix id (drop (4 * k) rest) l.head l.at in
     omega (arith, f.long, length-drop (4 * k) rest, n_is, few)

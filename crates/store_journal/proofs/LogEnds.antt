@@ -1,5 +1,6 @@
 -- The end of the log is no frame, and nothing after it is read.
-use Rattle.std.proofs.Common.{◌≡◌, ℕ, true, false, ◌++◌, Option, Some, None, Ok, refl, sym, ◌∙◌, ap, arith, append_assoc}
+use Rattle.std.proofs.Common.{◌≡◌, ℕ, true, false, ◌++◌, Option, Some, None, Ok, refl, sym, ◌∙◌, ap, arith}
+use Rattle.std.proofs.Common.{append_assoc}
 use Rattle.xdr_wire.specs.Xdr.{hyper}
 use Rattle.xdr_wire.specs.Reading.{Read, read_at}
 use Rattle.xdr_wire.proofs.Spelling.{again, begins_from_read}
@@ -31,7 +32,8 @@ regrouped : (v g d a : Bytes) → ((v ++ g) ++ d) ++ a ≡ v ++ (g ++ (d ++ a))
 regrouped v g d a = simp append_assoc
 
 -- a frame starts with the version
-version_first : (id : Identity) (p : Place) (bytes : Bytes) (f : Frame) (after : Bytes) → frame_at id p bytes ≡ Some (f, after) → (more : Bytes) × (read_at hyper bytes ≡ Ok (VERSION, more))
+version_first : (id : Identity) (p : Place) (bytes : Bytes) (f : Frame) (after : Bytes)
+    → frame_at id p bytes ≡ Some (f, after) → (more : Bytes) × (read_at hyper bytes ≡ Ok (VERSION, more))
 version_first id p bytes f after is =
     let t = took id p bytes f after is in
     let b = begins_from_read form t.value bytes after t.is in
@@ -41,7 +43,8 @@ version_first id p bytes f after is =
     b.parts ∙ ap (λ (l : Bytes). l ++ after) (b.spelled.joined ∙ ap (λ (l : Bytes). l ++ b.spelled.back) head.joined)
     ∙ regrouped head.prefix head.back b.spelled.back after in
     let head_is = (placed id p (head_of t.value.0) t.value.1.0 t.value.1.1 t.placed).head_is in
-    (more, ap (read_at hyper) parts ∙ again hyper t.value.0.0 head.prefix more head.first ∙ ap (λ (h : Head). Ok (h.version, more)) head_is)
+    (more, ap (read_at hyper) parts ∙ again hyper t.value.0.0 head.prefix more head.first
+    ∙ ap (λ (h : Head). Ok (h.version, more)) head_is)
 
 pub none_at_end : (id : Identity) (p : Place) (more : Bytes) → frame_at id p (log_end ++ more) ≡ None
 none_at_end id p more = by_frame (frame_at id p (log_end ++ more)) refl

@@ -1,5 +1,6 @@
 -- Each call changes a journal that keeps a log into one that keeps the next log.
-use Rattle.std.proofs.Common.{◌≡◌, inl, inr, ℕ, ◌+◌, true, false, List, [], ◌∷◌, Option, Some, None, Ok, Err, refl, sym, ◌∙◌, ap, subst, arith}
+use Rattle.std.proofs.Common.{◌≡◌, inl, inr, ℕ, ◌+◌, true, false, List, [], ◌∷◌, Option, Some, None, Ok, Err, refl, sym}
+use Rattle.std.proofs.Common.{◌∙◌, ap, subst, arith}
 use Rattle.store_journal.specs.declared.current.Current.{Current}
 use Rattle.store_journal.specs.declared.disk.Slot.{Slot}
 use Rattle.store_journal.specs.declared.fault.JournalFault.TheVariants.{TooLong, Memory, Full, NoCheckpoint, Failed}
@@ -34,17 +35,22 @@ alone log acts j = record {
     absent o (inr none) names = absurd none
 
 -- the act of the call is the act of the law
-wrote_is : (j : Journal) (log : Log) (f : Frame) → Follows j log → Wrote j.current.slot j.position.at (ended j.current.identity j.position f) ≡ Wrote log.current.slot log.at (ended log.current.identity (position_of log) f)
+wrote_is : (j : Journal) (log : Log) (f : Frame) → Follows j log
+    → Wrote j.current.slot j.position.at (ended j.current.identity j.position f)
+    ≡ Wrote log.current.slot log.at (ended log.current.identity (position_of log) f)
 wrote_is j log f m =
     ap (λ (c : Current). Wrote c.slot j.position.at (ended c.identity j.position f)) m.current_is
     ∙ ap (λ (e : Position). Wrote log.current.slot e.at (ended log.current.identity e f)) m.position_is
 
-tore_is : (j : Journal) (log : Log) (f : Frame) → Follows j log → Tore j.current.slot j.position.at (ended j.current.identity j.position f) ≡ Tore log.current.slot log.at (ended log.current.identity (position_of log) f)
+tore_is : (j : Journal) (log : Log) (f : Frame) → Follows j log
+    → Tore j.current.slot j.position.at (ended j.current.identity j.position f)
+    ≡ Tore log.current.slot log.at (ended log.current.identity (position_of log) f)
 tore_is j log f m =
     ap (λ (c : Current). Tore c.slot j.position.at (ended c.identity j.position f)) m.current_is
     ∙ ap (λ (e : Position). Tore log.current.slot e.at (ended log.current.identity e f)) m.position_is
 
-fit_is : (j : Journal) (log : Log) (f : Frame) → Follows j log → IsFit j.current.identity j.position.place f → IsFit log.current.identity (place_of log) f
+fit_is : (j : Journal) (log : Log) (f : Frame) → Follows j log → IsFit j.current.identity j.position.place f
+    → IsFit log.current.identity (place_of log) f
 fit_is j log f m fit =
     subst (λ (e : Position). IsFit log.current.identity e.place f) m.position_is
     (subst (λ (c : Current). IsFit c.identity j.position.place f) m.current_is fit)
@@ -60,10 +66,12 @@ append_law j j' log acts acts' f (Ok done) s gives =
     let loose = loose_acts log f acts in
     let mid_is : gives.0.mid ≡ loose = gives.0.one ∙ ap (λ (a : Act). a ∷ acts) (wrote_is j log f m) in
     let acts_are : acts' ≡ Synced log.current.slot ∷ loose =
-    gives.0.two ∙ ap (λ (t : Slot). Synced t ∷ gives.0.mid) (slot_is j log m) ∙ ap (λ (l : List Act). Synced log.current.slot ∷ l) mid_is in
+    gives.0.two ∙ ap (λ (t : Slot). Synced t ∷ gives.0.mid) (slot_is j log m)
+    ∙ ap (λ (l : List Act). Synced log.current.slot ∷ l) mid_is in
     let kept = sync_law (with_one log f Going) [] loose frame.0 (alone (with_one log f Going) loose frame.0) refl in
     let next : next_position j.current.identity j.position f ≡ position_of (with_one log f Going) =
-    ap (λ (c : Current). next_position c.identity j.position f) m.current_is ∙ ap (λ (e : Position). next_position log.current.identity e f) m.position_is ∙ sym frame.2 in (
+    ap (λ (c : Current). next_position c.identity j.position f) m.current_is
+    ∙ ap (λ (e : Position). next_position log.current.identity e f) m.position_is ∙ sym frame.2 in (
       frame.0,
       acts_are,
       record {
@@ -71,7 +79,9 @@ append_law j j' log acts acts' f (Ok done) s gives =
         matches = record {
           settled = refl;
           position_is = ap (λ (x : Journal). x.position) gives.4 ∙ next ∙ sym kept.2;
-          current_is = ap (λ (x : Journal). x.current) gives.4 ∙ m.current_is ∙ ap (λ (x : Journal). at_begun log.current x.current.begun) (sym gives.4);
+          current_is =
+              ap (λ (x : Journal). x.current) gives.4 ∙ m.current_is
+              ∙ ap (λ (x : Journal). at_begun log.current x.current.begun) (sym gives.4);
         };
         going = ap (λ (x : Journal). x.has_failed) gives.4 ∙ s.going;
       },
@@ -80,7 +90,8 @@ append_law j j' log acts acts' f (Err TooLong) s gives = (gives.1.0, gives.1.1)
 append_law j j' log acts acts' f (Err Memory) s gives = (gives.0, gives.1)
 append_law j j' log acts acts' f (Err Full) s gives = (gives.1.0, gives.1.1)
 append_law j j' log acts acts' f (Err NoCheckpoint) s gives =
-    absurd ((s.journal.written log (inl refl)).finished (sym (ap (λ (c : Current). c.generation) s.matches.current_is) ∙ gives.0))
+    absurd ((s.journal.written log (inl refl)).finished
+    (sym (ap (λ (c : Current). c.generation) s.matches.current_is) ∙ gives.0))
 append_law j j' log acts acts' f (Err Failed) s (inl before) = absurd (apart (sym s.going ∙ before.0))
   where
     apart : false ≡ true → ⊥
@@ -90,20 +101,25 @@ append_law j j' log acts acts' f (Err Failed) s (inr now) =
     let apart = alone log acts s.journal in
     let frame = frame_law log [] acts f s.journal apart m.settled (fit_is j log f m now.1) in
     elim now.0 [
-      | inl tore ↦ subst (IsJournal (Some (with_one log f Stuck) ∷ [])) (sym (tore ∙ ap (λ (a : Act). a ∷ acts) (tore_is j log f m))) frame.1
+      | inl tore ↦
+          subst (IsJournal (Some (with_one log f Stuck) ∷ []))
+          (sym (tore ∙ ap (λ (a : Act). a ∷ acts) (tore_is j log f m))) frame.1
       | inr both ↦
           let loose = loose_acts log f acts in
           let mid_is : both.mid ≡ loose = both.one ∙ ap (λ (a : Act). a ∷ acts) (wrote_is j log f m) in
           let acts_are : acts' ≡ Unsynced log.current.slot ∷ loose =
-          both.two ∙ ap (λ (t : Slot). Unsynced t ∷ both.mid) (slot_is j log m) ∙ ap (λ (l : List Act). Unsynced log.current.slot ∷ l) mid_is in
-          let kept = sync_law (with_one log f Going) [] loose frame.0 (alone (with_one log f Going) loose frame.0) refl in
+          both.two ∙ ap (λ (t : Slot). Unsynced t ∷ both.mid) (slot_is j log m)
+          ∙ ap (λ (l : List Act). Unsynced log.current.slot ∷ l) mid_is in
+          let kept =
+          sync_law (with_one log f Going) [] loose frame.0 (alone (with_one log f Going) loose frame.0) refl in
           subst (IsJournal (Some (with_one log f Stuck) ∷ [])) (sym acts_are) kept.1
     ]
 
 -- ---- beginning a checkpoint
 
 -- CURRENT with another number of the last begun generation names the same log
-names_next : (j : Journal) (log : Option Log) (acts : List Act) → Matches j log → IsFitCurrent (begun_next j.current) → Names acts log (Some (current_bytes (begun_next j.current)))
+names_next : (j : Journal) (log : Option Log) (acts : List Act) → Matches j log → IsFitCurrent (begun_next j.current)
+    → Names acts log (Some (current_bytes (begun_next j.current)))
 names_next j None acts m fit = (begun_next j.current, refl, fit, m)
 names_next j (Some log) acts m fit =
     let same : begun_next j.current ≡ at_begun log.current (j.current.begun + 1) = ap begun_next m.current_is in
@@ -114,7 +130,9 @@ matches_next j j' None m is = ap (λ (x : Journal). x.current.generation) is ∙
 matches_next j j' (Some log) m is = record {
   settled = m.settled;
   position_is = ap (λ (x : Journal). x.position) is ∙ m.position_is;
-  current_is = ap (λ (x : Journal). x.current) is ∙ ap begun_next m.current_is ∙ ap (λ (x : Journal). at_begun log.current x.current.begun) (sym is);
+  current_is =
+      ap (λ (x : Journal). x.current) is ∙ ap begun_next m.current_is
+      ∙ ap (λ (x : Journal). at_begun log.current x.current.begun) (sym is);
 }
 
 pub begin_law : BeginLaw

@@ -12,10 +12,12 @@ appends_each prefix earlier later log is =
     let all = earlier ++ later in
     let both : length all ≡ length earlier + length later = length-append earlier later in
     let counted : log.total ≡ length all = is.counted in
-    let kept : length log.trail ≡ length all - (length all - 4096) = ap length is.kept ∙ length-drop (length all - 4096) all in
+    let kept : length log.trail ≡ length all - (length all - 4096) =
+    ap length is.kept ∙ length-drop (length all - 4096) all in
     let missing = length later - 4096 in
     let lost : lost_lines (length earlier) log ≡ missing = omega arith in
-    let at : (length log.trail - (log.total - length earlier)) + (length all - 4096) ≡ length earlier + missing = omega arith in
+    let at : (length log.trail - (log.total - length earlier)) + (length all - 4096) ≡ length earlier + missing =
+    omega arith in
     let lines : new_lines (length earlier) log ≡ drop missing later =
     ap (drop (length log.trail - (log.total - length earlier))) is.kept
     ∙ drop-drop (length log.trail - (log.total - length earlier)) (length all - 4096) all

@@ -12,4 +12,5 @@ kept_once contents prefix earlier later log old new is seen kept =
     let outcome : new_text prefix old.seen log ≡ lost_text prefix missing ++ text_of prefix (drop missing later) =
     ap (λ (n : ℕ). new_text prefix n log) seen ∙ appends_each prefix earlier later log is in
     let all : length (earlier ++ later) ≡ length earlier + length later = length-append earlier later in
-    (subst (λ (bytes : List ℕ). Appends (contents old.out) (contents new.out) bytes) outcome kept.written, kept.seen ∙ (omega (arith, seen, is.counted, all)))
+    (subst (λ (bytes : List ℕ). Appends (contents old.out) (contents new.out) bytes) outcome kept.written, kept.seen
+    ∙ (omega (arith, seen, is.counted, all)))

@@ -33,7 +33,9 @@ written_name d (inr (inr (inr more))) = elim more [ ]
 -- two parts of one value encode one number and one object
 object_one : (j k : ℕ) (o p : Object) → object_value j o ≡ object_value k p → (j ≡ k) × (o ≡ p)
 object_one j k o p h =
-    let d : Value parts.object = (j, ((forms.object_kind_value o.kind, (o.bytes, (o.owner, (o.group, (forms.list_value o.list, o.high))))), (o.change, (moment_value o.time_modify, (moment_value o.time_metadata, o.stamp))))) in (
+    let d : Value parts.object =
+    (j, ((forms.object_kind_value o.kind, (o.bytes, (o.owner, (o.group, (forms.list_value o.list, o.high))))),
+    (o.change, (moment_value o.time_modify, (moment_value o.time_metadata, o.stamp))))) in (
       ap (λ v. (written_object d v).0) h,
       same_object o p
           (sym (kind_again o.kind) ∙ ap (λ v. kind_in (written_object d v).1.0.0) h ∙ kind_again p.kind)
@@ -43,8 +45,10 @@ object_one j k o p h =
           (sym (list_again o.list) ∙ ap (λ v. list_in (written_object d v).1.0.1.1.1.1.0) h ∙ list_again p.list)
           (ap (λ v. (written_object d v).1.0.1.1.1.1.1) h)
           (ap (λ v. (written_object d v).1.1.0) h)
-          (same_moment o.time_modify p.time_modify (ap (λ v. (written_object d v).1.1.1.0.0) h) (ap (λ v. (written_object d v).1.1.1.0.1) h))
-          (same_moment o.time_metadata p.time_metadata (ap (λ v. (written_object d v).1.1.1.1.0.0) h) (ap (λ v. (written_object d v).1.1.1.1.0.1) h))
+          (same_moment o.time_modify p.time_modify (ap (λ v. (written_object d v).1.1.1.0.0) h)
+          (ap (λ v. (written_object d v).1.1.1.0.1) h))
+          (same_moment o.time_metadata p.time_metadata (ap (λ v. (written_object d v).1.1.1.1.0.0) h)
+          (ap (λ v. (written_object d v).1.1.1.1.0.1) h))
           (ap (λ v. (written_object d v).1.1.1.1.1) h),
     )
 
@@ -59,17 +63,25 @@ never (Ok b) is h = cc
 never (Err Unsound) is h = cc
 never (Err Memory) is h = cc
 
-pub object_refused : (r : Result Begun RestoreFault) (old : Begun) (number : ℕ) (o : Object) (v : Value forms.new_object) (last : _) → (object_fits old number o ≡ true → IsOkUnless r Memory)
-    → object_value number o ≡ inr (inl (number, (v, last))) → r ≡ Err Unsound → (more : Begun) → Takes (Some old) (inr (inl (number, (v, last)))) more → ⊥
+pub object_refused : (r : Result Begun RestoreFault) (old : Begun) (number : ℕ) (o : Object)
+    (v : Value forms.new_object) (last : _) → (object_fits old number o ≡ true → IsOkUnless r Memory)
+    → object_value number o ≡ inr (inl (number, (v, last))) → r ≡ Err Unsound → (more : Begun)
+    → Takes (Some old) (inr (inl (number, (v, last)))) more → ⊥
 object_refused r old number o v last taken is bad more (k, p, written, fits, new) =
     let one = object_one k number p o (written ∙ sym is) in
     never r bad (taken (ap (λ q. object_fits old q o) (sym one.0) ∙ ap (object_fits old k) (sym one.1) ∙ fits))
 
 -- an object with a time that is no moment
-pub object_unheard : (old : Begun) (number : ℕ) (v : Value forms.new_object) (last : ℕ × ((ℤ × ℕ) × ((ℤ × ℕ) × ℕ))) → ((change : ℕ) (modify metadata : Moment) (stamp : ℕ) → (change, (moment_value modify, (moment_value metadata, stamp))) ≡ last → ⊥)
+pub object_unheard : (old : Begun) (number : ℕ) (v : Value forms.new_object) (last : ℕ × ((ℤ × ℕ) × ((ℤ × ℕ) × ℕ)))
+    → ((change : ℕ) (modify metadata : Moment) (stamp : ℕ)
+    → (change, (moment_value modify, (moment_value metadata, stamp))) ≡ last → ⊥)
     → (more : Begun) → Takes (Some old) (inr (inl (number, (v, last)))) more → ⊥
 object_unheard old number v last unheard more (k, p, written, fits, new) =
-    unheard p.change p.time_modify p.time_metadata p.stamp (ap (λ w. (written_object (number, (v, last)) w).1.1) written)
+    unheard p.change p.time_modify p.time_metadata p.stamp
+    (ap (λ w. (written_object (number, (v, last)) w).1.1) written)
 
-pub name_refused : (r : Result Begun RestoreFault) (old : Begun) (n : Name) → (name_fits old n ≡ true → IsOkUnless r Memory) → r ≡ Err Unsound → (more : Begun) → Takes (Some old) (name_value n) more → ⊥
-name_refused r old n taken bad more (m, written, fits, new) = never r bad (taken (ap (name_fits old) (sym (name_one m n written)) ∙ fits))
+pub name_refused : (r : Result Begun RestoreFault) (old : Begun) (n : Name)
+    → (name_fits old n ≡ true → IsOkUnless r Memory) → r ≡ Err Unsound → (more : Begun)
+    → Takes (Some old) (name_value n) more → ⊥
+name_refused r old n taken bad more (m, written, fits, new) =
+    never r bad (taken (ap (name_fits old) (sym (name_one m n written)) ∙ fits))

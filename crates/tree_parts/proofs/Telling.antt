@@ -59,8 +59,10 @@ entry_in v = record { kind = entry_kind_in v.0; flags = v.1.0; mask = v.1.1.0; w
 
 entry_again : (e : Entry) → entry_in (entry_value e) ≡ e
 entry_again e =
-    ap (λ (k : EntryKind). let f : Entry = record { kind = k; flags = e.flags; mask = e.mask; who = ace_principal_in (principal_value e.who) } in f) (entry_kind_again e.kind)
-    ∙ ap (λ (w : Who). let f : Entry = record { kind = e.kind; flags = e.flags; mask = e.mask; who = w } in f) (principal_again e.who)
+    ap (λ (k : EntryKind). let f : Entry = record { kind = k; flags = e.flags; mask = e.mask;
+    who = ace_principal_in (principal_value e.who) } in f) (entry_kind_again e.kind)
+    ∙ ap (λ (w : Who). let f : Entry = record { kind = e.kind; flags = e.flags; mask = e.mask; who = w } in f)
+    (principal_again e.who)
 
 abbrev pub list_in : List (Value forms.entry) → List Entry
 list_in vs = map entry_in vs
@@ -73,20 +75,26 @@ list_again (e ∷ es) = ap (λ f. f ∷ list_in (list_value es)) (entry_again e)
 
 pub same_moment : (m n : Moment) → m.seconds ≡ n.seconds → m.nanoseconds ≡ n.nanoseconds → m ≡ n
 same_moment m n seconds nanoseconds =
-    subst (λ (k : ℕ). (p : k < 1000000000) → m ≡ (let x : Moment = record { seconds = m.seconds; nanoseconds = k; is_fraction = p } in x)) nanoseconds
-    (λ p. ap (λ (q : m.nanoseconds < 1000000000). let x : Moment = record { seconds = m.seconds; nanoseconds = m.nanoseconds; is_fraction = q } in x) (le_prop m.is_fraction p)) n.is_fraction
-    ∙ ap (λ (z : ℤ). let x : Moment = record { seconds = z; nanoseconds = n.nanoseconds; is_fraction = n.is_fraction } in x) seconds
+    subst (λ (k : ℕ). (p : k < 1000000000) → m
+    ≡ (let x : Moment = record { seconds = m.seconds; nanoseconds = k; is_fraction = p } in x)) nanoseconds
+    (λ p. ap (λ (q : m.nanoseconds < 1000000000).
+    let x : Moment = record { seconds = m.seconds; nanoseconds = m.nanoseconds; is_fraction = q } in x)
+    (le_prop m.is_fraction p)) n.is_fraction
+    ∙ ap (λ (z : ℤ). let x : Moment = record { seconds = z; nanoseconds = n.nanoseconds;
+    is_fraction = n.is_fraction } in x) seconds
 
 -- ---- a list that is taken item by item
 
-pub one_entry_more : (es : List Entry) (e : Entry) (left rest all : List (Value forms.entry)) → list_value es ++ left ≡ all → left ≡ entry_value e ∷ rest → list_value (es ++ e ∷ []) ++ rest ≡ all
+pub one_entry_more : (es : List Entry) (e : Entry) (left rest all : List (Value forms.entry))
+    → list_value es ++ left ≡ all → left ≡ entry_value e ∷ rest → list_value (es ++ e ∷ []) ++ rest ≡ all
 one_entry_more es e left rest all so_far is = push es ∙ ap (λ l. list_value es ++ l) (sym is) ∙ so_far
   where
     push : (es : List Entry) → list_value (es ++ e ∷ []) ++ rest ≡ list_value es ++ (entry_value e ∷ rest)
     push [] = refl
     push (x ∷ es) = ap (λ l. entry_value x ∷ l) (push es)
 
-pub all_entries : (es : List Entry) (left all : List (Value forms.entry)) → list_value es ++ left ≡ all → left ≡ [] → list_value es ≡ all
+pub all_entries : (es : List Entry) (left all : List (Value forms.entry)) → list_value es ++ left ≡ all → left ≡ []
+    → list_value es ≡ all
 all_entries es left all so_far none = sym (whole (list_value es)) ∙ ap (λ l. list_value es ++ l) (sym none) ∙ so_far
   where
     whole : (vs : List (Value forms.entry)) → vs ++ [] ≡ vs

@@ -1,5 +1,6 @@
 -- The parts of a tree as they are written, and as they are taken again.
-use Rattle.std.proofs.Common.{◌≡◌, ℕ, ◌≤◌, true, false, List, [], length, refl, ap, sym, ◌∙◌, subst, arith, Some, Ok, Err, inl, inr}
+use Rattle.std.proofs.Common.{◌≡◌, ℕ, ◌≤◌, true, false, List, [], length, refl, ap, sym, ◌∙◌, subst, arith, Some, Ok}
+use Rattle.std.proofs.Common.{Err, inl, inr}
 use Rattle.std.specs.Prelude.{Option, Result, IfSome, IfOk}
 use Rattle.std.specs.Option.{option_map_or}
 use Rattle.acl_list.specs.declared.entry.Kind.{Kind}
@@ -25,43 +26,92 @@ most kinds.Link = let goal : 1024 ≤ 1048576 = omega arith in goal
 bytes_are : (w : World) (number : ℕ) (o : Object) → Some o ≡ object w number → bytes_of w number ≡ o.bytes
 bytes_are w number o is = ap (λ (x : Option Object). option_map_or (λ (o : Object). o.bytes) x []) (sym is)
 
-pub few_bytes : (w : World) → IsSound w → (number : ℕ) (o : Object) (bytes : List ℕ) → Some o ≡ object w number → bytes ≡ bytes_of w number → length bytes ≤ 1048576
+pub few_bytes : (w : World) → IsSound w → (number : ℕ) (o : Object) (bytes : List ℕ) → Some o ≡ object w number
+    → bytes ≡ bytes_of w number → length bytes ≤ 1048576
 few_bytes w sound number o bytes is same =
     let fit : length o.bytes ≤ most_bytes o.kind = (sound.fit number o (sym is)).bytes in
     let le : most_bytes o.kind ≤ 1048576 = most o.kind in
     let all : length bytes ≡ length o.bytes = ap length (same ∙ bytes_are w number o is) in
     omega (arith, fit, le, all)
 
-pub of_object : (w : World) (number : ℕ) (o : Object) (bytes : List ℕ) (P : Object → Type 0) → Some o ≡ object w number → bytes ≡ bytes_of w number → P (record o { bytes = bytes }) → IfSome (object w number) P
-of_object w number o bytes P is same h = subst (λ (x : Option Object). IfSome x P) is (subst (λ (b : List ℕ). P (record o { bytes = b })) (same ∙ bytes_are w number o is) h)
+pub of_object : (w : World) (number : ℕ) (o : Object) (bytes : List ℕ) (P : Object → Type 0) → Some o ≡ object w number
+    → bytes ≡ bytes_of w number → P (record o { bytes = bytes }) → IfSome (object w number) P
+of_object w number o bytes P is same h =
+    subst (λ (x : Option Object). IfSome x P) is
+    (subst (λ (b : List ℕ). P (record o { bytes = b })) (same ∙ bytes_are w number o is) h)
 
 -- objects with the same fields are equal
-pub same_object : (o p : Object) → o.kind ≡ p.kind → o.bytes ≡ p.bytes → o.owner ≡ p.owner → o.group ≡ p.group → o.list ≡ p.list → o.high ≡ p.high → o.change ≡ p.change → o.time_modify ≡ p.time_modify → o.time_metadata ≡ p.time_metadata → o.stamp ≡ p.stamp → o ≡ p
+pub same_object : (o p : Object) → o.kind ≡ p.kind → o.bytes ≡ p.bytes → o.owner ≡ p.owner → o.group ≡ p.group
+    → o.list ≡ p.list → o.high ≡ p.high → o.change ≡ p.change → o.time_modify ≡ p.time_modify
+    → o.time_metadata ≡ p.time_metadata → o.stamp ≡ p.stamp → o ≡ p
 same_object o p kind_is bytes_is owner_is group_is list_is high_is change_is time_modify_is time_metadata_is stamp_is =
-    ap (λ (x : Kind). let y : Object = record { kind = x; bytes = o.bytes; owner = o.owner; group = o.group; list = o.list; high = o.high; change = o.change; time_modify = o.time_modify; time_metadata = o.time_metadata; stamp = o.stamp } in y) kind_is
-    ∙ ap (λ (x : List ℕ). let y : Object = record { kind = p.kind; bytes = x; owner = o.owner; group = o.group; list = o.list; high = o.high; change = o.change; time_modify = o.time_modify; time_metadata = o.time_metadata; stamp = o.stamp } in y) bytes_is
-    ∙ ap (λ (x : ℕ). let y : Object = record { kind = p.kind; bytes = p.bytes; owner = x; group = o.group; list = o.list; high = o.high; change = o.change; time_modify = o.time_modify; time_metadata = o.time_metadata; stamp = o.stamp } in y) owner_is
-    ∙ ap (λ (x : ℕ). let y : Object = record { kind = p.kind; bytes = p.bytes; owner = p.owner; group = x; list = o.list; high = o.high; change = o.change; time_modify = o.time_modify; time_metadata = o.time_metadata; stamp = o.stamp } in y) group_is
-    ∙ ap (λ (x : List Entry). let y : Object = record { kind = p.kind; bytes = p.bytes; owner = p.owner; group = p.group; list = x; high = o.high; change = o.change; time_modify = o.time_modify; time_metadata = o.time_metadata; stamp = o.stamp } in y) list_is
-    ∙ ap (λ (x : ℕ). let y : Object = record { kind = p.kind; bytes = p.bytes; owner = p.owner; group = p.group; list = p.list; high = x; change = o.change; time_modify = o.time_modify; time_metadata = o.time_metadata; stamp = o.stamp } in y) high_is
-    ∙ ap (λ (x : ℕ). let y : Object = record { kind = p.kind; bytes = p.bytes; owner = p.owner; group = p.group; list = p.list; high = p.high; change = x; time_modify = o.time_modify; time_metadata = o.time_metadata; stamp = o.stamp } in y) change_is
-    ∙ ap (λ (x : Moment). let y : Object = record { kind = p.kind; bytes = p.bytes; owner = p.owner; group = p.group; list = p.list; high = p.high; change = p.change; time_modify = x; time_metadata = o.time_metadata; stamp = o.stamp } in y) time_modify_is
-    ∙ ap (λ (x : Moment). let y : Object = record { kind = p.kind; bytes = p.bytes; owner = p.owner; group = p.group; list = p.list; high = p.high; change = p.change; time_modify = p.time_modify; time_metadata = x; stamp = o.stamp } in y) time_metadata_is
-    ∙ ap (λ (x : ℕ). let y : Object = record { kind = p.kind; bytes = p.bytes; owner = p.owner; group = p.group; list = p.list; high = p.high; change = p.change; time_modify = p.time_modify; time_metadata = p.time_metadata; stamp = x } in y) stamp_is
+    ap (λ (x : Kind). let y : Object = record { kind = x; bytes = o.bytes; owner = o.owner; group = o.group;
+    list =
+    o.list; high =
+    o.high; change = o.change; time_modify = o.time_modify; time_metadata = o.time_metadata; stamp = o.stamp } in y)
+    kind_is
+    ∙ ap (λ (x : List ℕ). let y : Object = record { kind = p.kind; bytes = x; owner = o.owner; group = o.group;
+    list =
+    o.list; high =
+    o.high; change = o.change; time_modify = o.time_modify; time_metadata = o.time_metadata; stamp = o.stamp } in y)
+    bytes_is
+    ∙ ap (λ (x : ℕ). let y : Object = record { kind = p.kind; bytes = p.bytes; owner = x; group = o.group;
+    list =
+    o.list; high =
+    o.high; change = o.change; time_modify = o.time_modify; time_metadata = o.time_metadata; stamp = o.stamp } in y)
+    owner_is
+    ∙ ap (λ (x : ℕ). let y : Object = record { kind = p.kind; bytes = p.bytes; owner = p.owner; group = x;
+    list =
+    o.list; high =
+    o.high; change = o.change; time_modify = o.time_modify; time_metadata = o.time_metadata; stamp = o.stamp } in y)
+    group_is
+    ∙ ap (λ (x : List Entry). let y : Object = record { kind = p.kind; bytes = p.bytes; owner = p.owner;
+    group =
+    p.group; list =
+    x; high =
+    o.high; change = o.change; time_modify = o.time_modify; time_metadata = o.time_metadata; stamp = o.stamp } in y)
+    list_is
+    ∙ ap (λ (x : ℕ). let y : Object = record { kind = p.kind; bytes = p.bytes; owner = p.owner; group = p.group;
+    list =
+    p.list; high =
+    x; change = o.change; time_modify = o.time_modify; time_metadata = o.time_metadata; stamp = o.stamp } in y) high_is
+    ∙ ap (λ (x : ℕ). let y : Object = record { kind = p.kind; bytes = p.bytes; owner = p.owner; group = p.group;
+    list =
+    p.list; high =
+    p.high; change = x; time_modify = o.time_modify; time_metadata = o.time_metadata; stamp = o.stamp } in y) change_is
+    ∙ ap (λ (x : Moment). let y : Object = record { kind = p.kind; bytes = p.bytes; owner = p.owner; group = p.group;
+    list =
+    p.list; high = p.high; change = p.change; time_modify = x; time_metadata = o.time_metadata; stamp = o.stamp } in y)
+    time_modify_is
+    ∙ ap (λ (x : Moment). let y : Object = record { kind = p.kind; bytes = p.bytes; owner = p.owner; group = p.group;
+    list =
+    p.list; high = p.high; change = p.change; time_modify = p.time_modify; time_metadata = x; stamp = o.stamp } in y)
+    time_metadata_is
+    ∙ ap (λ (x : ℕ). let y : Object = record { kind = p.kind; bytes = p.bytes; owner = p.owner; group = p.group;
+    list =
+    p.list; high =
+    p.high; change = p.change; time_modify = p.time_modify; time_metadata = p.time_metadata; stamp = x } in y) stamp_is
 
 -- ---- the parts that are taken
 
-pub object_taken : (r : Result Begun RestoreFault) (old : Begun) (number : ℕ) (o : Object) (v : Value forms.new_object) (last : _) → IfOk r (λ b. b ≡ with_object old number o) → (object_fits old number o ≡ false → r ≡ Err Unsound)
-    → object_value number o ≡ inr (inl (number, (v, last))) → IfOk r (λ more. Takes (Some old) (inr (inl (number, (v, last)))) more)
+pub object_taken : (r : Result Begun RestoreFault) (old : Begun) (number : ℕ) (o : Object) (v : Value forms.new_object)
+    (last : _) → IfOk r (λ b. b ≡ with_object old number o) → (object_fits old number o ≡ false → r ≡ Err Unsound)
+    → object_value number o ≡ inr (inl (number, (v, last)))
+    → IfOk r (λ more. Takes (Some old) (inr (inl (number, (v, last)))) more)
 object_taken (Err e) old number o v last ok refused is = tt
 object_taken (Ok b) old number o v last ok refused is = (number, o, is, fits, ok)
   where
     fits : object_fits old number o ≡ true
-    fits = elim (object_fits old number o) as (λ t. object_fits old number o ≡ t → t ≡ true) [ true ↦ λ _. refl | false ↦ λ no. let f : Ok b ≡ Err Unsound = refused no in cc ] refl
+    fits =
+        elim (object_fits old number o) as (λ t. object_fits old number o ≡ t → t ≡ true) [ true ↦ λ _. refl | false ↦
+        λ no. let f : Ok b ≡ Err Unsound = refused no in cc ] refl
 
-pub name_taken : (r : Result Begun RestoreFault) (old : Begun) (n : Name) → IfOk r (λ b. b ≡ with_name old n) → (name_fits old n ≡ false → r ≡ Err Unsound) → IfOk r (λ more. Takes (Some old) (name_value n) more)
+pub name_taken : (r : Result Begun RestoreFault) (old : Begun) (n : Name) → IfOk r (λ b. b ≡ with_name old n)
+    → (name_fits old n ≡ false → r ≡ Err Unsound) → IfOk r (λ more. Takes (Some old) (name_value n) more)
 name_taken (Err e) old n ok refused = tt
 name_taken (Ok b) old n ok refused = (n, refl, fits, ok)
   where
     fits : name_fits old n ≡ true
-    fits = elim (name_fits old n) as (λ t. name_fits old n ≡ t → t ≡ true) [ true ↦ λ _. refl | false ↦ λ no. let f : Ok b ≡ Err Unsound = refused no in cc ] refl
+    fits =
+        elim (name_fits old n) as (λ t. name_fits old n ≡ t → t ≡ true) [ true ↦ λ _. refl | false ↦
+        λ no. let f : Ok b ≡ Err Unsound = refused no in cc ] refl

@@ -9,4 +9,5 @@ pub agree : (book : Content) (kind : NameKind) (name : List ℕ) (number : ℕ) 
     → (number_at name (table_of kind book) ≡ Some number) ↔ (name_at number (table_of kind book) ≡ Some name)
 agree book kind name number is =
     let table = table_at_kind kind book is in
-    (name_of_number (table_of kind book) name number table.one_to_one.1, number_of_name (table_of kind book) name number table.one_to_one.0)
+    (name_of_number (table_of kind book) name number table.one_to_one.1,
+    number_of_name (table_of kind book) name number table.one_to_one.0)

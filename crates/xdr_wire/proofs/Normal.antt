@@ -5,7 +5,8 @@ use Rattle.xdr_wire.specs.Reading.{Read}
 use Rattle.xdr_wire.specs.Wire.{Normal, normalized, in_normal_form, both, within, each}
 use Rattle.xdr_wire.proofs.Steps.{ok_is}
 
-pub normal_ok : {V : Type 0} (normal : Normal V) (r : Read V) (w : V) (rest : List ℕ) → in_normal_form normal r ≡ Ok (w, rest) → (v : V) × (r ≡ Ok (v, rest)) × (normalized normal v ≡ w)
+pub normal_ok : {V : Type 0} (normal : Normal V) (r : Read V) (w : V) (rest : List ℕ)
+    → in_normal_form normal r ≡ Ok (w, rest) → (v : V) × (r ≡ Ok (v, rest)) × (normalized normal v ≡ w)
 normal_ok None r w rest e = (w, e, refl)
 normal_ok {V} (Some f) (Ok x) w rest e =
     let made : V × List ℕ = (f x.0, x.1) in
@@ -14,20 +15,24 @@ normal_ok {V} (Some f) (Ok x) w rest e =
     (x.0, ap (λ (b : List ℕ). Ok (x.0, b)) rests, ap (λ (p : V × List ℕ). p.0) same)
 normal_ok (Some f) (Err g) w rest e = absurd cc
 
-pub normal_err : {V : Type 0} (normal : Normal V) (r : Read V) (f : XdrFault) → in_normal_form normal r ≡ Err f → r ≡ Err f
+pub normal_err : {V : Type 0} (normal : Normal V) (r : Read V) (f : XdrFault) → in_normal_form normal r ≡ Err f
+    → r ≡ Err f
 normal_err None r f e = e
 normal_err (Some n) (Ok x) f e = absurd cc
 normal_err (Some n) (Err g) f e = cc
 
-pub to_normal : {V : Type 0} (normal : Normal V) (r : Read V) (v : V) (rest : List ℕ) → r ≡ Ok (v, rest) → in_normal_form normal r ≡ Ok (normalized normal v, rest)
+pub to_normal : {V : Type 0} (normal : Normal V) (r : Read V) (v : V) (rest : List ℕ) → r ≡ Ok (v, rest)
+    → in_normal_form normal r ≡ Ok (normalized normal v, rest)
 to_normal None r v rest e = e
 to_normal (Some f) r v rest e = rw e refl
 
-pub to_fault : {V : Type 0} (normal : Normal V) (r : Read V) (f : XdrFault) → r ≡ Err f → in_normal_form normal r ≡ Err f
+pub to_fault : {V : Type 0} (normal : Normal V) (r : Read V) (f : XdrFault) → r ≡ Err f
+    → in_normal_form normal r ≡ Err f
 to_fault None r f e = e
 to_fault (Some n) r f e = rw e refl
 
-pub both_is : {V W : Type 0} (f : Normal V) (g : Normal W) (v : V × W) → normalized (both f g) v ≡ (normalized f v.0, normalized g v.1)
+pub both_is : {V W : Type 0} (f : Normal V) (g : Normal W) (v : V × W)
+    → normalized (both f g) v ≡ (normalized f v.0, normalized g v.1)
 both_is None None v = refl
 both_is None (Some g) v = refl
 both_is (Some f) None v = refl

@@ -10,4 +10,5 @@ pub returns-in-DeniedBy : goal.returns-in-DeniedBy
 returns-in-DeniedBy c =
     let names = is_true_for c.args.owner c.args.group c.args.caller.now in
     denied_by names c.args.entries.now c.args.place c.in-DeniedBy.index c.in-DeniedBy.ensures
-    ∙ sym (cond-true (has_bit c.args.mask c.args.place) (denied_at (first_match names c.args.entries.now c.args.place)) None (sym c.if-not-has_place.ensures.value))
+    ∙ sym (cond-true (has_bit c.args.mask c.args.place)
+    (denied_at (first_match names c.args.entries.now c.args.place)) None (sym c.if-not-has_place.ensures.value))

@@ -5,4 +5,7 @@ use Rattle.acl_list.proofs.Matching.{first_match_of_bit}
 use Rattle.acl_list.proofs.plain.first_match_at.Goals as goal
 
 pub returns : goal.returns
-returns c = c.first_match_in.ensures ∙ ap match_of (first_match_of_bit (is_true_for c.args.owner c.args.group c.args.caller.now) c.args.entries.now _ c.args.place (one_shl _ 32 c.requires))
+returns c =
+    c.first_match_in.ensures ∙ ap match_of (first_match_of_bit
+    (is_true_for c.args.owner c.args.group c.args.caller.now) c.args.entries.now _ c.args.place
+    (one_shl _ 32 c.requires))

@@ -7,9 +7,11 @@ use Rattle.acl_list.proofs.plain.has_place.Goals as goal
 
 pub returns-then-place-lt32-clause-value : goal.returns-then-place-lt32-clause-value
 returns-then-place-lt32-clause-value c =
-    ap (λ b. not (nat_eq (bit_and c.args.mask b) 0)) (one_shl c.args.place 32 c.if-place-lt32.true) ∙ sym (bit_by_test c.args.mask c.args.place)
+    ap (λ b. not (nat_eq (bit_and c.args.mask b) 0)) (one_shl c.args.place 32 c.if-place-lt32.true)
+    ∙ sym (bit_by_test c.args.mask c.args.place)
 
 pub returns-else-place-lt32-clause-value : goal.returns-else-place-lt32-clause-value
 returns-else-place-lt32-clause-value c =
-    let none : has_bit c.args.mask c.args.place ≡ false = has_bit_above c.args.mask c.args.place (omega arith) c.if-place-lt32.false in
+    let none : has_bit c.args.mask c.args.place ≡ false =
+    has_bit_above c.args.mask c.args.place (omega arith) c.if-place-lt32.false in
     grind (arith, nat_tests)

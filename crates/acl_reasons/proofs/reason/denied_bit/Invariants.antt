@@ -4,4 +4,5 @@ use Rattle.acl_reasons.specs.Reasons.{is_denied}
 use Rattle.acl_reasons.proofs.reason.denied_bit.Given as goal
 
 abbrev pub invariant-loop-place : goal.invariant-loop-place
-invariant-loop-place g l = (k : ℕ) → k < l.place → is_denied (is_true_for l.owner l.group l.caller) l.list l.mask l.index k ≡ false
+invariant-loop-place g l =
+    (k : ℕ) → k < l.place → is_denied (is_true_for l.owner l.group l.caller) l.list l.mask l.index k ≡ false

@@ -9,7 +9,9 @@ use Rattle.acl_shape.proofs.admitting.become_of.Goals as goal
 
 pub returns : goal.returns
 returns c =
-    let each : c.all.result ≡ list_all (λ raw. list_all (is_of c.args.part) (cons_option (entry_of c.args.kind raw) [])) c.args.raws.now =
-    all_from_yields_List (λ raw. list_all (is_of c.args.part) (cons_option (entry_of c.args.kind raw) [])) _ _ _ c.all.ensures.ran
+    let each : c.all.result ≡ list_all (λ raw. list_all (is_of c.args.part) (cons_option (entry_of c.args.kind raw) []))
+    c.args.raws.now =
+    all_from_yields_List (λ raw. list_all (is_of c.args.part) (cons_option (entry_of c.args.kind raw) []))
+    _ _ _ c.all.ensures.ran
     (YieldsList-from_slice c.args.raws.now cc) (λ x b q k. search (rules, tests)) in
     each ∙ each_becomes (is_of c.args.part) c.args.kind c.args.raws.now

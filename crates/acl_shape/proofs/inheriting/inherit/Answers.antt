@@ -5,4 +5,5 @@ use Rattle.acl_shape.proofs.inheriting.inherit.Goals as goal
 
 pub returns-clause-bounded : goal.returns-clause-bounded
 returns-clause-bounded g c =
-    λ h. bounded_result _ _ c.inherited_of.ensures (IsBounded-inherit c.as_slice.result.now c.args.kind (subst IsBounded (sym c.as_slice.ensures) h))
+    λ h. bounded_result _ _ c.inherited_of.ensures
+    (IsBounded-inherit c.as_slice.result.now c.args.kind (subst IsBounded (sym c.as_slice.ensures) h))

@@ -1,4 +1,5 @@
-use Rattle.acl_shape.proofs.Bounded.{IsBounded-set_mode, IsBounded-inherit, IsBounded-admitted, IsBounded-created, IsBounded-changed, is_some-kept}
+use Rattle.acl_shape.proofs.Bounded.{IsBounded-set_mode, IsBounded-inherit, IsBounded-admitted, IsBounded-created}
+use Rattle.acl_shape.proofs.Bounded.{IsBounded-changed, is_some-kept}
 use Rattle.acl_shape.proofs.Parts.{IsBounded-sorted, IsBounded-parts}
 use Rattle.acl_shape.proofs.laws.bounds_are_kept.Goals as goal
 

@@ -5,4 +5,5 @@ use Rattle.acl_shape.proofs.permissions.changed_permissions.Goals as goal
 
 pub returns-clause-bounded : goal.returns-clause-bounded
 returns-clause-bounded g c =
-    λ h k. subst IsBounded (sym c.in_ok-list.ensures.value) (IsBounded-changed c.args.list.now c.args.kind c.args.given.mode c.args.given.list h k)
+    λ h k. subst IsBounded (sym c.in_ok-list.ensures.value)
+    (IsBounded-changed c.args.list.now c.args.kind c.args.given.mode c.args.given.list h k)

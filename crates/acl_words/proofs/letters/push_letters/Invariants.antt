@@ -4,6 +4,7 @@ use Rattle.acl_words.proofs.letters.push_letters.Given as goal
 
 abbrev pub invariant-loop-row : goal.invariant-loop-row
 invariant-loop-row l = record {
-  text : l.text ++ specs.letters_text (drop l.row-index l.letters) l.bits ≡ l.initial.text ++ specs.letters_text l.letters l.bits;
+  text : l.text ++ specs.letters_text (drop l.row-index l.letters) l.bits
+      ≡ l.initial.text ++ specs.letters_text l.letters l.bits;
   few : length l.text ≤ length l.initial.text + l.row-index;
 }

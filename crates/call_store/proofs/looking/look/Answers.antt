@@ -10,7 +10,12 @@ use Rattle.call_store.proofs.looking.look.Goals as goal
 pub returns-in-Ok-start_in : goal.returns-in-Ok-start_in
 returns-in-Ok-start_in g c =
     record {
-      loads = subst (λ (o : Option Current). LoadGives (passage g.D.Disk.adds c.args.disk.now c.load.new.disk) o c.in-Ok.loaded.bytes.items) c.in-Some.is c.in-Ok.ensures;
+      loads =
+          subst (λ (o : Option Current). LoadGives
+          (passage g.D.Disk.adds c.args.disk.now c.load.new.disk) o c.in-Ok.loaded.bytes.items)
+          c.in-Some.is c.in-Ok.ensures;
       some = c.if-current-eq0.false;
-      gives = subst (λ (b : Bytes). FileGives c.in-Some.current b (Ok c.in-Ok-start_in.restart)) c.deref.ensures.value c.in-Ok-start_in.ensures;
+      gives =
+          subst (λ (b : Bytes). FileGives c.in-Some.current b (Ok c.in-Ok-start_in.restart))
+          c.deref.ensures.value c.in-Ok-start_in.ensures;
     }

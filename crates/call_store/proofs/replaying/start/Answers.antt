@@ -6,8 +6,10 @@ returns-in-Err g c = begin_fails c.args.machine _ _ c.in-Err.fault c.in-Err.ensu
 
 pub returns-in-Err-replay_records : goal.returns-in-Err-replay_records
 returns-in-Err-replay_records g c =
-    replay_fails c.args.machine _ _ c.in-Ok.restart _ c.in-Err-replay_records.fault c.in-Ok.ensures.0 c.in-Ok.ensures.1 c.in-Err-replay_records.ensures
+    replay_fails c.args.machine _ _ c.in-Ok.restart _ c.in-Err-replay_records.fault c.in-Ok.ensures.0 c.in-Ok.ensures.1
+    c.in-Err-replay_records.ensures
 
 pub returns-in-Ok-replay_records : goal.returns-in-Ok-replay_records
 returns-in-Ok-replay_records g c =
-    (c.in-Ok.ensures.0, record { base = c.in-Ok.restart; restores = c.in-Ok.ensures.1; replays = c.in-Ok-replay_records.ensures })
+    (c.in-Ok.ensures.0, record { base = c.in-Ok.restart; restores = c.in-Ok.ensures.1;
+    replays = c.in-Ok-replay_records.ensures })

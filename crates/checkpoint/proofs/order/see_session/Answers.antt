@@ -7,7 +7,8 @@ pub returns-in-Some : goal.returns-in-Some
 returns-in-Some g c =
     let r = c.args.clients.now in
     let number = c.args.number in
-    session_seen r number c.in-Some.held (session_at r number) refl (sym c.in-Some.is ∙ c.held.ensures.held) c.held.ensures.slots c.see_slots.ensures
+    session_seen r number c.in-Some.held (session_at r number) refl
+    (sym c.in-Some.is ∙ c.held.ensures.held) c.held.ensures.slots c.see_slots.ensures
 
 pub returns-in_default : goal.returns-in_default
 returns-in_default g c =

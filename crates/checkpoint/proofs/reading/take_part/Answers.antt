@@ -8,5 +8,7 @@ use Rattle.checkpoint.proofs.reading.take_part.Goals as goal
 pub returns-in-Ok-take : goal.returns-in-Ok-take
 returns-in-Ok-take g c =
     let none : c.read.new.reader ≡ [] = c.is_empty.ensures.0 (subst IsTrue (sym c.if-not-is_empty.false) refl) in
-    let read : read_at part c.args.bytes.now ≡ Ok (written_part c.in-Ok.part, []) = ap (read_at part) (sym c.new-reader.ensures) ∙ c.in-Ok.ensures ∙ ap (λ (r : Bytes). Ok (written_part c.in-Ok.part, r)) none in
+    let read : read_at part c.args.bytes.now ≡ Ok (written_part c.in-Ok.part, []) =
+    ap (read_at part) (sym c.new-reader.ensures) ∙ c.in-Ok.ensures
+    ∙ ap (λ (r : Bytes). Ok (written_part c.in-Ok.part, r)) none in
     (written_part c.in-Ok.part, read, c.in-Ok-take.ensures.ok)

@@ -15,7 +15,9 @@ returns-in-Err-clause-writes g c = inl ([], inl c.in-Err.ensures)
 pub returns-in-Err-put_all-clause-writes : goal.returns-in-Err-put_all-clause-writes
 returns-in-Err-put_all-clause-writes g c =
     let all = all_parts c.tree-tree.result.now (draft_of c.in-Ok.draft) in
-    inl (all, stopped_checkpoint g.D.Disk.adds c.args.journal.now c.begin.new.self c.put_all.new.journal all c.in-Err-put_all.fault c.args.disk.now c.begin.new.disk c.put_all.new.disk c.in-Ok-begin.ensures c.in-Err-put_all.ensures.ends)
+    inl (all, stopped_checkpoint g.D.Disk.adds c.args.journal.now c.begin.new.self c.put_all.new.journal all
+    c.in-Err-put_all.fault c.args.disk.now c.begin.new.disk c.put_all.new.disk c.in-Ok-begin.ensures
+    c.in-Err-put_all.ensures.ends)
 
 pub returns-in-Ok-finish-clause-writes : goal.returns-in-Ok-finish-clause-writes
 returns-in-Ok-finish-clause-writes g c =
@@ -27,9 +29,12 @@ returns-in-Ok-finish-clause-writes g c =
     let fits : opens_fit w (client_state_of s) ≡ true = search rules in (
       all,
       record { world = w; clients = clients; book = s.settings.book },
-      checkpoint_keeps w d clients s c.tree-tree.ensures fits c.in-Ok.ensures.1 (taken_again w c.object-root.ensures.sound) c.in-Ok-put_all.ensures.has_spelling,
+      checkpoint_keeps w d clients s c.tree-tree.ensures fits c.in-Ok.ensures.1
+      (taken_again w c.object-root.ensures.sound) c.in-Ok-put_all.ensures.has_spelling,
       (
-        ended_checkpoint g.D.Disk.adds c.args.machine c.args.journal.now c.begin.new.self c.put_all.new.journal c.finish.new.self all (Ok tt) c.args.disk.now c.begin.new.disk c.put_all.new.disk c.finish.new.disk c.in-Ok-begin.ensures c.in-Ok-put_all.ensures.ends c.in-Ok-finish.ensures,
+        ended_checkpoint g.D.Disk.adds c.args.machine c.args.journal.now c.begin.new.self c.put_all.new.journal
+        c.finish.new.self all (Ok tt) c.args.disk.now c.begin.new.disk c.put_all.new.disk c.finish.new.disk
+        c.in-Ok-begin.ensures c.in-Ok-put_all.ensures.ends c.in-Ok-finish.ensures,
         size_is_counted c.put_all.new.self.size all c.in-Ok-put_all.ensures.size,
       ),
     )
@@ -45,6 +50,10 @@ returns-clause-writes g c =
     inr (
       all,
       record { world = w; clients = clients; book = s.settings.book },
-      checkpoint_keeps w d clients s c.tree-tree.ensures fits c.in-Ok.ensures.1 (taken_again w c.object-root.ensures.sound) c.in-Ok-put_all.ensures.has_spelling,
-      ended_checkpoint g.D.Disk.adds c.args.machine c.args.journal.now c.begin.new.self c.put_all.new.journal c.finish.new.self all (Err c.in-Err-finish.fault) c.args.disk.now c.begin.new.disk c.put_all.new.disk c.finish.new.disk c.in-Ok-begin.ensures c.in-Ok-put_all.ensures.ends c.in-Err-finish.ensures,
+      checkpoint_keeps w d clients s c.tree-tree.ensures fits c.in-Ok.ensures.1
+      (taken_again w c.object-root.ensures.sound) c.in-Ok-put_all.ensures.has_spelling,
+      ended_checkpoint g.D.Disk.adds c.args.machine c.args.journal.now c.begin.new.self c.put_all.new.journal
+      c.finish.new.self all (Err c.in-Err-finish.fault)
+      c.args.disk.now c.begin.new.disk c.put_all.new.disk c.finish.new.disk c.in-Ok-begin.ensures
+      c.in-Ok-put_all.ensures.ends c.in-Err-finish.ensures,
     )

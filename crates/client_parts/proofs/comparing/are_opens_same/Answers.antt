@@ -6,7 +6,8 @@ pub returns-then-not-is_same_open : goal.returns-then-not-is_same_open
 returns-then-not-is_same_open g c = (
   λ t. absurd (never t),
   λ same. absurd (never (sym c.if-not-is_same_open.true ∙ c.is_same_open.ensures.1
-      (same_at c.args.a.now c.args.b.now c.loop-at.at c.index-a-at.result c.index-b-at.result same c.loop-at-test.true (subst (λ n. c.loop-at.at < n) c.if-a-b.false c.loop-at-test.true) c.index-a-at.is c.index-b-at.is))),
+      (same_at c.args.a.now c.args.b.now c.loop-at.at c.index-a-at.result c.index-b-at.result same c.loop-at-test.true
+      (subst (λ n. c.loop-at.at < n) c.if-a-b.false c.loop-at-test.true) c.index-a-at.is c.index-b-at.is))),
 )
   where
     never : false ≡ true → ⊥

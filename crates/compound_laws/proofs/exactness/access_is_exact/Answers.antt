@@ -21,4 +21,5 @@ returns-clause-exact c m r = (
 
 pub returns-clause-access : goal.returns-clause-access
 returns-clause-access c m r result_unless =
-    let e = ends_in_refusal m.caller m.number (whole r) m.questions (result_failure _ _ result_unless) in (e.row, e.ends)
+    let e = ends_in_refusal m.caller m.number (whole r) m.questions (result_failure _ _ result_unless) in
+    (e.row, e.ends)

@@ -6,8 +6,12 @@ use Rattle.compound_laws.proofs.lasting.calls_leave_lasting.Goals as goal
 
 pub returns : goal.returns
 returns c = record {
-  bare = λ old call results new answers. calls_keep (Lasts old.realm.lasting) (lasting_keeps old.realm.lasting) old call results new refl answers;
-  in_session = λ old call reply new answers. session_calls_keep (Lasts old.realm.lasting) (lasting_keeps old.realm.lasting) old call reply new refl answers;
+  bare =
+      λ old call results new answers. calls_keep (Lasts old.realm.lasting)
+      (lasting_keeps old.realm.lasting) old call results new refl answers;
+  in_session =
+      λ old call reply new answers. session_calls_keep (Lasts old.realm.lasting)
+      (lasting_keeps old.realm.lasting) old call reply new refl answers;
   book = λ book old. loads_keep (Lasts old.realm.lasting) book old refl;
   expired = λ client old. refl;
 }

@@ -18,4 +18,5 @@ returns-then-rise g c =
     let within : length opens ≤ 4096 = omega (arith, long, c.if-now-le-MAX_OPENS.true) in
     let few : nat_le (length opens) 4096 ≡ true = grind (arith, nat_tests, within) in
     let rising : rise_above 0 opens ≡ true = search rules in
-    c.all_fit.ensures ∙ all_in_view fit now.opens.now ∙ (λ i. sym next i && (sym few i && (sym rising i && list_all fit opens)))
+    c.all_fit.ensures ∙ all_in_view fit now.opens.now
+    ∙ (λ i. sym next i && (sym few i && (sym rising i && list_all fit opens)))

@@ -5,4 +5,5 @@ use Rattle.compound_run.proofs.OpenFiles.{kept_in_view}
 use Rattle.compound_run.proofs.close.remove_open.Goals as goal
 
 pub returns : goal.returns
-returns g c = ap opens_view c.keep_others.ensures ∙ kept_in_view (λ o. not (o.number == c.args.number)) c.args.opens.now.items
+returns g c =
+    ap opens_view c.keep_others.ensures ∙ kept_in_view (λ o. not (o.number == c.args.number)) c.args.opens.now.items

@@ -11,7 +11,8 @@ use Rattle.compound_run.specs.internal.GivenViews.{PutsWithin, given_outcome}
 use Rattle.compound_run.proofs.getattr.put_attributes.Goals as goal
 
 -- a value whose count of bytes is that of its encoding is written if it fits
-puts : {E : Type 0} (room : ℕ) (o : Outcome) (before after : Buffer) (result : Result (Unit {0}) E) → length (item_spelling (outcome_item o)) ≡ most o
+puts : {E : Type 0} (room : ℕ) (o : Outcome) (before after : Buffer) (result : Result (Unit {0}) E)
+    → length (item_spelling (outcome_item o)) ≡ most o
     → ops.PutsWithin room before after (outcome_item o) result → PutsWithin room o before result after
 unfolding spelled
 puts room o before after (Ok done) size p =
@@ -22,4 +23,5 @@ puts room o before after (Err full) size p = (lt-leb (most o) room (omega (arith
 pub returns : goal.returns
 returns g c =
     let o = given_outcome c.args.given in
-    puts c.args.room o c.args.out.now c.write_getattr.new.writer c.write_getattr.result (c.sizes_of_carried_bytes_are_exact.ensures o refl) c.write_getattr.ensures.puts
+    puts c.args.room o c.args.out.now c.write_getattr.new.writer c.write_getattr.result
+    (c.sizes_of_carried_bytes_are_exact.ensures o refl) c.write_getattr.ensures.puts

@@ -11,6 +11,8 @@ loop-open-preserved g c =
     let same = c.deref_mut-open-items.ensures.value in
     let less : i < length old = omega (arith, c.loop-open-test.true, ap length same) in
     let next : suc i ≡ i + 1 = omega arith in
-    (λ j. slice_set (c.loop-open.invariant j) i ((c.reopen.ensures ∙ ap (λ l. reopened_by c.args.number c.args.access (get_or l i c.open-item.result)) c.loop-open.invariant) j))
+    (λ j. slice_set (c.loop-open.invariant j) i
+    ((c.reopen.ensures ∙ ap (λ l. reopened_by c.args.number c.args.access (get_or l i c.open-item.result))
+    c.loop-open.invariant) j))
     ∙ set_next (reopened_by c.args.number c.args.access) old i c.open-item.result less
     ∙ ap (λ n. map (reopened_by c.args.number c.args.access) (take n old) ++ drop n old) next

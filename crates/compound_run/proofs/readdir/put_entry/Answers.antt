@@ -13,7 +13,12 @@ invariant_of-bytes g c = record { within = subst (λ n. length n ≤ 0xffff_ffff
 pub returns : goal.returns
 unfolding linked
 returns g c =
-    let same : (c.cookie.result, (c.name.result.now, (given_set (bitmap_value c.args.asked), given_values c.args.book.now (facts_value c.args.facts.now) (bitmap_value c.args.asked)))) ≡ written_entry c.args.book.now (facts_value c.args.facts.now) c.args.name.now (bitmap_value c.args.asked) =
-    λ i. (c.cookie.ensures i, (c.name.ensures i, (given_set (bitmap_value c.args.asked), given_values c.args.book.now (facts_value c.args.facts.now) (bitmap_value c.args.asked)))) in
+    let same : (c.cookie.result, (c.name.result.now,
+    (given_set (bitmap_value c.args.asked), given_values c.args.book.now (facts_value c.args.facts.now)
+    (bitmap_value c.args.asked)))) ≡ written_entry c.args.book.now (facts_value c.args.facts.now) c.args.name.now
+    (bitmap_value c.args.asked) =
+    λ i. (c.cookie.ensures i, (c.name.ensures i,
+    (given_set (bitmap_value c.args.asked), given_values c.args.book.now (facts_value c.args.facts.now)
+    (bitmap_value c.args.asked)))) in
     subst (λ (e : Value entry). PutsEntry e c.args.out.now c.write_entry.new.writer c.write_entry.result) same
     (record { sendable = c.write_entry.ensures.sendable; puts = c.write_entry.ensures.puts })

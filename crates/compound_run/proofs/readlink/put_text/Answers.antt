@@ -19,12 +19,18 @@ returns g c =
     let w = c.args.tree.now.world in
     let item = bytes_at w c.args.link 0 c.args.len in
     let text = bytes_of w c.args.link in
-    let both = appends_both c.args.out.now c.put_head.new.out c.put_opaque_by.new.self (to_be_bytes w32 27 ++ to_be_bytes w32 0) (to_be_bytes w32 (length item) ++ padded item) c.put_head.ensures c.put_opaque_by.ensures in
+    let both =
+    appends_both c.args.out.now c.put_head.new.out c.put_opaque_by.new.self (to_be_bytes w32 27 ++ to_be_bytes w32 0)
+    (to_be_bytes w32 (length item) ++ padded item) c.put_head.ensures c.put_opaque_by.ensures in
     let written : Appends c.args.out.now c.put_opaque_by.new.self (spelled (Done kinds.ReadLink text)) =
-    subst (λ text. Appends c.args.out.now c.put_opaque_by.new.self (spelled (Done kinds.ReadLink text))) (text_is_all w c.args.link c.args.len c.requires.all) both in
-    let exact : length (spelled (Done kinds.ReadLink text)) ≡ readlink_size (length text) = c.sizes_of_carried_bytes_are_exact.ensures (Done kinds.ReadLink text) refl in
+    subst (λ text. Appends c.args.out.now c.put_opaque_by.new.self (spelled (Done kinds.ReadLink text)))
+    (text_is_all w c.args.link c.args.len c.requires.all) both in
+    let exact : length (spelled (Done kinds.ReadLink text)) ≡ readlink_size (length text) =
+    c.sizes_of_carried_bytes_are_exact.ensures (Done kinds.ReadLink text) refl in
     let size = ap readlink_size c.requires.all in
     record {
       written = written;
-      within = no_longer c.args.out.now c.put_opaque_by.new.self (Done kinds.ReadLink text) (readlink_size c.args.len) written (omega (arith, exact, size));
+      within =
+          no_longer c.args.out.now c.put_opaque_by.new.self (Done kinds.ReadLink text)
+          (readlink_size c.args.len) written (omega (arith, exact, size));
     }

@@ -17,7 +17,9 @@ loop-ace-preserved g c =
     let whole = list_text (array_values ace None c.args.aces.count c.args.aces.bytes.now) in
     let left = array_values ace None c.next.new.self.count c.next.new.self.bytes.now in (
       inv.0 ++ (line ++ 10 ∷ []),
-      put_after c.args.out.now.items c.loop-ace.out.items c.put.new.out.items c.push.new.self.items inv.0 line c.in_ok-push.ensures.items c.in_ok-put.ensures inv.1,
-      lines_more 10 text_of whole inv.0 (ace_value c.in-Some.ace) left line (ap (option_map entry_text) (sym c.in-Some-entry_text_of.ensures))
+      put_after c.args.out.now.items c.loop-ace.out.items c.put.new.out.items c.push.new.self.items inv.0 line
+      c.in_ok-push.ensures.items c.in_ok-put.ensures inv.1,
+      lines_more 10 text_of whole inv.0 (ace_value c.in-Some.ace) left line
+      (ap (option_map entry_text) (sym c.in-Some-entry_text_of.ensures))
           (subst (λ (vs : List (Value ace)). whole ≡ line_after inv.0 (list_text vs)) c.in-Some.ensures inv.2),
     )

@@ -6,4 +6,5 @@ use Rattle.nfs_client.proofs.setacl.read_entries.Given as goal
 
 abbrev pub invariant-loop-text : goal.invariant-loop-text
 invariant-loop-text g l =
-    (lines : List EntryLine) × (map entry_in (map (λ t. t.now) (take l.text-index l.texts)) ≡ map (λ e. Some e) lines) × (map ace_value l.aces.items ≡ map ace_of lines)
+    (lines : List EntryLine) × (map entry_in (map (λ t. t.now) (take l.text-index l.texts)) ≡ map (λ e. Some e) lines)
+    × (map ace_value l.aces.items ≡ map ace_of lines)

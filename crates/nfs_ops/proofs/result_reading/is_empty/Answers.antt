@@ -1,5 +1,6 @@
 -- A set is empty if each of its words is zero.
-use Rattle.std.proofs.Common.{◌≡◌, refl, sym, ap, ◌∙◌, ℕ, ◌==◌, ◌&&◌, Bool, true, false, cond, nat_eq, List, [], ◌∷◌, length, inl, inr, arith}
+use Rattle.std.proofs.Common.{◌≡◌, refl, sym, ap, ◌∙◌, ℕ, ◌==◌, ◌&&◌, Bool, true, false, cond, nat_eq, List, [], ◌∷◌}
+use Rattle.std.proofs.Common.{length, inl, inr, arith}
 use Rattle.std.proofs.lemmas.Bool.{cases_eq, ne_eqb}
 use Rattle.std.specs.Cmp.Lexicographic.{pointwise}
 use Rattle.nfs_types.specs.Forms.{trimmed, cons_trimmed}
@@ -25,14 +26,19 @@ one_word w [] = elim (w == 0) as (λ b. (b && true) ≡ (length (cond b [] (w �
 one_word w (v ∷ ws) = ap (λ (b : Bool). nat_eq w 0 && b) (some v ws) ∙ neither (nat_eq w 0) ∙ sym (some w (v ∷ ws))
 
 -- compared word by word with the words of an empty set
-same_as_none : (words none : List ℕ) → length words ≡ length none → trimmed none ≡ [] → pointwise nat_eq words none ≡ (length (trimmed words) == 0)
+same_as_none : (words none : List ℕ) → length words ≡ length none → trimmed none ≡ []
+    → pointwise nat_eq words none ≡ (length (trimmed words) == 0)
 same_as_none [] [] same e = refl
 same_as_none [] (n ∷ none) same e = absurd (omega (arith, same))
 same_as_none (w ∷ words) [] same e = absurd (omega (arith, same))
 same_as_none (w ∷ words) (n ∷ none) same e =
     let f = cons_trimmed_none n (trimmed none) e in
-    let rest : pointwise nat_eq words none ≡ (length (trimmed words) == 0) = same_as_none words none (omega (arith, same)) f.1 in
-    ap (λ (k : ℕ). nat_eq w k && pointwise nat_eq words none) f.0 ∙ ap (λ (b : Bool). nat_eq w 0 && b) rest ∙ one_word w (trimmed words)
+    let rest : pointwise nat_eq words none ≡ (length (trimmed words) == 0) =
+    same_as_none words none (omega (arith, same)) f.1 in
+    ap (λ (k : ℕ). nat_eq w k && pointwise nat_eq words none) f.0 ∙ ap (λ (b : Bool). nat_eq w 0 && b) rest
+    ∙ one_word w (trimmed words)
 
 pub returns : goal.returns
-returns c = c.eq.ensures ∙ same_as_none c.args.set.now.words c.empty.result.words (c.args.set.now.whole ∙ sym c.empty.result.whole) c.empty.ensures
+returns c =
+    c.eq.ensures ∙ same_as_none c.args.set.now.words c.empty.result.words
+    (c.args.set.now.whole ∙ sym c.empty.result.whole) c.empty.ensures

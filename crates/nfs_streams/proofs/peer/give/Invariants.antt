@@ -5,7 +5,9 @@ use Rattle.nfs_streams.proofs.peer.give.Given as goal
 
 abbrev pub invariant-loop-peer : goal.invariant-loop-peer
 invariant-loop-peer g l =
-    (n : ℕ) (limits : Limits) → Changes (Giving n) (Piecing n l.place l.left) limits l.place (record { hub = l.fn.hub; peer = Some l.fn.peer; acts = g.S.Streams.acts l.fn.streams }) (record { hub = l.hub; peer = Some l.peer; acts = g.S.Streams.acts l.streams })
+    (n : ℕ) (limits : Limits) → Changes (Giving n) (Piecing n l.place l.left) limits l.place
+    (record { hub = l.fn.hub; peer = Some l.fn.peer; acts = g.S.Streams.acts l.fn.streams })
+    (record { hub = l.hub; peer = Some l.peer; acts = g.S.Streams.acts l.streams })
 
 abbrev pub decreases-loop-peer : goal.decreases-loop-peer
 decreases-loop-peer g l = length l.peer.ahead

@@ -10,5 +10,8 @@ abbrev pub invariant-loop-index : goal.invariant-loop-index
 invariant-loop-index g l = record {
   len : length l.places ≡ length l.fn.places;
   free : (k : ℕ) → k < l.index → place_at l.places k ≡ None;
-  moves : (acts : List Act) (s : State) (left : Left) (limits : Limits) → Moves (Ending acts s) (Ending acts s) limits (record { hub = l.fn.hub; places = l.fn.places; left = left; acts = g.S.Streams.acts l.fn.streams }) (record { hub = l.hub; places = l.places; left = left; acts = g.S.Streams.acts l.streams });
+  moves : (acts : List Act) (s : State) (left : Left) (limits : Limits)
+      → Moves (Ending acts s) (Ending acts s) limits
+      (record { hub = l.fn.hub; places = l.fn.places; left = left; acts = g.S.Streams.acts l.fn.streams })
+      (record { hub = l.hub; places = l.places; left = left; acts = g.S.Streams.acts l.streams });
 }

@@ -9,5 +9,8 @@ returns-in_default-clause-moves g c = λ stage may left limits o same st. unclos
 
 pub returns-clause-moves : goal.returns-clause-moves
 returns-clause-moves g c = λ stage may left limits o same st.
-    at_place stage (closed_stage stage) o c.args.hub.now c.shut.new.hub c.args.places.now c.args.index left (Some c.in-Some.peer) None _ _ c.requires.within (read_at c.args.places.now c.args.index _ _ c.requires.within c.in-Some.is)
-    (λ at. closes c.args.places.now c.args.index c.in-Some.peer c.args.end c.requires.within may at c.shut.new.hub _ c.shut.ensures.goes c.shut.ensures.acts_added) st
+    at_place stage (closed_stage stage) o c.args.hub.now c.shut.new.hub c.args.places.now c.args.index left
+    (Some c.in-Some.peer) None _ _ c.requires.within
+    (read_at c.args.places.now c.args.index _ _ c.requires.within c.in-Some.is)
+    (λ at. closes c.args.places.now c.args.index c.in-Some.peer c.args.end c.requires.within may at c.shut.new.hub _
+    c.shut.ensures.goes c.shut.ensures.acts_added) st

@@ -6,4 +6,5 @@ returns-in_default-clause-moves g c = λ n places o same st. looks st _ c.requir
 
 pub returns-clause-moves : goal.returns-clause-moves
 returns-clause-moves g c = λ n places o same st.
-    after_steps st _ c.load_book.new.hub c.in-Some.book c.load_book.result c.is_none.result c.is_none.ensures c.requires c.in-Some.ensures c.load_book.ensures
+    after_steps st _ c.load_book.new.hub c.in-Some.book c.load_book.result c.is_none.result c.is_none.ensures c.requires
+    c.in-Some.ensures c.load_book.ensures

@@ -8,4 +8,7 @@ is_true true e = refl
 is_true false e = absurd (cc)
 
 pub returns : goal.returns
-returns g c = λ n left places now o same st. lets_go st c.expire_client.new.self c.expire_client.result (rw same (is_true c.args.limits.leases c.if-not-limits.false)) c.expire_client.ensures.goes c.expire_client.ensures.nothing
+returns g c =
+    λ n left places now o same st. lets_go st c.expire_client.new.self c.expire_client.result
+    (rw same (is_true c.args.limits.leases c.if-not-limits.false))
+    c.expire_client.ensures.goes c.expire_client.ensures.nothing

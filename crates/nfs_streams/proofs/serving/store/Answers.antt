@@ -8,4 +8,5 @@ returns-then-not-keep_log-clause-stores g c = λ n limits places o same st.
 
 pub returns-clause-stores : goal.returns-clause-stores
 returns-clause-stores g c = λ n limits places o same st.
-    stores g.S.Streams.acts g.S.Disk.adds g.met.S.Streams.disk_acts _ _ st _ _ c.if-not-keep_log.ensures refl c.begin_log.new.self c.begin_log.ensures.goes
+    stores g.S.Streams.acts g.S.Disk.adds g.met.S.Streams.disk_acts _ _ st _ _ c.if-not-keep_log.ensures refl
+    c.begin_log.new.self c.begin_log.ensures.goes

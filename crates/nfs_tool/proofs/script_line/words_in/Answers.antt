@@ -5,4 +5,7 @@ use Rattle.nfs_tool.proofs.script_line.words_in.Goals as goal
 
 pub returns : goal.returns
 returns g c =
-    map_from_collect _ c.collect.ensures.ran (YieldsList-from_filter _ (λ w. not (length w == 0)) (YieldsList-at c.filter.ensures.source (YieldsList-from_slice_split _ _ c.args.line.now c.split.ensures.rest c.split.ensures.done c.split.ensures.closure (λ x r q k. search (rules, tests)))) c.filter.ensures.closure (λ x r q k. search (rules, tests)))
+    map_from_collect _ c.collect.ensures.ran (YieldsList-from_filter _ (λ w. not (length w == 0))
+    (YieldsList-at c.filter.ensures.source (YieldsList-from_slice_split _ _ c.args.line.now c.split.ensures.rest
+    c.split.ensures.done c.split.ensures.closure (λ x r q k. search (rules, tests)))) c.filter.ensures.closure
+    (λ x r q k. search (rules, tests)))

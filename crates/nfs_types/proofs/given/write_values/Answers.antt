@@ -17,24 +17,31 @@ pub returns-then-is_err-clause-puts : goal.returns-then-is_err-clause-puts
 unfolding given_values
 returns-then-is_err-clause-puts g c =
     let part_of = part c.args.book.now (facts_value c.args.facts.now) (bitmap_value c.args.asked.now) in
-    item_unwritten part_of 16384 c.args.writer.now c.loop-attribute.writer c.write_part.new.writer c.truncate.new.self [] all c.loop-attribute.attribute-index c.len-start.result _ _ c.write_part.result
-    c.loop-attribute-test.true refl c.len-start.ensures c.loop-attribute.invariant c.write_part.ensures.puts (sym c.if-is_err.ensures.value) c.truncate.ensures.bytes c.truncate.ensures.room
+    item_unwritten part_of 16384 c.args.writer.now c.loop-attribute.writer c.write_part.new.writer c.truncate.new.self
+    [] all c.loop-attribute.attribute-index c.len-start.result _ _ c.write_part.result
+    c.loop-attribute-test.true refl c.len-start.ensures c.loop-attribute.invariant c.write_part.ensures.puts
+    (sym c.if-is_err.ensures.value) c.truncate.ensures.bytes c.truncate.ensures.room
 
 pub loop-attribute-preserved : goal.loop-attribute-preserved
 loop-attribute-preserved g c =
     let part_of = part c.args.book.now (facts_value c.args.facts.now) (bitmap_value c.args.asked.now) in
-    item_written part_of 16384 c.args.writer.now c.loop-attribute.writer c.write_part.new.writer [] all c.loop-attribute.attribute-index _ _ c.write_part.result
-    c.loop-attribute-test.true refl (sym c.if-is_err.ensures.value) c.write_part.ensures.short c.write_part.ensures.puts c.loop-attribute.invariant
+    item_written part_of 16384 c.args.writer.now c.loop-attribute.writer c.write_part.new.writer
+    [] all c.loop-attribute.attribute-index _ _ c.write_part.result
+    c.loop-attribute-test.true refl (sym c.if-is_err.ensures.value)
+    c.write_part.ensures.short c.write_part.ensures.puts c.loop-attribute.invariant
 
 pub returns-clause-puts : goal.returns-clause-puts
 unfolding given_values
 returns-clause-puts g c =
     let part_of = part c.args.book.now (facts_value c.args.facts.now) (bitmap_value c.args.asked.now) in
-    all_written part_of (IsShort part_of 16384) c.args.writer.now c.loop-attribute.writer [] all _ (drop_all c.loop-attribute.attribute-index all c.loop-attribute-test.false) c.loop-attribute.invariant
+    all_written part_of (IsShort part_of 16384) c.args.writer.now c.loop-attribute.writer [] all _
+    (drop_all c.loop-attribute.attribute-index all c.loop-attribute-test.false) c.loop-attribute.invariant
 
 pub returns-clause-short : goal.returns-clause-short
 unfolding given_values
 returns-clause-short g c =
     let part_of = part c.args.book.now (facts_value c.args.facts.now) (bitmap_value c.args.asked.now) in
-    let fit = all_fit part_of (IsShort part_of 16384) c.args.writer.now c.loop-attribute.writer [] all _ (drop_all c.loop-attribute.attribute-index all c.loop-attribute-test.false) c.loop-attribute.invariant in
+    let fit =
+    all_fit part_of (IsShort part_of 16384) c.args.writer.now c.loop-attribute.writer [] all _
+    (drop_all c.loop-attribute.attribute-index all c.loop-attribute-test.false) c.loop-attribute.invariant in
     short_items part_of 16384 all fit

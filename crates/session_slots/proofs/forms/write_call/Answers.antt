@@ -13,7 +13,8 @@ returns-clause-puts g c =
         c.args.slot,
         (
           c.args.kept.number,
-          ((c.uid.result, (c.gid.result, c.groups.result.now)), (c.in-Some-Some.arguments.bytes.now, c.in-Some-Some.results.bytes.now)),
+          ((c.uid.result, (c.gid.result, c.groups.result.now)),
+          (c.in-Some-Some.arguments.bytes.now, c.in-Some-Some.results.bytes.now)),
         ),
       ),
     ) in
@@ -23,8 +24,10 @@ returns-clause-puts g c =
         c.args.slot,
         (
           c.args.kept.number,
-          ((c.uid.ensures i, (c.gid.ensures i, c.groups.ensures.groups i)), (c.in-Some-Some.ensures.same i, c.in-Some-Some.ensures'.same i)),
+          ((c.uid.ensures i, (c.gid.ensures i, c.groups.ensures.groups i)),
+          (c.in-Some-Some.ensures.same i, c.in-Some-Some.ensures'.same i)),
         ),
       ),
     ) in
-    subst (λ (v : Value call). Puts c.args.writer.now c.write.new.writer (spelling call v) c.write.result) same c.write.ensures.puts
+    subst (λ (v : Value call). Puts c.args.writer.now c.write.new.writer (spelling call v) c.write.result)
+    same c.write.ensures.puts

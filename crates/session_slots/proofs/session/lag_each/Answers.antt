@@ -11,6 +11,7 @@ loop-slot-preserved g c =
     let same = c.deref_mut-slot-items.ensures.value in
     let less : i < length old = omega (arith, c.loop-slot-test.true, ap length same) in
     let next : suc i ≡ i + 1 = omega arith in
-    (λ j. slice_set (c.loop-slot.invariant j) i ((c.lag.ensures ∙ ap (λ l. lagging (get_or l i c.slot-item.result)) c.loop-slot.invariant) j))
+    (λ j. slice_set (c.loop-slot.invariant j) i
+    ((c.lag.ensures ∙ ap (λ l. lagging (get_or l i c.slot-item.result)) c.loop-slot.invariant) j))
     ∙ set_next lagging old i c.slot-item.result less
     ∙ ap (λ n. map lagging (take n old) ++ drop n old) next

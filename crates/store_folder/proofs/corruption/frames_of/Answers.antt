@@ -24,8 +24,11 @@ loop-frame-preserved c =
     record {
       identity = e.identity ∙ i.identity;
       few = omega (arith, e.shorter, e.number, i.few);
-      passed = goes id c.args.generation c.args.file.now fr.place c.next.new.self.place fr.rest.now c.next.new.self.rest.now f
-          (e.takes.1 ∙ ap (λ (x : Identity). next_place x fr.place f) i.identity) (ap (λ (x : Identity). frame_at x fr.place fr.rest.now) (sym i.identity) ∙ e.takes.0) i.passed;
+      passed =
+          goes id c.args.generation c.args.file.now fr.place c.next.new.self.place fr.rest.now c.next.new.self.rest.now
+          f
+          (e.takes.1 ∙ ap (λ (x : Identity). next_place x fr.place f) i.identity)
+          (ap (λ (x : Identity). frame_at x fr.place fr.rest.now) (sym i.identity) ∙ e.takes.0) i.passed;
     }
 
 pub returns : goal.returns
@@ -34,7 +37,8 @@ returns c =
     let fr = c.loop-frame.frames in
     let e = c.in_default.ensures in
     let id = c.args.identity in
-    let none : frame_at id fr.place fr.rest.now ≡ None = ap (λ (x : Identity). frame_at x fr.place fr.rest.now) (sym i.identity) ∙ e.takes.0 in
+    let none : frame_at id fr.place fr.rest.now ≡ None =
+    ap (λ (x : Identity). frame_at x fr.place fr.rest.now) (sym i.identity) ∙ e.takes.0 in
     let done = ends id c.args.generation c.args.file.now fr.place fr.rest.now none i.passed in
     let same : length c.next.new.self.rest.now ≡ length fr.rest.now = ap (λ (l : Bytes). length l) e.takes.1 in
     record {

@@ -8,7 +8,9 @@ returns g c =
     let prefix = c.args.prefix.now in
     let word = codes "LOST lines=" in
     let digits : c.as_bytes.result.now ≡ decimal c.args.count = search rules in
-    let two = c.push-2.ensures ∙ ap (λ (l : List ℕ). l ++ word) (c.push.ensures ∙ ap (λ (l : List ℕ). l ++ prefix) c.new-piece.ensures) in
+    let two =
+    c.push-2.ensures ∙ ap (λ (l : List ℕ). l ++ word)
+    (c.push.ensures ∙ ap (λ (l : List ℕ). l ++ prefix) c.new-piece.ensures) in
     let three = c.push-3.ensures ∙ ap (λ (l : List ℕ). l ++ c.as_bytes.result.now) two in
     let all : c.as_bytes-2.result.now ≡ ((prefix ++ word) ++ c.as_bytes.result.now) ++ 10 ∷ [] =
     c.as_bytes-2.ensures ∙ (c.end.ensures ∙ ap (λ (l : List ℕ). l ++ 10 ∷ []) three) in

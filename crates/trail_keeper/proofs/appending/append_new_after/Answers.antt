@@ -9,7 +9,8 @@ returns-in_err-append_lost-clause-written g c =
     let is : c.from_residual.result ≡ Err c.in_err-append_lost.field-0.0 = search rules in
     let lost : c.saturating_sub.result ≡ lost_lines c.args.seen log = search rules in
     stopped c.from_residual.result _ _ _ _ is
-    (prefix_before _ _ (lost_text c.args.prefix.now (lost_lines c.args.seen log)) (text_of c.args.prefix.now (new_lines c.args.seen log)) (rw lost at c.in_err-append_lost.ensures))
+    (prefix_before _ _ (lost_text c.args.prefix.now (lost_lines c.args.seen log))
+    (text_of c.args.prefix.now (new_lines c.args.seen log)) (rw lost at c.in_err-append_lost.ensures))
 
 pub returns-in_err-append_lines-clause-written : goal.returns-in_err-append_lines-clause-written
 returns-in_err-append_lines-clause-written g c =
@@ -18,11 +19,15 @@ returns-in_err-append_lines-clause-written g c =
     let lost : c.saturating_sub.result ≡ lost_lines c.args.seen log = search rules in
     let lines : c.lines_after.result ≡ new_lines c.args.seen log = search rules in
     stopped c.from_residual-in_err-append_lines.result _ _ _ _ is
-    (prefix_after _ _ _ (lost_text c.args.prefix.now (lost_lines c.args.seen log)) (text_of c.args.prefix.now (new_lines c.args.seen log)) (rw lost at c.in_ok-append_lost.ensures) (rw lines at c.in_err-append_lines.ensures))
+    (prefix_after _ _ _ (lost_text c.args.prefix.now (lost_lines c.args.seen log))
+    (text_of c.args.prefix.now (new_lines c.args.seen log)) (rw lost at c.in_ok-append_lost.ensures)
+    (rw lines at c.in_err-append_lines.ensures))
 
 pub returns-clause-written : goal.returns-clause-written
 returns-clause-written g c =
     let log = c.args.guard.now.log in
     let lost : c.saturating_sub.result ≡ lost_lines c.args.seen log = search rules in
     let lines : c.lines_after.result ≡ new_lines c.args.seen log = search rules in
-    appends_trans _ _ _ (lost_text c.args.prefix.now (lost_lines c.args.seen log)) (text_of c.args.prefix.now (new_lines c.args.seen log)) (rw lost at c.in_ok-append_lost.ensures) (rw lines at c.in_ok-append_lines.ensures)
+    appends_trans _ _ _ (lost_text c.args.prefix.now (lost_lines c.args.seen log))
+    (text_of c.args.prefix.now (new_lines c.args.seen log)) (rw lost at c.in_ok-append_lost.ensures)
+    (rw lines at c.in_ok-append_lines.ensures)

@@ -11,10 +11,13 @@ returns-in_err-n g c =
 
 pub returns-then-n-eq0 : goal.returns-then-n-eq0
 returns-then-n-eq0 g c =
-    prefix_written _ _ _ c.loop-done.done c.args.bytes.now c.loop-done.invariant.written (took_none _ _ (rw c.if-n-eq0.true at c.in_ok-n.ensures.bytes))
+    prefix_written _ _ _ c.loop-done.done c.args.bytes.now c.loop-done.invariant.written
+    (took_none _ _ (rw c.if-n-eq0.true at c.in_ok-n.ensures.bytes))
 
 pub loop-done-preserved : goal.loop-done-preserved
 loop-done-preserved g c = record {
   within = omega (arith, c.in_ok-n.ensures.bound);
-  written = written_more _ _ _ c.loop-done.done c.in_ok-n.n c.args.bytes.now c.loop-done.invariant.written (rw (take_rest c.args.bytes.now c.loop-done.done) at c.in_ok-n.ensures.bytes);
+  written =
+      written_more _ _ _ c.loop-done.done c.in_ok-n.n c.args.bytes.now c.loop-done.invariant.written
+      (rw (take_rest c.args.bytes.now c.loop-done.done) at c.in_ok-n.ensures.bytes);
 }

@@ -22,5 +22,9 @@ returns-clause-puts g c =
       stamp = c.stamp.result;
     } in
     let wanted : Object = record c.args.node.now { bytes = c.args.bytes.now } in
-    let same = same_object written wanted c.kind.ensures some.ensures.same c.owner.ensures c.group.ensures (some.ensures'.same ∙ c.as_slice.ensures ∙ c.list.ensures) c.high.ensures c.change.ensures c.time_modify.ensures c.time_metadata.ensures c.stamp.ensures in
-    subst (λ (o : Object). Puts c.args.writer.now c.write.new.writer (spelling part (object_value c.args.number o)) c.write.result) same c.write.ensures.puts
+    let same =
+    same_object written wanted c.kind.ensures some.ensures.same c.owner.ensures c.group.ensures
+    (some.ensures'.same ∙ c.as_slice.ensures ∙ c.list.ensures)
+    c.high.ensures c.change.ensures c.time_modify.ensures c.time_metadata.ensures c.stamp.ensures in
+    subst (λ (o : Object). Puts c.args.writer.now c.write.new.writer
+    (spelling part (object_value c.args.number o)) c.write.result) same c.write.ensures.puts

@@ -7,19 +7,27 @@ use Rattle.tree_parts.proofs.Writing.{few_bytes, of_object}
 use Rattle.tree_parts.proofs.part.write_object.Goals as goal
 
 pub put_object-requires-clause-bytes : goal.put_object-requires-clause-bytes
-put_object-requires-clause-bytes g c = few_bytes c.args.tree.now c.in-Some.ensures.sound c.args.number c.in-Some.node.now c.deref.result.now c.in-Some.ensures.value (c.deref.ensures.value ∙ c.in_ok-bytes.ensures)
+put_object-requires-clause-bytes g c =
+    few_bytes c.args.tree.now c.in-Some.ensures.sound c.args.number c.in-Some.node.now c.deref.result.now
+    c.in-Some.ensures.value (c.deref.ensures.value ∙ c.in_ok-bytes.ensures)
 
 pub returns-in_err-put_object-clause-full : goal.returns-in_err-put_object-clause-full
 returns-in_err-put_object-clause-full g c = λ is.
-    of_object c.args.tree.now c.args.number c.in-Some.node.now c.deref.result.now (λ (o : Object). c.args.writer.now.room < length (spelling part (object_value c.args.number o))) c.in-Some.ensures.value
+    of_object c.args.tree.now c.args.number c.in-Some.node.now c.deref.result.now
+    (λ (o : Object). c.args.writer.now.room < length (spelling part (object_value c.args.number o)))
+    c.in-Some.ensures.value
     (c.deref.ensures.value ∙ c.in_ok-bytes.ensures) c.in_err-put_object.ensures.puts.0
 
 pub returns-clause-ok : goal.returns-clause-ok
 returns-clause-ok g c =
-    of_object c.args.tree.now c.args.number c.in-Some.node.now c.deref.result.now (λ (o : Object). Appends c.args.writer.now c.put_object.new.writer (spelling part (object_value c.args.number o))) c.in-Some.ensures.value
+    of_object c.args.tree.now c.args.number c.in-Some.node.now c.deref.result.now
+    (λ (o : Object). Appends c.args.writer.now c.put_object.new.writer (spelling part (object_value c.args.number o)))
+    c.in-Some.ensures.value
     (c.deref.ensures.value ∙ c.in_ok-bytes.ensures) c.in_ok-put_object.ensures.puts
 
 pub returns-clause-has_spelling : goal.returns-clause-has_spelling
 returns-clause-has_spelling g c =
-    of_object c.args.tree.now c.args.number c.in-Some.node.now c.deref.result.now (λ (o : Object). HasSpelling part (object_value c.args.number o)) c.in-Some.ensures.value (c.deref.ensures.value ∙ c.in_ok-bytes.ensures)
+    of_object c.args.tree.now c.args.number c.in-Some.node.now c.deref.result.now
+    (λ (o : Object). HasSpelling part (object_value c.args.number o)) c.in-Some.ensures.value
+    (c.deref.ensures.value ∙ c.in_ok-bytes.ensures)
     c.in_ok-put_object.ensures.has_spelling

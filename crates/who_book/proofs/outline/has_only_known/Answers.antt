@@ -5,7 +5,9 @@ use Rattle.who_book.proofs.Documents.{known_keys-entries}
 use Rattle.who_book.proofs.outline.has_only_known.Goals as goal
 
 pub loop-key-init : goal.loop-key-init
-loop-key-init c = rw (c.into_iter-key-iterator.ensures.into_iter_gives, c.keys-key-items.ensures.rest) (known_keys-entries c.args.table.now.entries)
+loop-key-init c =
+    rw (c.into_iter-key-iterator.ensures.into_iter_gives, c.keys-key-items.ensures.rest)
+    (known_keys-entries c.args.table.now.entries)
 
 pub returns-then-not-is_known : goal.returns-then-not-is_known
 returns-then-not-is_known c =

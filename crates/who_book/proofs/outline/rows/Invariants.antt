@@ -9,5 +9,6 @@ use Rattle.who_book.proofs.outline.rows.Given as goal
 abbrev pub invariant-loop-name : goal.invariant-loop-name
 invariant-loop-name l = record {
   found : integers (table_view l.table) ≡ onto (rows_of l.rows.items) (integers (members_view l.name-iterator));
-  names : map string_bytes (keys_of l.table.entries) ≡ keys_of (rows_of l.rows.items) ++ map string_bytes (keys_of l.name-iterator);
+  names : map string_bytes (keys_of l.table.entries)
+      ≡ keys_of (rows_of l.rows.items) ++ map string_bytes (keys_of l.name-iterator);
 }

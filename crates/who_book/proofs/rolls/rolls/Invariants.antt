@@ -9,5 +9,6 @@ use Rattle.who_book.proofs.rolls.rolls.Given as goal
 abbrev pub invariant-loop-group : goal.invariant-loop-group
 invariant-loop-group l = record {
   found : rolls (table_view l.table) ≡ onto (rolls_of l.rolls.items) (rolls (members_view l.group-iterator));
-  groups : map string_bytes (keys_of l.table.entries) ≡ keys_of (rolls_of l.rolls.items) ++ map string_bytes (keys_of l.group-iterator);
+  groups : map string_bytes (keys_of l.table.entries)
+      ≡ keys_of (rolls_of l.rolls.items) ++ map string_bytes (keys_of l.group-iterator);
 }

@@ -14,7 +14,8 @@ returns-in_default c =
 pub loop-value-preserved : goal.loop-value-preserved
 loop-value-preserved c =
     let text = sym c.as_str.ensures ∙ rw c.in-Some.is refl in
-    texts-turn _ _ _ _ _ _ c.in-Some.name c.loop-value-test.true c.value-item.is text c.in_ok-push.ensures.items c.loop-value.invariant
+    texts-turn _ _ _ _ _ _ c.in-Some.name c.loop-value-test.true c.value-item.is text c.in_ok-push.ensures.items
+    c.loop-value.invariant
 
 pub returns : goal.returns
 returns c =

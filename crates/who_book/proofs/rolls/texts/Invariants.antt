@@ -6,4 +6,5 @@ use Rattle.who_book.proofs.Documents.{onto}
 use Rattle.who_book.proofs.rolls.texts.Given as goal
 
 abbrev pub invariant-loop-value : goal.invariant-loop-value
-invariant-loop-value l = texts (array_view l.array) ≡ onto (texts_of l.names.items) (texts (items_view (drop l.value-index l.value-items)))
+invariant-loop-value l =
+    texts (array_view l.array) ≡ onto (texts_of l.names.items) (texts (items_view (drop l.value-index l.value-items)))

@@ -8,4 +8,5 @@ abbrev pub invariant-loop-group : goal.invariant-loop-group
 invariant-loop-group g l =
     let write = g.H.Hasher.write in
     let key = l.self in
-    l.state ≡ fold (fed write) (fed write (fed write (fed write l.fn.state key.stamp) key.caller.uid) key.caller.gid) (take l.group-index key.caller.groups)
+    l.state ≡ fold (fed write) (fed write (fed write (fed write l.fn.state key.stamp) key.caller.uid) key.caller.gid)
+    (take l.group-index key.caller.groups)

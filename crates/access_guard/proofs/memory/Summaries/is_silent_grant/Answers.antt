@@ -10,14 +10,18 @@ use Rattle.access_guard.proofs.memory.Summaries.is_silent_grant.Goals as goal
 pub returns-in-Bits-clause-granted : goal.returns-in-Bits-clause-granted
 returns-in-Bits-clause-granted g c h =
     let demand = Bits c.in-Bits.object c.in-Bits.mask in
-    let silent : grants_silently (judged_of c.args.tree.now) (member_of c.args.asker.now) demand ≡ true = ap (λ s. is_silent_grant s c.in-Bits.mask) (sym c.sum_at.ensures.sum) ∙ sym c.is_silent_grant.ensures.exact ∙ h in
-    rw c.in-Bits.is (grants_granted (judged_of c.args.tree.now) (member_of c.args.asker.now) 0 demand c.is_silent_grant.ensures.fits silent)
+    let silent : grants_silently (judged_of c.args.tree.now) (member_of c.args.asker.now) demand ≡ true =
+    ap (λ s. is_silent_grant s c.in-Bits.mask) (sym c.sum_at.ensures.sum) ∙ sym c.is_silent_grant.ensures.exact ∙ h in
+    rw c.in-Bits.is (grants_granted (judged_of c.args.tree.now)
+    (member_of c.args.asker.now) 0 demand c.is_silent_grant.ensures.fits silent)
 
 pub returns-in-Bits-clause-silent : goal.returns-in-Bits-clause-silent
 returns-in-Bits-clause-silent g c h op =
     let demand = Bits c.in-Bits.object c.in-Bits.mask in
-    let silent : grants_silently (judged_of c.args.tree.now) (member_of c.args.asker.now) demand ≡ true = ap (λ s. is_silent_grant s c.in-Bits.mask) (sym c.sum_at.ensures.sum) ∙ sym c.is_silent_grant.ensures.exact ∙ h in
-    rw c.in-Bits.is (grants_silent (judged_of c.args.tree.now) (member_of c.args.asker.now) op demand c.is_silent_grant.ensures.fits silent)
+    let silent : grants_silently (judged_of c.args.tree.now) (member_of c.args.asker.now) demand ≡ true =
+    ap (λ s. is_silent_grant s c.in-Bits.mask) (sym c.sum_at.ensures.sum) ∙ sym c.is_silent_grant.ensures.exact ∙ h in
+    rw c.in-Bits.is (grants_silent (judged_of c.args.tree.now)
+    (member_of c.args.asker.now) op demand c.is_silent_grant.ensures.fits silent)
 
 pub returns-in-Removal-clause-granted : goal.returns-in-Removal-clause-granted
 returns-in-Removal-clause-granted g c h =

@@ -6,4 +6,5 @@ pub watch_acl-requires : goal.watch_acl-requires
 watch_acl-requires g c = omega (arith, ap entries_of c.in-Some.ensures, c.requires.room, c.requires.short)
 
 pub returns-in-Some-clause-few : goal.returns-in-Some-clause-few
-returns-in-Some-clause-few g c = omega (arith, ap entries_of c.in-Some.ensures, c.requires.short, c.watch_acl.ensures.few)
+returns-in-Some-clause-few g c =
+    omega (arith, ap entries_of c.in-Some.ensures, c.requires.short, c.watch_acl.ensures.few)

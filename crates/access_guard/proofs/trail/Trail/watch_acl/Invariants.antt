@@ -9,6 +9,8 @@ use Rattle.access_guard.proofs.trail.Trail.watch_acl.Given as goal
 -- line
 abbrev pub invariant-loop-index : goal.invariant-loop-index
 invariant-loop-index g l =
-    (held (filter_map (watch_line l.caller l.asked.op l.asked.object l.asked.mask l.asked.granted (judged l.node)) (enumerate_from l.index (drop l.index l.node.list))) l.self
-    ≡ held (filter_map (watch_line l.caller l.asked.op l.asked.object l.asked.mask l.asked.granted (judged l.node)) (enumerate_from 0 l.node.list)) l.fn.self)
+    (held (filter_map (watch_line l.caller l.asked.op l.asked.object l.asked.mask l.asked.granted (judged l.node))
+    (enumerate_from l.index (drop l.index l.node.list))) l.self
+    ≡ held (filter_map (watch_line l.caller l.asked.op l.asked.object l.asked.mask l.asked.granted (judged l.node))
+    (enumerate_from 0 l.node.list)) l.fn.self)
     × (length l.self.held ≤ length l.fn.self.held + l.index)

@@ -11,6 +11,9 @@ returns-in-Err g c = (
   record {
     why = c.in-Err.fault;
     fault_is = c.fault_of_write.ensures;
-    writes = subst (λ (j : Journal). WritingGives (passage g.D.Disk.adds c.args.disk.now c.write_checkpoint.new.disk) MACHINE j c.args.server.now (Err c.in-Err.fault) c.write_checkpoint.new.journal) c.new-journal.ensures c.in-Err.ensures.writes;
+    writes =
+        subst (λ (j : Journal). WritingGives (passage g.D.Disk.adds c.args.disk.now c.write_checkpoint.new.disk)
+        MACHINE j c.args.server.now (Err c.in-Err.fault) c.write_checkpoint.new.journal)
+        c.new-journal.ensures c.in-Err.ensures.writes;
   },
 )

@@ -8,10 +8,14 @@ use Rattle.checkpoint.proofs.writing.Parts.put.Goals as goal
 
 pub returns-in-Ok-clause-ends : goal.returns-in-Ok-clause-ends
 returns-in-Ok-clause-ends g c =
-    one_given g.D.Disk.adds c.args.journal.now c.part-done.new.self c.args.self.now.writer.bytes c.args.disk.now c.part-done.new.disk
-    (subst (λ (l : Bytes). PartGives (passage g.D.Disk.adds c.args.disk.now c.part-done.new.disk) c.args.journal.now (part_frame l) (Ok tt) c.part-done.new.self) c.bytes.ensures c.in-Ok.ensures)
+    one_given g.D.Disk.adds c.args.journal.now c.part-done.new.self c.args.self.now.writer.bytes c.args.disk.now
+    c.part-done.new.disk
+    (subst (λ (l : Bytes). PartGives (passage g.D.Disk.adds c.args.disk.now c.part-done.new.disk) c.args.journal.now
+    (part_frame l) (Ok tt) c.part-done.new.self) c.bytes.ensures c.in-Ok.ensures)
 
 pub returns-in-Err-clause-ends : goal.returns-in-Err-clause-ends
 returns-in-Err-clause-ends g c =
-    one_refused g.D.Disk.adds c.args.journal.now c.part-done.new.self c.args.self.now.writer.bytes c.in-Err.fault c.args.disk.now c.part-done.new.disk
-    (subst (λ (l : Bytes). PartGives (passage g.D.Disk.adds c.args.disk.now c.part-done.new.disk) c.args.journal.now (part_frame l) (Err c.in-Err.fault) c.part-done.new.self) c.bytes.ensures c.in-Err.ensures)
+    one_refused g.D.Disk.adds c.args.journal.now c.part-done.new.self c.args.self.now.writer.bytes c.in-Err.fault
+    c.args.disk.now c.part-done.new.disk
+    (subst (λ (l : Bytes). PartGives (passage g.D.Disk.adds c.args.disk.now c.part-done.new.disk) c.args.journal.now
+    (part_frame l) (Err c.in-Err.fault) c.part-done.new.self) c.bytes.ensures c.in-Err.ensures)

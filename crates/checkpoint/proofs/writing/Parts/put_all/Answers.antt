@@ -14,10 +14,13 @@ returns-in-Err-clause-ends g c =
     let d = draft_of c.args.draft.now in
     let adds = g.D.Disk.adds in
     let first : List Bytes = draft_parts d [] in
-    let others : List Bytes = (spelling part (counters_value w) ∷ []) ++ (map object_bytes w.objects ++ map name_bytes w.names) in
+    let others : List Bytes =
+    (spelling part (counters_value w) ∷ []) ++ (map object_bytes w.objects ++ map name_bytes w.names) in
     let fault = c.in-Err.fault in
-    ends_as adds c.args.journal.now c.put_draft.new.journal (first ++ others) (all_parts w d) (Err fault) c.args.disk.now c.put_draft.new.disk (all_parts_are w d)
-    (ends_more adds c.args.journal.now c.put_draft.new.journal first others fault c.args.disk.now c.put_draft.new.disk c.in-Err.ensures.ends)
+    ends_as adds c.args.journal.now c.put_draft.new.journal (first ++ others) (all_parts w d)
+    (Err fault) c.args.disk.now c.put_draft.new.disk (all_parts_are w d)
+    (ends_more adds c.args.journal.now c.put_draft.new.journal first others fault c.args.disk.now c.put_draft.new.disk
+    c.in-Err.ensures.ends)
 
 pub returns-in-Err-put_counters-clause-ends : goal.returns-in-Err-put_counters-clause-ends
 returns-in-Err-put_counters-clause-ends g c =
@@ -102,7 +105,10 @@ returns-clause-size g c =
     let others : List Bytes = map name_bytes w.names in
     let size = c.args.self.now.size in
     on_ok c.put_names.result _ _ c.put_names.ensures.size
-    (λ last. last ∙ ap (λ (n : ℕ). counted n others) c.in-Ok-put_objects.ensures.size ∙ sym (counted_then c.put_counters.new.self.size third others)
-    ∙ ap (λ (n : ℕ). counted n (third ++ others)) c.in-Ok-put_counters.ensures.size ∙ sym (counted_then c.put_draft.new.self.size second (third ++ others))
-    ∙ ap (λ (n : ℕ). counted n (second ++ (third ++ others))) c.in-Ok.ensures.size ∙ sym (counted_then size first (second ++ (third ++ others)))
+    (λ last. last ∙ ap (λ (n : ℕ). counted n others) c.in-Ok-put_objects.ensures.size
+    ∙ sym (counted_then c.put_counters.new.self.size third others)
+    ∙ ap (λ (n : ℕ). counted n (third ++ others)) c.in-Ok-put_counters.ensures.size
+    ∙ sym (counted_then c.put_draft.new.self.size second (third ++ others))
+    ∙ ap (λ (n : ℕ). counted n (second ++ (third ++ others))) c.in-Ok.ensures.size
+    ∙ sym (counted_then size first (second ++ (third ++ others)))
     ∙ ap (counted size) (all_parts_are w d))

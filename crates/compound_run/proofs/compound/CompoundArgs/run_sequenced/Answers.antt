@@ -17,7 +17,10 @@ returns-clause-answers g c =
     let after = c.run_all.new.results in
     let given = Done kinds.Sequence (sequence_result_value c.args.given) in
     let long = ap length c.put_result.ensures.written.appended ∙ length-append before.bytes (spelled given) in
-    sequenced (c.args.end + REFUSAL_ROOM) c.args.to_run.refused (record (context_at c.args.realm.now c.args.context) { room = c.args.end - c.len.result }) (c.args.end - length before.bytes - length (spelled given)) c.args.self.now.tag.now (row kinds.Sequence).number given
+    sequenced (c.args.end + REFUSAL_ROOM) c.args.to_run.refused
+    (record (context_at c.args.realm.now c.args.context) { room = c.args.end - c.len.result })
+    (c.args.end - length before.bytes - length (spelled given)) c.args.self.now.tag.now
+    (row kinds.Sequence).number given
     c.args.to_run.operations.now c.args.realm.now c.run_all.new.self before mid after c.run_all.result
     c.requires.second (omega (arith, c.len.ensures, long)) c.put_result.ensures.written c.run_all.ensures.gives
     (omega (arith, c.len.ensures, c.run_all.ensures.gives.within, c.put_result.ensures.within, c.requires.result))

@@ -24,7 +24,9 @@ put_child-requires g c =
         directory = c.args.self.now.directory;
         last = c.args.self.now.cookie;
         name = n.name;
-        listed = subst (λ e. name_after e.tree.world c.args.self.now.directory c.args.self.now.cookie ≡ Some n.name) (sym c.judge_child.ensures.state) n.is;
+        listed =
+            subst (λ e. name_after e.tree.world c.args.self.now.directory c.args.self.now.cookie ≡ Some n.name)
+            (sym c.judge_child.ensures.state) n.is;
         by = sym n.by;
       };
     }
@@ -36,7 +38,9 @@ returns-in-Err-clause-gives g c =
     let asked = bitmap_value c.args.self.now.asked in
     let n = c.in-Some.ensures.some in (
       judged_above context asked c.args.self.now.directory c.in-Some.cookie (sight_of e),
-      next_entry_judged e c.args.self.now.context asked c.args.self.now.directory c.args.self.now.cookie c.in-Some.cookie c.in-Some.child n (Err c.in-Err.demand) c.in-Err.ensures.sound (c.in-Err.ensures.judged n.child n.there),
+      next_entry_judged e c.args.self.now.context asked c.args.self.now.directory c.args.self.now.cookie
+      c.in-Some.cookie c.in-Some.child n (Err c.in-Err.demand) c.in-Err.ensures.sound
+      (c.in-Err.ensures.judged n.child n.there),
       refl,
     )
 
@@ -51,12 +55,20 @@ returns-in-Ok-put_child-clause-gives g c =
     let given = c.in-Ok.given in
     let same = c.judge_child.ensures.state in
     let sound = subst (λ e. IsSound e.tree.world) same c.put_child.ensures.sound in
-    let listed = subst (λ e. name_after e.tree.world c.args.self.now.directory c.args.self.now.cookie ≡ Some n.name) (sym same) n.is in
-    let put = c.in-Ok-put_child.ensures.puts c.args.self.now.directory c.args.self.now.cookie n.name listed (sym n.by) in (
+    let listed =
+    subst (λ e. name_after e.tree.world c.args.self.now.directory c.args.self.now.cookie ≡ Some n.name)
+    (sym same) n.is in
+    let put =
+    c.in-Ok-put_child.ensures.puts c.args.self.now.directory c.args.self.now.cookie n.name listed (sym n.by) in (
       entry_of context s n.name given.0 (bitmap_value given.1),
-      next_entry_judged e c.args.self.now.context asked c.args.self.now.directory c.args.self.now.cookie c.in-Some.cookie c.in-Some.child n (Ok (given.0, bitmap_value given.1)) sound (c.in-Ok.ensures.judged n.child n.there)
-          ∙ ap (λ e. let all : List (Judged Demand) = Ok (entry_of context s n.name given.0 (bitmap_value given.1)) ∷ judged_above (context_at e c.args.self.now.context) asked c.args.self.now.directory c.in-Some.cookie (sight_of e) in all) (sym same),
-      moved_entry c.args.self.now.context _ _ n.name given.0 (bitmap_value given.1) (λ x. Appends c.args.writer.now c.put_child.new.out (linked_bytes x)) same put.puts,
+      next_entry_judged e c.args.self.now.context asked c.args.self.now.directory c.args.self.now.cookie
+      c.in-Some.cookie c.in-Some.child n (Ok (given.0, bitmap_value given.1)) sound
+      (c.in-Ok.ensures.judged n.child n.there)
+          ∙ ap (λ e. let all : List (Judged Demand) = Ok (entry_of context s n.name given.0 (bitmap_value given.1))
+          ∷ judged_above (context_at e c.args.self.now.context) asked c.args.self.now.directory c.in-Some.cookie
+          (sight_of e) in all) (sym same),
+      moved_entry c.args.self.now.context _ _ n.name given.0 (bitmap_value given.1)
+      (λ x. Appends c.args.writer.now c.put_child.new.out (linked_bytes x)) same put.puts,
       moved_entry c.args.self.now.context _ _ n.name given.0 (bitmap_value given.1) IsSendable same put.sendable,
     )
 
@@ -71,11 +83,17 @@ returns-in-Err-put_child-clause-gives g c =
     let given = c.in-Ok.given in
     let same = c.judge_child.ensures.state in
     let sound = subst (λ e. IsSound e.tree.world) same c.put_child.ensures.sound in
-    let listed = subst (λ e. name_after e.tree.world c.args.self.now.directory c.args.self.now.cookie ≡ Some n.name) (sym same) n.is in
-    let put = c.in-Err-put_child.ensures.puts c.args.self.now.directory c.args.self.now.cookie n.name listed (sym n.by) in (
+    let listed =
+    subst (λ e. name_after e.tree.world c.args.self.now.directory c.args.self.now.cookie ≡ Some n.name)
+    (sym same) n.is in
+    let put =
+    c.in-Err-put_child.ensures.puts c.args.self.now.directory c.args.self.now.cookie n.name listed (sym n.by) in (
       entry_of context s n.name given.0 (bitmap_value given.1),
       judged_above context asked c.args.self.now.directory c.in-Some.cookie s,
-      next_entry_judged e c.args.self.now.context asked c.args.self.now.directory c.args.self.now.cookie c.in-Some.cookie c.in-Some.child n (Ok (given.0, bitmap_value given.1)) sound (c.in-Ok.ensures.judged n.child n.there),
-      moved_entry c.args.self.now.context _ _ n.name given.0 (bitmap_value given.1) (λ x. c.args.writer.now.room < length (linked_bytes x)) same put.puts.0,
+      next_entry_judged e c.args.self.now.context asked c.args.self.now.directory c.args.self.now.cookie
+      c.in-Some.cookie c.in-Some.child n (Ok (given.0, bitmap_value given.1)) sound
+      (c.in-Ok.ensures.judged n.child n.there),
+      moved_entry c.args.self.now.context _ _ n.name given.0 (bitmap_value given.1)
+      (λ x. c.args.writer.now.room < length (linked_bytes x)) same put.puts.0,
       put.puts.1,
     )

@@ -14,7 +14,8 @@ returns-in_err-created-clause-gives g c =
     let status = c.in_err-created.field-0.0 in
     let answer : c.from_residual.result ≡ Err status = search rules in
     let is : c.make_session.result.result ≡ Err status = search rules in
-    refuses c.args.caller.now (Known kinds.CreateSession (create_session_args_value c.args.args.now)) (realm_of c.args.self.now) c.args.out.now status (realm_of c.make_session.new.self) c.from_residual.result answer
+    refuses c.args.caller.now (Known kinds.CreateSession (create_session_args_value c.args.args.now))
+    (realm_of c.args.self.now) c.args.out.now status (realm_of c.make_session.new.self) c.from_residual.result answer
     (record {
       made = c.make_session.result;
       creates = c.make_session.ensures.creates;
@@ -26,7 +27,9 @@ pub returns-clause-gives : goal.returns-clause-gives
 returns-clause-gives g c =
     let created = c.in_ok-created.created in
     let is : c.make_session.result.result ≡ Ok created = search rules in
-    gives c.args.caller.now (Known kinds.CreateSession (create_session_args_value c.args.args.now)) (realm_of c.args.self.now) c.args.out.now (session_made created) (realm_of c.make_session.new.self) c.put_created.new.out
+    gives c.args.caller.now (Known kinds.CreateSession (create_session_args_value c.args.args.now))
+    (realm_of c.args.self.now) c.args.out.now (session_made created)
+    (realm_of c.make_session.new.self) c.put_created.new.out
     (record {
       made = c.make_session.result;
       creates = c.make_session.ensures.creates;

@@ -17,10 +17,15 @@ returns-in_err-destroy_client-clause-gives g c caller =
     let client = c.args.args.now.client in
     let status = c.in_err-destroy_client.field-0.0 in
     let answer : c.from_residual.result ≡ Err status = search rules in
-    let refused = result_refused (destroy_client_refusal old.registry client c.has_opens-has_opens.result) status (Done kinds.DestroyClientId tt) c.in_err-destroy_client.ensures.refused in
-    refuses caller (Known kinds.DestroyClientId (destroy_clientid_args_value c.args.args.now)) old c.args.out.now status (with_registry c.destroy_client.new.self old) c.from_residual.result answer
+    let refused =
+    result_refused (destroy_client_refusal old.registry client c.has_opens-has_opens.result) status
+    (Done kinds.DestroyClientId tt) c.in_err-destroy_client.ensures.refused in
+    refuses caller (Known kinds.DestroyClientId (destroy_clientid_args_value c.args.args.now)) old c.args.out.now status
+    (with_registry c.destroy_client.new.self old) c.from_residual.result answer
     (record {
-      outcome_is = refused ∙ ap (λ opens. result_unless (destroy_client_refusal old.registry client opens) (Done kinds.DestroyClientId tt)) c.has_opens-has_opens.ensures;
+      outcome_is =
+          refused ∙ ap (λ opens. result_unless (destroy_client_refusal old.registry client opens)
+          (Done kinds.DestroyClientId tt)) c.has_opens-has_opens.ensures;
       ok = tt;
       err = ap (λ registry. with_registry registry old) c.in_err-destroy_client.ensures.err;
     })

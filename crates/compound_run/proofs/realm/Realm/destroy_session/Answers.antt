@@ -16,10 +16,15 @@ returns-in_err-destroy_session-clause-gives g c caller =
     let old = realm_of c.args.self.now in
     let status = c.in_err-destroy_session.field-0.0 in
     let answer : c.from_residual.result ≡ Err status = search rules in
-    let refused = result_refused (destroy_session_refusal old.registry c.session_of.result) status (Done kinds.DestroySession tt) c.in_err-destroy_session.ensures.refused in
-    refuses caller (Known kinds.DestroySession (destroy_session_args_value c.args.args.now)) old c.args.out.now status (with_registry c.destroy_session.new.self old) c.from_residual.result answer
+    let refused =
+    result_refused (destroy_session_refusal old.registry c.session_of.result) status
+    (Done kinds.DestroySession tt) c.in_err-destroy_session.ensures.refused in
+    refuses caller (Known kinds.DestroySession (destroy_session_args_value c.args.args.now)) old c.args.out.now status
+    (with_registry c.destroy_session.new.self old) c.from_residual.result answer
     (record {
-      outcome_is = refused ∙ ap (λ session. result_unless (destroy_session_refusal old.registry session) (Done kinds.DestroySession tt)) c.session_of.ensures;
+      outcome_is =
+          refused ∙ ap (λ session. result_unless (destroy_session_refusal old.registry session)
+          (Done kinds.DestroySession tt)) c.session_of.ensures;
       ok = tt;
       err = ap (λ registry. with_registry registry old) c.in_err-destroy_session.ensures.err;
     })

@@ -10,5 +10,7 @@ pub returns-then-is_none-clause-opens : goal.returns-then-is_none-clause-opens
 returns-then-is_none-clause-opens g c =
     let opens = opens_view c.args.self.now.opens.items in
     let removed : object c.args.self.now.tree.world c.args.object ≡ None = search rules in
-    ap opens_view c.keep_others_of.ensures ∙ kept_in_view (λ o. not (o.object == c.args.object)) c.args.self.now.opens.items
-    ∙ ap (λ x. if is_some (option_map (λ y. y.kind) x) then opens else filter (λ o. not (o.object == c.args.object)) opens) (sym removed)
+    ap opens_view c.keep_others_of.ensures ∙ kept_in_view
+    (λ o. not (o.object == c.args.object)) c.args.self.now.opens.items
+    ∙ ap (λ x. if is_some (option_map (λ y. y.kind) x) then opens else filter
+    (λ o. not (o.object == c.args.object)) opens) (sym removed)

@@ -13,5 +13,7 @@ pub returns-in-Ok-clause-same : goal.returns-in-Ok-clause-same
 unfolding is_same
 returns-in-Ok-clause-same g c =
     c.in-Ok.ensures
-    ∙ ap (λ (b : Content). pointwise nat_eq (given_values b (facts_value c.in-Some.facts) (bitmap_value c.args.sent.now.set)) c.args.sent.now.values.bytes.now) c.book.ensures
-    ∙ ap (λ (f : Facts). pointwise nat_eq (given_values c.args.self.now.tree.book f (bitmap_value c.args.sent.now.set)) c.args.sent.now.values.bytes.now) c.in-Some.ensures.facts_are
+    ∙ ap (λ (b : Content). pointwise nat_eq (given_values b (facts_value c.in-Some.facts)
+    (bitmap_value c.args.sent.now.set)) c.args.sent.now.values.bytes.now) c.book.ensures
+    ∙ ap (λ (f : Facts). pointwise nat_eq (given_values c.args.self.now.tree.book f (bitmap_value c.args.sent.now.set))
+    c.args.sent.now.values.bytes.now) c.in-Some.ensures.facts_are

@@ -16,6 +16,9 @@ returns g c =
     let owner = c.args.args.now.owner.bytes.now in
     let file = c.in_ok-file.file in
     let is : c.args.file ≡ Some file = search rules in
-    subst (λ (f : Option ℕ). option_map open_view (option_copied c.find_owned.result) ≡ specs.joined context (open_args_value c.args.args.now) f (sight_of c.args.self.now).opens) (sym is)
-    (ap (option_map open_view) (c.find_owned.ensures ∙ (λ i. find (λ o. (o.client == c.client.ensures i) && pointwise nat_eq o.owner.items owner && (o.object == file)) (c.deref.ensures.value i)))
+    subst (λ (f : Option ℕ). option_map open_view (option_copied c.find_owned.result)
+    ≡ specs.joined context (open_args_value c.args.args.now) f (sight_of c.args.self.now).opens) (sym is)
+    (ap (option_map open_view) (c.find_owned.ensures
+    ∙ (λ i. find (λ o. (o.client == c.client.ensures i) && pointwise nat_eq o.owner.items owner && (o.object == file))
+    (c.deref.ensures.value i)))
     ∙ found_in_view (specs.is_opened_by (client_of context) owner file) c.args.self.now.opens.items)

@@ -13,7 +13,8 @@ returns-then-list-clause-judged g c child there =
     let lists = judged_of c.args.self.now.tree.world in
     let caller = member c.args.self.now.tree.book c.args.caller.now in
     let granted : c.grants-granted.result ≡ granted_at lists caller child.number =
-    c.grants-granted.ensures.mask ∙ ap (granted_at lists caller) (sym (object_is_numbered (sight_of c.args.self.now) c.args.number child there)) in
+    c.grants-granted.ensures.mask ∙ ap (granted_at lists caller)
+    (sym (object_is_numbered (sight_of c.args.self.now) c.args.number child there)) in
     judged_free lists caller child (bitmap_value c.args.asked.now) c.has_all-attributes.result c.has_all-list.result
     (c.has_all-attributes.ensures ∙ ap (λ (x : ℕ). bit_and READ_ATTRIBUTES x == READ_ATTRIBUTES) granted)
     (c.has_all-list.ensures ∙ ap (λ (x : ℕ). bit_and READ_ACL x == READ_ACL) granted)

@@ -27,20 +27,32 @@ returns-in_err-number g c =
     let ticks : c.tick.result ≡ Some c.in_ok-at.at = search rules in
     let left = left_is (has_left (sight_of old).next_tick) _ c.in_ok-at.at (sym c.tick.ensures.value ∙ ticks) in
     let bounds : new_fits (specs.wanted context v) (specs.draft v).kind (list_at old.tree.world d) ≡ true =
-    (λ i. new_fits (c.requires.wanted i) (c.requires.draft i).kind (list_at old.tree.world d)) ∙ c.in_ok-new.ensures.fits in
-    subst (λ (r : Result FileHandles Status). OperationGives (sense true (specs.making v d context h) waits) c.args.step.context.room h (stage old c.args.out.now) r (stage c.add.new.self c.args.out.now)) (sym answer)
-    (not_added c.args.step.context.room context h v old c.add.new.self c.args.out.now d left bounds status c.add.result is c.add.ensures.full c.add.ensures.space c.in_err-number.ensures.err)
+    (λ i. new_fits (c.requires.wanted i) (c.requires.draft i).kind (list_at old.tree.world d))
+    ∙ c.in_ok-new.ensures.fits in
+    subst (λ (r : Result FileHandles Status).
+    OperationGives (sense true (specs.making v d context h) waits) c.args.step.context.room h
+    (stage old c.args.out.now) r (stage c.add.new.self c.args.out.now)) (sym answer)
+    (not_added c.args.step.context.room context h v old c.add.new.self c.args.out.now d left bounds status c.add.result
+    is c.add.ensures.full c.add.ensures.space c.in_err-number.ensures.err)
 
 pub returns : goal.returns
 returns g c =
     let old = realm_of c.args.self.now in
-    let created = world_created (context_at c.args.self.now c.args.step.context) c.args.step.handles (create_args_value c.args.args.now) c.in_ok-new.new (draft_view c.args.wanted.0) (wanted_view c.args.wanted.1) old.world c.args.directory.number c.in_ok-at.at
+    let created =
+    world_created (context_at c.args.self.now c.args.step.context) c.args.step.handles
+    (create_args_value c.args.args.now) c.in_ok-new.new (draft_view c.args.wanted.0)
+    (wanted_view c.args.wanted.1) old.world c.args.directory.number c.in_ok-at.at
     c.requires.here c.requires.draft c.requires.wanted (search rules)
-    c.in_ok-new.ensures.kind c.in_ok-new.ensures.bytes (c.in_ok-new.ensures.owner ∙ ap (λ who. who.uid) c.member-caller.ensures) (c.in_ok-new.ensures.group ∙ ap (λ who. unwrap_or c.args.wanted.1.group who.gid) c.member-caller.ensures) c.in_ok-new.ensures.list c.in_ok-new.ensures.high in
+    c.in_ok-new.ensures.kind c.in_ok-new.ensures.bytes
+    (c.in_ok-new.ensures.owner ∙ ap (λ who. who.uid) c.member-caller.ensures)
+    (c.in_ok-new.ensures.group ∙ ap (λ who. unwrap_or c.args.wanted.1.group who.gid) c.member-caller.ensures)
+    c.in_ok-new.ensures.list c.in_ok-new.ensures.high in
     let context = context_at c.args.self.now c.args.step.context in
     let v = create_args_value c.args.args.now in
-    let bounds : new_fits (specs.wanted context v) (specs.draft v).kind (list_at old.world c.args.directory.number) ≡ true =
-    (λ i. new_fits (c.requires.wanted i) (c.requires.draft i).kind (list_at old.world c.args.directory.number)) ∙ c.in_ok-new.ensures.fits in
+    let bounds : new_fits (specs.wanted context v) (specs.draft v).kind (list_at old.world c.args.directory.number)
+    ≡ true =
+    (λ i. new_fits (c.requires.wanted i) (c.requires.draft i).kind (list_at old.world c.args.directory.number))
+    ∙ c.in_ok-new.ensures.fits in
     record {
       answered = record {
         outcome = search (rules, bounds);

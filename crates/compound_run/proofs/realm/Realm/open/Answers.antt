@@ -23,7 +23,12 @@ returns g c =
     let context = context_at c.args.self.now c.args.step.context in
     let h = c.args.step.handles in
     let v = open_args_value c.args.args.now in
-    let first = demand_lines lists (member c.args.self.now.tree.book c.args.step.context.caller.now) 18 (first_demands (Known kinds.Open v) (first_facts s h)) in
-    let second = demand_lines lists (member c.args.self.now.tree.book c.args.step.context.caller.now) 18 (second_demands (Known kinds.Open v) (opening_facts s h (found v h s) (wanted context v).size)) in
-    asked_after c.args.step.context.room c.args.step.context (λ x. open_file v x h) (λ x. last_questions v x h) c.args.self.now h c.args.out.now (first ++ second) c.grants_opening.new.self _ _ _
+    let first =
+    demand_lines lists (member c.args.self.now.tree.book c.args.step.context.caller.now) 18
+    (first_demands (Known kinds.Open v) (first_facts s h)) in
+    let second =
+    demand_lines lists (member c.args.self.now.tree.book c.args.step.context.caller.now) 18
+    (second_demands (Known kinds.Open v) (opening_facts s h (found v h s) (wanted context v).size)) in
+    asked_after c.args.step.context.room c.args.step.context (λ x. open_file v x h)
+    (λ x. last_questions v x h) c.args.self.now h c.args.out.now (first ++ second) c.grants_opening.new.self _ _ _
     (search rules) (search (rules, append_assoc)) (search (rules, held_together)) c.open_at.ensures

@@ -7,5 +7,6 @@ use Rattle.compound_run.proofs.realm.Realm.open_named.Goals as goal
 
 pub returns : goal.returns
 returns g c =
-    ap (option_map open_view) (c.find_open.ensures ∙ ap (find (λ o. is_open c.args.number c.args.client c.args.object (open_view o))) c.deref.ensures.value)
+    ap (option_map open_view) (c.find_open.ensures
+    ∙ ap (find (λ o. is_open c.args.number c.args.client c.args.object (open_view o))) c.deref.ensures.value)
     ∙ found_in_view (is_open c.args.number c.args.client c.args.object) c.args.self.now.opens.items

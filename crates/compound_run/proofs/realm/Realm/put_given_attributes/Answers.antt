@@ -14,6 +14,10 @@ pub returns : goal.returns
 unfolding attributes_of
 returns g c =
     let asked = bitmap_value c.args.asked in
-    subst (λ (f : Facts). PutsWithin c.args.context.room (Done kinds.GetAttr (given_set asked, given_values c.args.self.now.tree.book f asked)) c.args.out.now c.put_attributes.result c.put_attributes.new.out)
+    subst (λ (f : Facts). PutsWithin c.args.context.room
+    (Done kinds.GetAttr (given_set asked, given_values c.args.self.now.tree.book f asked))
+    c.args.out.now c.put_attributes.result c.put_attributes.new.out)
     c.in-Some.ensures.facts_are
-    (subst (λ (b : Content). PutsWithin c.args.context.room (Done kinds.GetAttr (given_set asked, given_values b (facts_value c.in-Some.facts) asked)) c.args.out.now c.put_attributes.result c.put_attributes.new.out) c.book.ensures c.put_attributes.ensures)
+    (subst (λ (b : Content). PutsWithin c.args.context.room
+    (Done kinds.GetAttr (given_set asked, given_values b (facts_value c.in-Some.facts) asked))
+    c.args.out.now c.put_attributes.result c.put_attributes.new.out) c.book.ensures c.put_attributes.ensures)

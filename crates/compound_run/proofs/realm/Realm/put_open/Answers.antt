@@ -5,5 +5,7 @@ use Rattle.compound_run.proofs.realm.Realm.put_open.Goals as goal
 
 pub returns-in-Again-clause-realm : goal.returns-in-Again-clause-realm
 returns-in-Again-clause-realm g c =
-    again_placed (context_at c.args.self.now c.args.context) c.args.access c.args.file c.in-Again.number c.in-Again.seqid c.args.place (realm_of c.args.self.now) c.args.self.now.opens.items c.reopen.new.opens.items
+    again_placed (context_at c.args.self.now c.args.context)
+    c.args.access c.args.file c.in-Again.number c.in-Again.seqid c.args.place
+    (realm_of c.args.self.now) c.args.self.now.opens.items c.reopen.new.opens.items
     (search rules) refl (search rules)

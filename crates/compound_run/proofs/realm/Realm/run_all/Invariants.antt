@@ -8,8 +8,10 @@ use Rattle.compound_run.proofs.realm.Realm.run_all.Given as goal
 abbrev pub invariant-loop-position : goal.invariant-loop-position
 invariant-loop-position g l = record {
   running :
-      Running (record { context = context_at l.fn.self l.context; operations = l.to_run.operations.now; refused = l.to_run.refused; realm = l.fn.self; out = l.fn.results })
-      (record { realm = l.self; handles = l.handles; out = l.results; rest = l.reader; position = l.position; changed = l.changed });
+      Running (record { context = context_at l.fn.self l.context; operations = l.to_run.operations.now;
+      refused = l.to_run.refused; realm = l.fn.self; out = l.fn.results })
+      (record { realm = l.self; handles = l.handles; out = l.results; rest = l.reader; position = l.position;
+      changed = l.changed });
   settled : l.self.tree.log.held ≡ [];
   settings : settings_of l.self ≡ settings_of l.fn.self;
 }

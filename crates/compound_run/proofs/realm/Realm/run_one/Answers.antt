@@ -13,7 +13,9 @@ pub returns-in-Ok-clause-gives : goal.returns-in-Ok-clause-gives
 returns-in-Ok-clause-gives g c =
     let gives = c.in-Ok.ensures.gives in
     record {
-      outcome = Ok ((meaning (context_at c.args.self.now c.args.step.context) c.args.step.handles (op_view c.args.op.now)).answer (whole (realm_of c.args.self.now)));
+      outcome =
+          Ok ((meaning (context_at c.args.self.now c.args.step.context) c.args.step.handles
+          (op_view c.args.op.now)).answer (whole (realm_of c.args.self.now)));
       steps = gives.answered;
       written = gives.written;
       fits = gives.within;
@@ -32,8 +34,11 @@ returns-in-Err-clause-gives g c =
     record {
       outcome = Err c.in-Err.status;
       steps = gives.answered;
-      written = subst (λ (n : ℕ). Appends c.args.out.now c.put_refusal.new.out (result_bytes (refusal_at n c.in-Err.status))) c.number.ensures
-          (subst (λ (b : Buffer). Appends b c.put_refusal.new.out (result_bytes (refusal_at c.number.result c.in-Err.status))) gives.unwritten c.put_refusal.ensures.written);
+      written =
+          subst (λ (n : ℕ). Appends c.args.out.now c.put_refusal.new.out (result_bytes (refusal_at n c.in-Err.status)))
+          c.number.ensures
+          (subst (λ (b : Buffer). Appends b c.put_refusal.new.out
+          (result_bytes (refusal_at c.number.result c.in-Err.status))) gives.unwritten c.put_refusal.ensures.written);
       fits = tt;
       within = omega (arith, long, c.put_refusal.ensures.within);
       answers = search rules;

@@ -7,5 +7,7 @@ pub returns-then-is_either : goal.returns-then-is_either
 returns-then-is_either g c =
     let some : is_some c.args.owner || is_some c.args.group ≡ true = sym c.is_either.ensures ∙ c.if-is_either.true in
     let old = c.args.self.now in
-    let owned = c.set_owner.ensures ∙ (λ i. record old.tree { world = with_owner old.tree.world c.args.number (c.unwrap_or-owner.ensures i) (c.unwrap_or-group.ensures i) c.args.at }) in
+    let owned =
+    c.set_owner.ensures ∙ (λ i. record old.tree { world = with_owner old.tree.world c.args.number
+    (c.unwrap_or-owner.ensures i) (c.unwrap_or-group.ensures i) c.args.at }) in
     rw some (λ i. record old { tree = owned i })

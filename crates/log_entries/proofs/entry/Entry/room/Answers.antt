@@ -4,4 +4,5 @@ use Rattle.log_entries.proofs.entry.Entry.room.Goals as goal
 
 pub returns-in-Call-clause-enough : goal.returns-in-Call-clause-enough
 returns-in-Call-clause-enough c =
-    rw c.in-Call.is (c.call_room.ensures.enough (called_of c.in-Call.call) (omega (arith, c.in-Call.call.bytes.within)) (omega arith))
+    rw c.in-Call.is (c.call_room.ensures.enough (called_of c.in-Call.call) (omega (arith, c.in-Call.call.bytes.within))
+    (omega arith))

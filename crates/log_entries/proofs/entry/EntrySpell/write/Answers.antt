@@ -14,7 +14,8 @@ pub returns-in-Call-clause-puts : goal.returns-in-Call-clause-puts
 returns-in-Call-clause-puts g c =
     let call = c.in-Call.call in
     rw c.in-Call.is
-    (subst (λ (o : Option ℕ). Puts c.args.writer.now c.write.new.writer (spelling entry (inl (moment_value call.now, (call.bytes.bytes.now, (o, call.checksum))))) c.write.result)
+    (subst (λ (o : Option ℕ). Puts c.args.writer.now c.write.new.writer
+    (spelling entry (inl (moment_value call.now, (call.bytes.bytes.now, (o, call.checksum))))) c.write.result)
     (same call.delayed) c.write.ensures.puts)
 
 pub returns-in-ClientExpired-clause-puts : goal.returns-in-ClientExpired-clause-puts

@@ -6,4 +6,6 @@ use Rattle.nfs_client.proofs.client.Client.ask_attributes.Goals as goal
 
 pub returns : goal.returns
 returns g c = λ ops asks.
-    concluded _ attributes_in ops c.args.self.now c.exchange.new.self c.in-Ok.reply (c.in-Ok.ensures ops asks) given_value true c.given-outcome.result c.conclude.new.self c.given-outcome.ensures c.conclude.ensures
+    concluded _ attributes_in ops c.args.self.now c.exchange.new.self c.in-Ok.reply
+    (c.in-Ok.ensures ops asks) given_value true c.given-outcome.result c.conclude.new.self c.given-outcome.ensures
+    c.conclude.ensures

@@ -6,4 +6,6 @@ use Rattle.nfs_client.proofs.client.Client.ask_rights.Goals as goal
 
 pub returns : goal.returns
 returns g c = λ ops asks.
-    concluded _ rights_in ops c.args.self.now c.exchange.new.self c.in-Ok.reply (c.in-Ok.ensures ops asks) rights_value true c.rights-outcome.result c.conclude.new.self c.rights-outcome.ensures c.conclude.ensures
+    concluded _ rights_in ops c.args.self.now c.exchange.new.self c.in-Ok.reply
+    (c.in-Ok.ensures ops asks) rights_value true c.rights-outcome.result c.conclude.new.self c.rights-outcome.ensures
+    c.conclude.ensures

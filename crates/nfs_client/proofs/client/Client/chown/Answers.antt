@@ -7,5 +7,6 @@ use Rattle.nfs_client.proofs.client.Client.chown.Goals as goal
 
 pub returns-clause-gives : goal.returns-clause-gives
 returns-clause-gives g c =
-    subst (λ (s : Seen). CommandGives g.S.Transport.talks (SetAsks s c.args.path.now) (NoPath c.args.path.now) c.args.self.now c.set_attributes.new.self c.set_attributes.result)
+    subst (λ (s : Seen). CommandGives g.S.Transport.talks (SetAsks s c.args.path.now)
+    (NoPath c.args.path.now) c.args.self.now c.set_attributes.new.self c.set_attributes.result)
     (c.of_owner-attributes.ensures ∙ ap of_owner c.in_ok-sendable.ensures) c.set_attributes.ensures

@@ -5,8 +5,11 @@ use Rattle.nfs_client.proofs.client.Client.make_session.Goals as goal
 
 pub returns : goal.returns
 returns g c =
-    concluded _ session_in _ c.args.self.now c.exchange.new.self c.in-Ok.reply (c.in-Ok.ensures _ c.in_ok-request.ensures.asks) session_value false c.session-outcome.result c.conclude.new.self c.session-outcome.ensures c.conclude.ensures
+    concluded _ session_in _ c.args.self.now c.exchange.new.self c.in-Ok.reply
+    (c.in-Ok.ensures _ c.in_ok-request.ensures.asks)
+    session_value false c.session-outcome.result c.conclude.new.self c.session-outcome.ensures c.conclude.ensures
 
 pub returns-in-Err : goal.returns-in-Err
 returns-in-Err g c =
-    unasked _ session_in session_value false _ c.args.self.now c.exchange.new.self c.in-Err.fault (c.in-Err.ensures _ c.in_ok-request.ensures.asks)
+    unasked _ session_in session_value false _ c.args.self.now c.exchange.new.self c.in-Err.fault
+    (c.in-Err.ensures _ c.in_ok-request.ensures.asks)

@@ -6,4 +6,5 @@ use Rattle.nfs_client.proofs.client.Client.read_all.Given as goal
 
 abbrev pub invariant-loop-call : goal.invariant-loop-call
 invariant-loop-call g l =
-    (before : List Piece) × Goes (by_pieces g.S.Transport.talks (route_value l.route)) l.fn.self before l.self × (l.bytes.items ≡ bytes_of before) × (length before ≡ l._call)
+    (before : List Piece) × Goes (by_pieces g.S.Transport.talks (route_value l.route)) l.fn.self before l.self
+    × (l.bytes.items ≡ bytes_of before) × (length before ≡ l._call)

@@ -6,5 +6,7 @@ use Rattle.nfs_client.proofs.client.Client.ready.Goals as goal
 
 pub returns-in-Ok : goal.returns-in-Ok
 returns-in-Ok g c =
-    made_ready g.S.Transport.talks (map (λ n. n.now) c.args.names.now) (op_view c.args.op) c.args.self.now c.reach.new.self (route_value c.in-Ok.route) c.request_along.result c.in-Ok.ensures c.request_along.ensures.asks
+    made_ready g.S.Transport.talks (map (λ n. n.now) c.args.names.now)
+    (op_view c.args.op) c.args.self.now c.reach.new.self
+    (route_value c.in-Ok.route) c.request_along.result c.in-Ok.ensures c.request_along.ensures.asks
     c.request_along.ensures.memory

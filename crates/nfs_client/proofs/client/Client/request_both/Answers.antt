@@ -14,4 +14,5 @@ returns-clause-asks g c =
     let second = walk (route_value c.args.second.now) in
     let op = op_view c.args.op in
     subst (λ (ops : List Operation). Asks c.put-2.new.self (ops ++ op ∷ [])) (append_assoc prefix (save ∷ []) second)
-    (c.in_ok-put-2.ensures.asks _ (c.in_ok-walk-2.ensures.asks _ (c.in_ok-put.ensures.asks _ (c.in_ok-walk.ensures.asks _ c.in_ok-request.ensures))))
+    (c.in_ok-put-2.ensures.asks _ (c.in_ok-walk-2.ensures.asks _
+    (c.in_ok-put.ensures.asks _ (c.in_ok-walk.ensures.asks _ c.in_ok-request.ensures))))

@@ -11,4 +11,6 @@ use Rattle.nfs_client.proofs.client.Client.request_open.Goals as goal
 pub returns-clause-asks : goal.returns-clause-asks
 returns-clause-asks g c =
     let prefix = sequence c.args.self.now ∷ walk (route_value c.args.route.now) in
-    subst (λ (ops : List Operation). Asks c.put.new.self ops) (append_assoc prefix (op_view c.args.op ∷ []) (get_handle ∷ [])) (c.in_ok-put.ensures.asks _ c.in_ok-request.ensures.asks)
+    subst (λ (ops : List Operation). Asks c.put.new.self ops)
+    (append_assoc prefix (op_view c.args.op ∷ []) (get_handle ∷ []))
+    (c.in_ok-put.ensures.asks _ c.in_ok-request.ensures.asks)

@@ -25,10 +25,14 @@ loop-entry-preserved g c =
     let all = chain_values entry (Some entry_normal) c.args.entries.bytes.now in
     let left = chain_values entry (Some entry_normal) c.next.new.self.bytes.now in (
       inv.0 ++ line,
-      (put.2.lines ∙ ap (λ (e : Ends). c.loop-entry.self.text.items ++ (put.0 ++ line_end e ∷ [])) inv.4) ∙ ap (λ (t : List ℕ). t ++ line) inv.1 ∙ append_assoc first inv.0 line,
-      lines_more (line_end ends) (line_in ends) (lines_in ends all) inv.0 (entry_value c.in-Some.entry) left put.0 (subst (λ (e : Ends). line_in e (entry_value c.in-Some.entry) ≡ Some put.0) inv.4 put.1)
-          (subst (λ (es : List (Value entry)). lines_in ends all ≡ line_after inv.0 (lines_in ends es)) c.in-Some.ensures inv.2),
-      subst (λ (es : List (Value entry)). last_or c.args.self.now.cookie (map entry_cookie all) ≡ last_or c.loop-entry.self.cookie (map entry_cookie es)) c.in-Some.ensures inv.3
+      (put.2.lines ∙ ap (λ (e : Ends). c.loop-entry.self.text.items ++ (put.0 ++ line_end e ∷ [])) inv.4)
+      ∙ ap (λ (t : List ℕ). t ++ line) inv.1 ∙ append_assoc first inv.0 line,
+      lines_more (line_end ends) (line_in ends) (lines_in ends all) inv.0 (entry_value c.in-Some.entry) left put.0
+      (subst (λ (e : Ends). line_in e (entry_value c.in-Some.entry) ≡ Some put.0) inv.4 put.1)
+          (subst (λ (es : List (Value entry)). lines_in ends all ≡ line_after inv.0 (lines_in ends es))
+          c.in-Some.ensures inv.2),
+      subst (λ (es : List (Value entry)). last_or c.args.self.now.cookie (map entry_cookie all)
+      ≡ last_or c.loop-entry.self.cookie (map entry_cookie es)) c.in-Some.ensures inv.3
           ∙ ap (λ (n : ℕ). last_or n (map entry_cookie left)) (sym put.2.cookie_is),
       put.2.ends ∙ inv.4,
     )
@@ -39,10 +43,14 @@ returns g c =
     let ends = c.args.self.now.ends in
     let all = chain_values entry (Some entry_normal) c.args.entries.bytes.now in (
       inv.0,
-      lines_all (line_end ends) (line_in ends) (lines_in ends all) inv.0 (subst (λ (es : List (Value entry)). lines_in ends all ≡ line_after inv.0 (lines_in ends es)) c.in_default.ensures.0 inv.2),
+      lines_all (line_end ends) (line_in ends) (lines_in ends all) inv.0
+      (subst (λ (es : List (Value entry)). lines_in ends all ≡ line_after inv.0 (lines_in ends es))
+      c.in_default.ensures.0 inv.2),
       record {
         lines = inv.1;
-        cookie_is = sym (subst (λ (es : List (Value entry)). last_or c.args.self.now.cookie (map entry_cookie all) ≡ last_or c.loop-entry.self.cookie (map entry_cookie es)) c.in_default.ensures.0 inv.3);
+        cookie_is =
+            sym (subst (λ (es : List (Value entry)). last_or c.args.self.now.cookie (map entry_cookie all)
+            ≡ last_or c.loop-entry.self.cookie (map entry_cookie es)) c.in_default.ensures.0 inv.3);
         ends = inv.4;
       },
     )

@@ -8,8 +8,10 @@ use Rattle.nfs_client.proofs.ls.Listing.put_all.Given as goal
 abbrev pub invariant-loop-entry : goal.invariant-loop-entry
 invariant-loop-entry g l =
     (done : List ℕ) × (l.self.text.items ≡ l.fn.self.text.items ++ done)
-    × (lines_in l.fn.self.ends (chain_values entry (Some entry_normal) l.fn.entries.bytes.now) ≡ line_after done (lines_in l.fn.self.ends (chain_values entry (Some entry_normal) l.left.bytes.now)))
-    × (last_or l.fn.self.cookie (map entry_cookie (chain_values entry (Some entry_normal) l.fn.entries.bytes.now)) ≡ last_or l.self.cookie (map entry_cookie (chain_values entry (Some entry_normal) l.left.bytes.now)))
+    × (lines_in l.fn.self.ends (chain_values entry (Some entry_normal) l.fn.entries.bytes.now)
+    ≡ line_after done (lines_in l.fn.self.ends (chain_values entry (Some entry_normal) l.left.bytes.now)))
+    × (last_or l.fn.self.cookie (map entry_cookie (chain_values entry (Some entry_normal) l.fn.entries.bytes.now))
+    ≡ last_or l.self.cookie (map entry_cookie (chain_values entry (Some entry_normal) l.left.bytes.now)))
     × (l.self.ends ≡ l.fn.self.ends)
 
 abbrev pub decreases-loop-entry : goal.decreases-loop-entry

@@ -5,4 +5,6 @@ use Rattle.nfs_client.specs.Commands.{lookups}
 use Rattle.nfs_client.proofs.request.Request.lookups.Given as goal
 
 abbrev pub invariant-loop-name : goal.invariant-loop-name
-invariant-loop-name g l = (ops : List Operation) → Asks l.fn.self ops → Asks l.self (ops ++ lookups (map (λ n. n.now) (take l.name-index l.names)))
+invariant-loop-name g l =
+    (ops : List Operation) → Asks l.fn.self ops
+    → Asks l.self (ops ++ lookups (map (λ n. n.now) (take l.name-index l.names)))

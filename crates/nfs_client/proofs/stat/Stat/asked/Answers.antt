@@ -3,4 +3,8 @@ use Rattle.nfs_client.proofs.stat.Stat.asked.Goals as goal
 
 pub returns : goal.returns
 returns c = λ n.
-    rw (c.number-10.ensures, c.with-9.ensures n, c.number-9.ensures, c.with-8.ensures n, c.number-8.ensures, c.with-7.ensures n, c.number-7.ensures, c.with-6.ensures n, c.number-6.ensures, c.with-5.ensures n, c.number-5.ensures, c.with-4.ensures n, c.number-4.ensures, c.with-3.ensures n, c.number-3.ensures, c.with-2.ensures n, c.number-2.ensures, c.with.ensures n, c.number.ensures, c.empty.ensures, none_has n) at (c.with-10.ensures n)
+    rw (c.number-10.ensures, c.with-9.ensures n, c.number-9.ensures, c.with-8.ensures n, c.number-8.ensures,
+    c.with-7.ensures n, c.number-7.ensures, c.with-6.ensures n, c.number-6.ensures, c.with-5.ensures n,
+    c.number-5.ensures, c.with-4.ensures n, c.number-4.ensures, c.with-3.ensures n, c.number-3.ensures,
+    c.with-2.ensures n, c.number-2.ensures, c.with.ensures n, c.number.ensures, c.empty.ensures, none_has n) at
+    (c.with-10.ensures n)

@@ -5,7 +5,8 @@ use Rattle.nfs_hub.proofs.connection.Connection.serve_record.Given as goal
 abbrev pub invariant-loop-from : goal.invariant-loop-from
 invariant-loop-from g l = record {
   within : l.at ≤ length l.piece;
-  has_read : (rest : List ℕ) → HasRead l.fn.self.framer l.fn.self.content.items rest → HasRead l.self.framer l.self.content.items (rest ++ take l.at l.piece);
+  has_read : (rest : List ℕ) → HasRead l.fn.self.framer l.fn.self.content.items rest
+      → HasRead l.self.framer l.self.content.items (rest ++ take l.at l.piece);
   served : l.service ≡ l.fn.service;
   pending : l.self.pending ≡ l.fn.self.pending;
 }

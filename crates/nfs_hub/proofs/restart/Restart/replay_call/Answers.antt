@@ -21,8 +21,13 @@ returns g c =
     let new = c.replay-ran.new.self in
     let again = runs_again _ _ _ _ _ _ _ c.self.invariant.0 c.replay-ran.ensures.answers in
     let call = call_of (arrival_in entry) c.in-Ok.asked.arguments.now c.in-Some.caller in
-    let ran = subst (λ (s : State). RunsAgain c.args.call.now.delayed call s c.replay-ran.result c.replay-ran.new.out.bytes new) c.self.view_is again in
-    let judged = subst (λ (r : List ℕ). Judges entry c.replay-ran.result r result) c.bytes.ensures c.judge-judged.ensures in
+    let ran =
+    subst (λ (s : State). RunsAgain c.args.call.now.delayed call s c.replay-ran.result c.replay-ran.new.out.bytes new)
+    c.self.view_is again in
+    let judged =
+    subst (λ (r : List ℕ). Judges entry c.replay-ran.result r result) c.bytes.ensures c.judge-judged.ensures in
     subst (λ (r : CallResult). AskedEnds result entry r old new) c.in-Ok.ensures
-    (subst (λ (o : Option Identity). MatchOption o (Strays result old new) (λ caller. CallEnds result entry (call_of (arrival_in entry) c.in-Ok.asked.arguments.now caller) old new)) (sym c.in-Some.is)
+    (subst (λ (o : Option Identity). MatchOption o (Strays result old new)
+    (λ caller. CallEnds result entry (call_of (arrival_in entry) c.in-Ok.asked.arguments.now caller) old new))
+    (sym c.in-Some.is)
     (c.replay-ran.ensures.numbered, c.replay-ran.result, c.replay-ran.new.out.bytes, ran, judged))

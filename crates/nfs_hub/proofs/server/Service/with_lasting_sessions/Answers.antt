@@ -15,10 +15,12 @@ wants_memory (Err Misfit) fits = absurd (fits refl)
 
 pub returns-clause-ok : goal.returns-clause-ok
 returns-clause-ok g c =
-    subst (λ (k : World × ClientState). IfOk c.restored.result (λ service. service ≡ answers.restored k.0 k.1 c.args.book))
+    subst (λ (k : World × ClientState). IfOk c.restored.result
+    (λ service. service ≡ answers.restored k.0 k.1 c.args.book))
     (λ i. (c.in_ok-root.ensures i, c.nothing.ensures i)) c.restored.ensures.ok
 
 pub returns-clause-err : goal.returns-clause-err
 returns-clause-err g c =
-    let fits : opens_fit c.in_ok-root.root c.nothing.result ≡ true = λ i. opens_fit (c.in_ok-root.ensures i) (c.nothing.ensures i) in
+    let fits : opens_fit c.in_ok-root.root c.nothing.result ≡ true =
+    λ i. opens_fit (c.in_ok-root.ensures i) (c.nothing.ensures i) in
     wants_memory c.restored.result (λ misfit. let no = c.restored.ensures.misfit misfit in cc (fits, no))

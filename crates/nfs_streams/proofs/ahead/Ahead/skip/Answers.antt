@@ -8,4 +8,5 @@ returns g c =
     let from = c.self.inside.from in
     let to = c.self.inside.to in
     let xs = c.self.inside.bytes.items in
-    rw (← c.self.view_is) (slice_skip xs from c.args.n to (omega (arith, c.requires, ap (λ (l : List ℕ). length l) c.self.view_is, length-take (to - from) (drop from xs))))
+    rw (← c.self.view_is) (slice_skip xs from c.args.n to
+    (omega (arith, c.requires, ap (λ (l : List ℕ). length l) c.self.view_is, length-take (to - from) (drop from xs))))

@@ -8,5 +8,7 @@ returns-in-Ok-clause-gives g c =
     let a = c.in-Ok.ensures in
     let b = c.take_record.ensures in
     let takes =
-    subst (λ (conn : ℕ). TakesRecord conn c.feed.new.self.hub.now (as_read (λ v. v.items) c.take_record.result) c.take_record.new.self.hub.now) a.same.conn b.takes in
-    (record { same_hub = b.same.same_hub ∙ a.same.same_hub; conn = b.same.conn ∙ a.same.conn; seconds = b.same.seconds ∙ a.same.seconds }, inr (c.feed.new.self.hub.now, a.fed, takes))
+    subst (λ (conn : ℕ). TakesRecord conn c.feed.new.self.hub.now
+    (as_read (λ v. v.items) c.take_record.result) c.take_record.new.self.hub.now) a.same.conn b.takes in
+    (record { same_hub = b.same.same_hub ∙ a.same.same_hub; conn = b.same.conn ∙ a.same.conn;
+    seconds = b.same.seconds ∙ a.same.seconds }, inr (c.feed.new.self.hub.now, a.fed, takes))

@@ -5,7 +5,11 @@ pub loop-index-init : goal.loop-index-init
 loop-index-init c = begun c.args.self.now.words c.args.other.now.words c.args.self.now.whole
 
 pub loop-index-preserved : goal.loop-index-preserved
-loop-index-preserved c = one_shared c.args.self.now.words c.args.other.now.words c.loop-index.words c.loop-index.index c.loop-index-test.true c.loop-index.invariant
+loop-index-preserved c =
+    one_shared c.args.self.now.words c.args.other.now.words c.loop-index.words c.loop-index.index c.loop-index-test.true
+    c.loop-index.invariant
 
 pub returns : goal.returns
-returns c = all_shared c.args.self.now.words c.args.other.now.words c.loop-index.words c.loop-index.index c.loop-index-test.false c.args.self.now.whole c.loop-index.invariant
+returns c =
+    all_shared c.args.self.now.words c.args.other.now.words c.loop-index.words c.loop-index.index
+    c.loop-index-test.false c.args.self.now.whole c.loop-index.invariant

@@ -8,4 +8,6 @@ use Rattle.nfs_types.proofs.moment.MomentSpell.write.Goals as goal
 
 pub returns-clause-puts : goal.returns-clause-puts
 returns-clause-puts g c =
-    subst (λ (z : ℤ). Puts c.args.writer.now c.write.new.writer (spelling time (z, c.args.self.nanoseconds)) c.write.result) (to_z-of_z w64 c.args.self.seconds (search rules)) c.write.ensures.puts
+    subst (λ (z : ℤ). Puts c.args.writer.now c.write.new.writer
+    (spelling time (z, c.args.self.nanoseconds)) c.write.result)
+    (to_z-of_z w64 c.args.self.seconds (search rules)) c.write.ensures.puts

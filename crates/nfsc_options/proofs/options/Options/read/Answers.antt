@@ -1,4 +1,5 @@
-use Rattle.std.proofs.Common.{◌∙◌, ◌≡◌, ◌⊎◌, inl, inr, [], Option, Result, Err, ap, sym, subst, map, codes, arith, rules, List, Some, refl}
+use Rattle.std.proofs.Common.{◌∙◌, ◌≡◌, ◌⊎◌, inl, inr, [], Option, Result, Err, ap, sym, subst, map, codes, arith}
+use Rattle.std.proofs.Common.{rules, List, Some, refl}
 use Rattle.std.specs.Prelude.{option_map}
 use Rattle.std.specs.Str.Parse.{ExplainsUnsignedError, HasUnsignedDigitsIfOk, ParsesUnsigned}
 use Rattle.clap.specs.Matches.{first_value, found_of, raw_values}
@@ -13,7 +14,8 @@ use Rattle.clap.proofs.WalkLemmas.{first_value-rows, raw_values-rows}
 use Rattle.nfsc_options.specs.Given.{AreTakenOr, IsHost, IsNoHost, IsNumber, IsNumberOr, given}
 use Rattle.nfsc_options.specs.Simple.{nfsc}
 use Rattle.nfsc_options.proofs.Answers.{entry_there, number_held, number_or_default, read_some, some_mapped}
-use Rattle.nfsc_options.proofs.Rules.{command_asked, command_is_at, gid_asked, gid_is_at, has_value, port_asked, port_is_at, timeout_is_at, uid_asked, uid_is_at}
+use Rattle.nfsc_options.proofs.Rules.{command_asked, command_is_at, gid_asked, gid_is_at, has_value, port_asked}
+use Rattle.nfsc_options.proofs.Rules.{port_is_at, timeout_is_at, uid_asked, uid_is_at}
 use Rattle.nfsc_options.proofs.Taken.{nothing_read, option_reads}
 use Rattle.nfsc_options.proofs.options.Options.read.Goals as goal
 
@@ -69,10 +71,13 @@ returns-in_err-matches-clause-refused g c =
     let is : app_of c.in_ok-command.field-0 ≡ nfsc = c.in_ok-command.ensures in
     let err : c.from_residual-in_err-matches.result ≡ Err c.in_err-matches.field-0.0 = search rules in
     subst (λ r. AreTakenOr words r) (sym err)
-    (inl (subst (λ a. HasKind (fault_of a words) c.in_err-matches.field-0.0) is (c.in_err-matches.ensures.kinds (ap is_simple_and_free is))))
+    (inl (subst (λ a. HasKind (fault_of a words) c.in_err-matches.field-0.0) is
+    (c.in_err-matches.ensures.kinds (ap is_simple_and_free is))))
 
-host_fails : {T : Type 0} (words : List Text) (r : Result T Error) (e : Error) (text : Option Text) → r ≡ Err e → fault_of nfsc words ≡ []
-    → text ≡ given nfsc (codes "host") words → (kind_of e ≡ OutOfMemory) ⊎ ((kind_of e ≡ ValueValidation) × IsNoHost text) → AreTakenOr words r
+host_fails : {T : Type 0} (words : List Text) (r : Result T Error) (e : Error) (text : Option Text) → r ≡ Err e
+    → fault_of nfsc words ≡ []
+    → text ≡ given nfsc (codes "host") words → (kind_of e ≡ OutOfMemory)
+    ⊎ ((kind_of e ≡ ValueValidation) × IsNoHost text) → AreTakenOr words r
 host_fails words r e text is none same (inl memory) = subst (λ x. AreTakenOr words x) (sym is) (inl (inl memory))
 host_fails words r e text is none same (inr wrong) =
     subst (λ x. AreTakenOr words x) (sym is) (inr (none, wrong.0, subst IsNoHost same wrong.1))
@@ -84,9 +89,11 @@ returns-in_err-host-clause-refused g c =
     let is : app_of c.in_ok-command.field-0 ≡ nfsc = c.in_ok-command.ensures in
     let rows : rows_of f ≡ matches_of nfsc words =
     (c.in_ok-matches.ensures.matches (ap is_simple is)).0 ∙ ap (λ a. matches_of a words) is in
-    let none : fault_of nfsc words ≡ [] = ap (λ a. fault_of a words) (sym is) ∙ c.in_ok-matches.ensures.kinds (ap is_simple_and_free is) in
+    let none : fault_of nfsc words ≡ [] =
+    ap (λ a. fault_of a words) (sym is) ∙ c.in_ok-matches.ensures.kinds (ap is_simple_and_free is) in
     let err : c.from_residual-in_err-host.result ≡ Err c.in_err-host.field-0.0 = search rules in
-    host_fails words _ _ _ err none (c.get_str-given.ensures ∙ (first_value-rows f (codes "host") ∙ ap (first_of (codes "host")) rows)) c.in_err-host.ensures
+    host_fails words _ _ _ err none (c.get_str-given.ensures
+    ∙ (first_value-rows f (codes "host") ∙ ap (first_of (codes "host")) rows)) c.in_err-host.ensures
 
 pub returns-clause-options_are : goal.returns-clause-options_are
 returns-clause-options_are g c =
@@ -98,7 +105,8 @@ returns-clause-options_are g c =
     let parsed = c.in_ok-matches.ensures.parsed in
     let rows : rows_of f ≡ matches_of nfsc words =
     (c.in_ok-matches.ensures.matches (ap is_simple is)).0 ∙ ap (λ a. matches_of a words) is in
-    let value : (id : Text) → first_value f id ≡ given nfsc id words = λ id. first_value-rows f id ∙ ap (first_of id) rows in
+    let value : (id : Text) → first_value f id ≡ given nfsc id words =
+    λ id. first_value-rows f id ∙ ap (first_of id) rows in
     let port_reads = option_reads old m parsed is _ _ port_is_at _
     (λ bs r. ParsesUnsigned 16 10 bs r × ExplainsUnsignedError 10 bs r × HasUnsignedDigitsIfOk bs r)
     16 1 65535 refl (omega arith) (λ u x gives. gives.0) c.get_one.result c.get_one.ensures.value in
@@ -113,13 +121,17 @@ returns-clause-options_are g c =
     32 1 86400 refl (omega arith) (λ u x gives. gives.0) c.get_one-4.result c.get_one-4.ensures.value in
     record {
       port = subst (IsNumber 1 65535 c.unwrap-2.result) (value (codes "port"))
-          (number_held 1 65535 c.unwrap-2.result _ c.get_one.result (has_value old m parsed is _ _ port_is_at port_asked) c.unwrap-2.ensures port_reads);
+          (number_held 1 65535 c.unwrap-2.result _ c.get_one.result
+          (has_value old m parsed is _ _ port_is_at port_asked) c.unwrap-2.ensures port_reads);
       uid = subst (IsNumber 0 4294967295 c.unwrap-3.result) (value (codes "uid"))
-          (number_held 0 4294967295 c.unwrap-3.result _ c.get_one-2.result (has_value old m parsed is _ _ uid_is_at uid_asked) c.unwrap-3.ensures uid_reads);
+          (number_held 0 4294967295 c.unwrap-3.result _ c.get_one-2.result
+          (has_value old m parsed is _ _ uid_is_at uid_asked) c.unwrap-3.ensures uid_reads);
       gid = subst (IsNumber 0 4294967295 c.unwrap-4.result) (value (codes "gid"))
-          (number_held 0 4294967295 c.unwrap-4.result _ c.get_one-3.result (has_value old m parsed is _ _ gid_is_at gid_asked) c.unwrap-4.ensures gid_reads);
+          (number_held 0 4294967295 c.unwrap-4.result _ c.get_one-3.result
+          (has_value old m parsed is _ _ gid_is_at gid_asked) c.unwrap-4.ensures gid_reads);
       timeout = subst (IsNumberOr 30 1 86400 c.unwrap_or.result) (value (codes "timeout"))
-          (number_or_default 30 1 86400 c.unwrap_or.result (first_value f (codes "timeout")) c.get_one-4.result c.unwrap_or.ensures
+          (number_or_default 30 1 86400 c.unwrap_or.result
+          (first_value f (codes "timeout")) c.get_one-4.result c.unwrap_or.ensures
           (λ e. c.get_one-4.ensures.none (nothing_read f (codes "timeout") e)) timeout_reads);
       groups = c.get_str.ensures ∙ value (codes "groups");
       person = c.get_str-2.ensures ∙ value (codes "as");
@@ -127,7 +139,8 @@ returns-clause-options_are g c =
       host = subst (IsHost c.in_ok-host.host) (c.get_str-given.ensures ∙ value (codes "host")) c.in_ok-host.ensures;
       command = sym (raw_values-rows f (codes "command") ∙ ap (all_of (codes "command")) rows)
           ∙ (sym c.get_strs.ensures ∙ (ap (option_map (λ s. map (λ v. v.now) s.now)) c.unwrap.ensures
-          ∙ ap (λ vs. Some (map (λ v. v.now) vs)) (sym (c.in_ok-words.ensures.items_if_clones_equal (λ x y same. same)))));
+          ∙ ap (λ vs. Some (map (λ v. v.now) vs))
+          (sym (c.in_ok-words.ensures.items_if_clones_equal (λ x y same. same)))));
     }
 
 pub returns-clause-refused : goal.returns-clause-refused

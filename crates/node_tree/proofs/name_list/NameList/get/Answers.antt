@@ -6,4 +6,6 @@ use Rattle.node_tree.proofs.Listed.{at_cookie}
 use Rattle.node_tree.proofs.name_list.NameList.get.Goals as goal
 
 pub returns : goal.returns
-returns g c = rw (← c.self.view_is) (c.get.ensures.value ∙ ap (lookup (is_at (nat_cmp c.args.cookie))) c.self.invariant.keyed_names ∙ at_cookie c.args.cookie _)
+returns g c =
+    rw (← c.self.view_is) (c.get.ensures.value
+    ∙ ap (lookup (is_at (nat_cmp c.args.cookie))) c.self.invariant.keyed_names ∙ at_cookie c.args.cookie _)

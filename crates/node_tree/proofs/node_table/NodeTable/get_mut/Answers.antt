@@ -12,9 +12,16 @@ returns-in-Some g c =
     let places = c.self.inside.places.entries in
     let there = sym c.place_of.ensures ∙ c.in-Some.is in
     rw (← c.self.view_is) (
-      λ t. read_of (ghost_name_of c.get_mut.result) (λ (w : Object). placed_written nodes places c.self.invariant c.args.number c.in-Some.place there w t) (placed nodes places),
-      record { writes_back = tt; value = c.get_mut.ensures.value ∙ found nodes places c.args.number c.in-Some.place c.self.invariant there },
+      λ t. read_of (ghost_name_of c.get_mut.result)
+      (λ (w : Object). placed_written nodes places c.self.invariant c.args.number c.in-Some.place there w t)
+      (placed nodes places),
+      record { writes_back = tt; value = c.get_mut.ensures.value
+          ∙ found nodes places c.args.number c.in-Some.place c.self.invariant there },
     )
 
 pub returns-in-None : goal.returns-in-None
-returns-in-None g c = rw (← c.self.view_is) (refl, record { writes_back = tt; value = sym (not_found c.self.inside.nodes c.self.inside.places.entries c.args.number (sym c.place_of.ensures ∙ c.in-None.is)) })
+returns-in-None g c =
+    rw (← c.self.view_is) (refl, record { writes_back = tt;
+    value =
+    sym (not_found c.self.inside.nodes c.self.inside.places.entries c.args.number
+    (sym c.place_of.ensures ∙ c.in-None.is)) })

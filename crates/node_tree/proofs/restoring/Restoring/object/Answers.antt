@@ -7,22 +7,41 @@ use Rattle.node_tree.proofs.Restorable.{may_put, IsBegun-object, one_stamp_more,
 use Rattle.node_tree.proofs.restoring.Restoring.object.Goals as goal
 
 pub put_object-requires-clause-bytes : goal.put_object-requires-clause-bytes
-put_object-requires-clause-bytes g c = (may_put c.args.self c.args.number (kept_object c.args.new c.args.kept) (sym c.if-not-object_fits.ensures)).fit.bytes
+put_object-requires-clause-bytes g c =
+    (may_put c.args.self c.args.number (kept_object c.args.new c.args.kept)
+    (sym c.if-not-object_fits.ensures)).fit.bytes
 
 pub put_object-requires-clause-last : goal.put_object-requires-clause-last
 put_object-requires-clause-last g c =
-    let may = may_put (record { world = c.self.inside.store; number = c.self.inside.number; cookie = c.self.inside.cookie }) c.args.number (kept_object c.args.new c.args.kept) (subst (λ (b : Begun). object_fits b c.args.number (kept_object c.args.new c.args.kept) ≡ true) (sym c.self.view_is) (sym c.if-not-object_fits.ensures)) in
-    Rises-later (λ e. e.0) 1 c.self.inside.number c.args.number c.self.inside.store.objects may.after c.self.invariant.numbered
+    let may =
+    may_put (record { world = c.self.inside.store; number = c.self.inside.number; cookie = c.self.inside.cookie })
+    c.args.number (kept_object c.args.new c.args.kept)
+    (subst (λ (b : Begun). object_fits b c.args.number (kept_object c.args.new c.args.kept) ≡ true) (sym c.self.view_is)
+    (sym c.if-not-object_fits.ensures)) in
+    Rises-later (λ e. e.0) 1 c.self.inside.number c.args.number c.self.inside.store.objects may.after
+    c.self.invariant.numbered
 
 pub overflow_add-self : goal.overflow_add-self
 overflow_add-self g c =
-    let may = may_put (record { world = c.self.inside.store; number = c.self.inside.number; cookie = c.self.inside.cookie }) c.args.number (kept_object c.args.new c.args.kept) (subst (λ (b : Begun). object_fits b c.args.number (kept_object c.args.new c.args.kept) ≡ true) (sym c.self.view_is) (sym c.if-not-object_fits.ensures)) in
+    let may =
+    may_put (record { world = c.self.inside.store; number = c.self.inside.number; cookie = c.self.inside.cookie })
+    c.args.number (kept_object c.args.new c.args.kept)
+    (subst (λ (b : Begun). object_fits b c.args.number (kept_object c.args.new c.args.kept) ≡ true) (sym c.self.view_is)
+    (sym c.if-not-object_fits.ensures)) in
     let before : c.args.number < c.self.inside.store.next_number = may.before in
     let few : c.self.inside.store.next_number ≤ 2 ^ 63 = c.self.invariant.counted.numbers in
     omega arith
 
 pub invariant_of-self : goal.invariant_of-self
 invariant_of-self g c =
-    let may = may_put (record { world = c.self.inside.store; number = c.self.inside.number; cookie = c.self.inside.cookie }) c.args.number (kept_object c.args.new c.args.kept) (subst (λ (b : Begun). object_fits b c.args.number (kept_object c.args.new c.args.kept) ≡ true) (sym c.self.view_is) (sym c.if-not-object_fits.ensures)) in
-    rw c.in_ok-put_object.ensures (IsBegun-object c.self.inside.store c.self.inside.number c.self.inside.cookie c.self.inside.numbers.items c.self.inside.stamps.keys c.self.invariant c.args.number (kept_object c.args.new c.args.kept) may
-    c.note_number.new.numbers.items c.note_stamp.new.stamps.keys c.in_ok-note_number.ensures (λ s. ap (list_any (is_at (nat_cmp s))) c.in_ok-note_stamp.ensures ∙ one_stamp_more s c.args.kept.stamp c.self.inside.stamps.keys))
+    let may =
+    may_put (record { world = c.self.inside.store; number = c.self.inside.number; cookie = c.self.inside.cookie })
+    c.args.number (kept_object c.args.new c.args.kept)
+    (subst (λ (b : Begun). object_fits b c.args.number (kept_object c.args.new c.args.kept) ≡ true) (sym c.self.view_is)
+    (sym c.if-not-object_fits.ensures)) in
+    rw c.in_ok-put_object.ensures (IsBegun-object c.self.inside.store c.self.inside.number c.self.inside.cookie
+    c.self.inside.numbers.items c.self.inside.stamps.keys c.self.invariant c.args.number
+    (kept_object c.args.new c.args.kept) may
+    c.note_number.new.numbers.items c.note_stamp.new.stamps.keys c.in_ok-note_number.ensures
+    (λ s. ap (list_any (is_at (nat_cmp s))) c.in_ok-note_stamp.ensures
+    ∙ one_stamp_more s c.args.kept.stamp c.self.inside.stamps.keys))

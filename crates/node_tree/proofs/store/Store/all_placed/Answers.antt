@@ -5,7 +5,9 @@ use Rattle.node_tree.specs.Restored.{is_placed}
 use Rattle.node_tree.proofs.store.Store.all_placed.Goals as goal
 
 pub returns-then-not-is_placed : goal.returns-then-not-is_placed
-returns-then-not-is_placed g c = sym (list_all_at (is_placed c.args.self.now) c.args.numbers.now c.loop-number.number-index 0 c.loop-number-test.true (sym c.if-not-is_placed.ensures))
+returns-then-not-is_placed g c =
+    sym (list_all_at (is_placed c.args.self.now) c.args.numbers.now c.loop-number.number-index 0 c.loop-number-test.true
+    (sym c.if-not-is_placed.ensures))
 
 pub loop-number-preserved : goal.loop-number-preserved
 loop-number-preserved g c =

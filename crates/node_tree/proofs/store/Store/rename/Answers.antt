@@ -4,4 +4,5 @@ use Rattle.node_tree.specs.Sound.{Rises}
 use Rattle.node_tree.proofs.store.Store.rename.Goals as goal
 
 pub replace-requires : goal.replace-requires
-replace-requires g c = subst (λ (w : World). Rises (λ n. n.cookie) 3 w.names w.next_cookie) (sym c.self.view_is) c.requires.listed
+replace-requires g c =
+    subst (λ (w : World). Rises (λ n. n.cookie) 3 w.names w.next_cookie) (sym c.self.view_is) c.requires.listed

@@ -11,7 +11,8 @@ pub invariant_of-self-2 : goal.invariant_of-self-2
 invariant_of-self-2 g c =
     let w = c.self.inside.store in
     let i = c.moved.inside in
-    let m : Moving = record { from = i.from; old = i.old.now; to = i.to; new = i.new.now; child = i.child; target = i.target } in
+    let m : Moving =
+    record { from = i.from; old = i.old.now; to = i.to; new = i.new.now; child = i.child; target = i.target } in
     let planned : IsMove w m = rw (c.self.view_is, c.moved.view_is) c.requires.planned in
     let tick : IsTick w c.args.at.tick = rw c.self.view_is c.requires.tick in
     let may : c.may_move.result ≡ true = search rules in
@@ -22,12 +23,15 @@ pub returns-clause-ok : goal.returns-clause-ok
 returns-clause-ok g c =
     let w = c.self.inside.store in
     let i = c.moved.inside in
-    let m : Moving = record { from = i.from; old = i.old.now; to = i.to; new = i.new.now; child = i.child; target = i.target } in
+    let m : Moving =
+    record { from = i.from; old = i.old.now; to = i.to; new = i.new.now; child = i.child; target = i.target } in
     let planned : IsMove w m = rw (c.self.view_is, c.moved.view_is) c.requires.planned in
-    rw (← c.self.view_is, ← c.moved.view_is) (c.in_ok-rename.ensures.ok ∙ renamed_with w m.from m.old m.to m.new m.child m.target c.args.at planned.child planned.target planned.other)
+    rw (← c.self.view_is, ← c.moved.view_is) (c.in_ok-rename.ensures.ok
+    ∙ renamed_with w m.from m.old m.to m.new m.child m.target c.args.at planned.child planned.target planned.other)
 
 pub returns-clause-judged : goal.returns-clause-judged
 returns-clause-judged g c =
     let w = c.self.inside.store in
     let i = c.moved.inside in
-    rw (← c.self.view_is) (subst (KeepsJudged w) (sym c.in_ok-rename.ensures.ok) (KeepsJudged-with_move w i.from i.old.now i.to i.new.now i.child i.target c.args.at))
+    rw (← c.self.view_is) (subst (KeepsJudged w) (sym c.in_ok-rename.ensures.ok)
+    (KeepsJudged-with_move w i.from i.old.now i.to i.new.now i.child i.target c.args.at))

@@ -12,5 +12,7 @@ loop-group-preserved c = rw c.insert-in-loop-group.ensures (record {
 
 pub returns : goal.returns
 returns c =
-    let all : take c.loop-group.group-index c.args.further.now ≡ c.args.further.now = take_all c.loop-group.group-index c.args.further.now (omega arith) in
-    c.with_groups.ensures ∙ ap (λ (groups : List ℕ). record { uid = c.args.uid; gid = c.args.gid; groups = groups }) (the_set _ _ c.loop-group.invariant.read ∙ ap (λ (t : List ℕ). group_set (c.args.gid ∷ t)) all)
+    let all : take c.loop-group.group-index c.args.further.now ≡ c.args.further.now =
+    take_all c.loop-group.group-index c.args.further.now (omega arith) in
+    c.with_groups.ensures ∙ ap (λ (groups : List ℕ). record { uid = c.args.uid; gid = c.args.gid; groups = groups })
+    (the_set _ _ c.loop-group.invariant.read ∙ ap (λ (t : List ℕ). group_set (c.args.gid ∷ t)) all)

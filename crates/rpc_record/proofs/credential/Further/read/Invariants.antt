@@ -5,4 +5,6 @@ use Rattle.xdr_wire.proofs.Items.{with_prefix}
 use Rattle.rpc_record.proofs.credential.Further.read.Given as goal
 
 abbrev pub invariant-loop : goal.invariant-loop
-invariant-loop l = (length l.groups ≡ l.counter) × (with_prefix l.groups (items_at (read_at uint) (l.count - l.counter) l.ahead) ≡ read_at (array 16 uint) l.fn.reader)
+invariant-loop l =
+    (length l.groups ≡ l.counter) × (with_prefix l.groups (items_at (read_at uint) (l.count - l.counter) l.ahead)
+    ≡ read_at (array 16 uint) l.fn.reader)

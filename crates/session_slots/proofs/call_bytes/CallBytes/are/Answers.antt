@@ -13,7 +13,9 @@ pub returns-in-Some : goal.returns-in-Some
 returns-in-Some c =
     let bytes = c.args.bytes.now in
     let prefix = c.args.self.prefix.now in
-    let stripped = subst (Stripped bytes prefix) c.in-Some.is (strip_prefix_is Decides-eqb bytes prefix c.strip_prefix.result c.strip_prefix.ensures.cases) in
+    let stripped =
+    subst (Stripped bytes prefix) c.in-Some.is
+    (strip_prefix_is Decides-eqb bytes prefix c.strip_prefix.result c.strip_prefix.ensures.cases) in
     joined prefix c.args.self.back.now bytes c.in-Some.back.now c.eq.result stripped c.eq.ensures
 
 pub returns-in-None : goal.returns-in-None
@@ -21,4 +23,5 @@ returns-in-None c =
     let bytes = c.args.bytes.now in
     let prefix = c.args.self.prefix.now in
     none_joined prefix c.args.self.back.now bytes
-    (subst (Stripped bytes prefix) c.in-None.is (strip_prefix_is Decides-eqb bytes prefix c.strip_prefix.result c.strip_prefix.ensures.cases))
+    (subst (Stripped bytes prefix) c.in-None.is
+    (strip_prefix_is Decides-eqb bytes prefix c.strip_prefix.result c.strip_prefix.ensures.cases))

@@ -13,19 +13,31 @@ use Rattle.tree_parts.proofs.forms.ListFormSpell.write.Goals as goal
 pub returns-then-is_err-clause-puts : goal.returns-then-is_err-clause-puts
 returns-then-is_err-clause-puts g c =
     let entries = c.args.self.entries.now in
-    subst (λ (b : List ℕ). (c.args.writer.now.room < length b) × (c.truncate.new.self ≡ c.args.writer.now)) (sym (sent_bytes entry_value entries))
-    (one_unwritten (λ e. spelling entry (entry_value e)) (λ e. HasSpelling entry (entry_value e)) c.args.writer.now c.loop-entry.writer c.write_entry.new.writer c.truncate.new.self (to_be_bytes w32 (length entries)) entries c.loop-entry.entry-index c.len-start.result _ _ c.write_entry.result
-    c.loop-entry-test.true refl c.len-start.ensures c.loop-entry.invariant c.write_entry.ensures.puts (sym c.if-is_err.ensures.value) c.truncate.ensures.bytes c.truncate.ensures.room)
+    subst (λ (b : List ℕ). (c.args.writer.now.room < length b) × (c.truncate.new.self ≡ c.args.writer.now))
+    (sym (sent_bytes entry_value entries))
+    (one_unwritten (λ e. spelling entry (entry_value e))
+    (λ e. HasSpelling entry (entry_value e)) c.args.writer.now c.loop-entry.writer c.write_entry.new.writer
+    c.truncate.new.self (to_be_bytes w32 (length entries))
+    entries c.loop-entry.entry-index c.len-start.result _ _ c.write_entry.result
+    c.loop-entry-test.true refl c.len-start.ensures c.loop-entry.invariant c.write_entry.ensures.puts
+    (sym c.if-is_err.ensures.value) c.truncate.ensures.bytes c.truncate.ensures.room)
 
 pub loop-entry-preserved : goal.loop-entry-preserved
 loop-entry-preserved g c =
-    one_written (λ e. spelling entry (entry_value e)) (λ e. HasSpelling entry (entry_value e)) c.args.writer.now c.loop-entry.writer c.write_entry.new.writer _ c.args.self.entries.now c.loop-entry.entry-index _ _ c.write_entry.result
-    c.loop-entry-test.true refl (sym c.if-is_err.ensures.value) c.write_entry.ensures.has_spelling c.write_entry.ensures.puts c.loop-entry.invariant
+    one_written (λ e. spelling entry (entry_value e))
+    (λ e. HasSpelling entry (entry_value e)) c.args.writer.now c.loop-entry.writer c.write_entry.new.writer _
+    c.args.self.entries.now c.loop-entry.entry-index _ _ c.write_entry.result
+    c.loop-entry-test.true refl (sym c.if-is_err.ensures.value)
+    c.write_entry.ensures.has_spelling c.write_entry.ensures.puts c.loop-entry.invariant
 
 pub returns-clause-has_spelling : goal.returns-clause-has_spelling
 returns-clause-has_spelling g c =
     let entries = c.args.self.entries.now in
-    let fit = all_fit (λ e. spelling entry (entry_value e)) (λ e. HasSpelling entry (entry_value e)) c.args.writer.now c.loop-entry.writer (to_be_bytes w32 (length entries)) entries _ (drop_all c.loop-entry.entry-index entries c.loop-entry-test.false) c.loop-entry.invariant in
+    let fit =
+    all_fit (λ e. spelling entry (entry_value e))
+    (λ e. HasSpelling entry (entry_value e)) c.args.writer.now c.loop-entry.writer
+    (to_be_bytes w32 (length entries)) entries _
+    (drop_all c.loop-entry.entry-index entries c.loop-entry-test.false) c.loop-entry.invariant in
     let count : length (map entry_value entries) ≡ length entries = simp length-map in
     (rw count c.args.self.within, rw count (omega (arith, c.args.self.within)), all_mapped entry_value entries fit)
 
@@ -33,4 +45,7 @@ pub returns-clause-puts : goal.returns-clause-puts
 returns-clause-puts g c =
     let entries = c.args.self.entries.now in
     subst (λ (b : List ℕ). Appends c.args.writer.now c.loop-entry.writer b) (sym (sent_bytes entry_value entries))
-    (all_written (λ e. spelling entry (entry_value e)) (λ e. HasSpelling entry (entry_value e)) c.args.writer.now c.loop-entry.writer (to_be_bytes w32 (length entries)) entries _ (drop_all c.loop-entry.entry-index entries c.loop-entry-test.false) c.loop-entry.invariant)
+    (all_written (λ e. spelling entry (entry_value e))
+    (λ e. HasSpelling entry (entry_value e)) c.args.writer.now c.loop-entry.writer
+    (to_be_bytes w32 (length entries)) entries _
+    (drop_all c.loop-entry.entry-index entries c.loop-entry-test.false) c.loop-entry.invariant)

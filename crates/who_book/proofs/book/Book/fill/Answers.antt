@@ -17,21 +17,26 @@ pub to_number-requires-2 : goal.to_number-requires-2
 to_number-requires-2 c = passed c.args.outline.now.root_group (fits _ c.requires.in_range).root_group
 
 pub to_number-requires-3 : goal.to_number-requires-3
-to_number-requires-3 c = passed c.args.outline.now.root_mode (up_to_more c.args.outline.now.root_mode (fits _ c.requires.in_range).root_mode)
+to_number-requires-3 c =
+    passed c.args.outline.now.root_mode (up_to_more c.args.outline.now.root_mode (fits _ c.requires.in_range).root_mode)
 
 pub returns-clause-answer : goal.returns-clause-answer
 returns-clause-answer c =
     let users = rw c.as_slice.ensures.value at c.in_ok-users.ensures.built in
     let groups = rw c.as_slice-2.ensures.value at c.in_ok-groups.ensures.built in
     let members = c.in_ok-members.ensures in
-    kept_fills (outline_of c.args.outline.now) _ _ _ _ c.in_ok-users.users c.in_ok-groups.groups _ c.requires.in_range c.in_ok-domain.ensures.ok c.to_number.ensures c.to_number-2.ensures c.to_number-3.ensures users.0 groups.0 members.0
+    kept_fills (outline_of c.args.outline.now)
+    _ _ _ _ c.in_ok-users.users c.in_ok-groups.groups _ c.requires.in_range c.in_ok-domain.ensures.ok
+    c.to_number.ensures c.to_number-2.ensures c.to_number-3.ensures users.0 groups.0 members.0
     (or_from _ _ users.1 groups.1) members.1.1
 
 pub returns-clause-book : goal.returns-clause-book
 returns-clause-book c =
     let users = rw c.as_slice.ensures.value at c.in_ok-users.ensures.built in
     let groups = rw c.as_slice-2.ensures.value at c.in_ok-groups.ensures.built in
-    kept_book (outline_of c.args.outline.now) _ _ _ _ c.in_ok-users.users c.in_ok-groups.groups _ c.requires.in_range c.in_ok-domain.ensures.ok c.to_number.ensures c.to_number-2.ensures c.to_number-3.ensures users.0 groups.0 c.in_ok-members.ensures.0
+    kept_book (outline_of c.args.outline.now)
+    _ _ _ _ c.in_ok-users.users c.in_ok-groups.groups _ c.requires.in_range c.in_ok-domain.ensures.ok
+    c.to_number.ensures c.to_number-2.ensures c.to_number-3.ensures users.0 groups.0 c.in_ok-members.ensures.0
     c.in_ok-users.ensures.table c.in_ok-groups.ensures.table
 
 pub invariant_of-result : goal.invariant_of-result
@@ -40,9 +45,16 @@ invariant_of-result c =
     let groups = rw c.as_slice-2.ensures.value at c.in_ok-groups.ensures.built in
     let members = c.in_ok-members.ensures in
     record {
-      book = kept_book (outline_of c.args.outline.now) _ _ _ _ c.in_ok-users.users c.in_ok-groups.groups _ c.requires.in_range c.in_ok-domain.ensures.ok c.to_number.ensures c.to_number-2.ensures c.to_number-3.ensures users.0 groups.0 c.in_ok-members.ensures.0
+      book =
+          kept_book (outline_of c.args.outline.now)
+          _ _ _ _ c.in_ok-users.users c.in_ok-groups.groups _ c.requires.in_range c.in_ok-domain.ensures.ok
+          c.to_number.ensures c.to_number-2.ensures c.to_number-3.ensures users.0 groups.0 c.in_ok-members.ensures.0
           c.in_ok-users.ensures.table c.in_ok-groups.ensures.table;
       members = c.in_ok-members.ensures.1.0;
-      text = rw c.in_ok-text.ensures.ok (c.requires.text ∙ kept_fills (outline_of c.args.outline.now) _ _ _ _ c.in_ok-users.users c.in_ok-groups.groups _ c.requires.in_range c.in_ok-domain.ensures.ok c.to_number.ensures c.to_number-2.ensures c.to_number-3.ensures users.0 groups.0 members.0
+      text =
+          rw c.in_ok-text.ensures.ok (c.requires.text
+          ∙ kept_fills (outline_of c.args.outline.now)
+          _ _ _ _ c.in_ok-users.users c.in_ok-groups.groups _ c.requires.in_range c.in_ok-domain.ensures.ok
+          c.to_number.ensures c.to_number-2.ensures c.to_number-3.ensures users.0 groups.0 members.0
           (or_from _ _ users.1 groups.1) members.1.1);
     }

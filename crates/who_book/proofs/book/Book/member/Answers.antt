@@ -11,4 +11,5 @@ returns c =
     let known = rw c.in-Some.is at c.self.invariant.members in
     rw (← c.self.view_is, c.with_groups.ensures, c.uid-2.ensures)
     (taken_for _ c.args.caller.now c.self.inside.users (groups_in c.in-Some.members) _ _ (rw c.in-Some.is refl) known
-    (c.groups_of-groups.ensures ∙ ap (groups_in c.in-Some.members) c.uid.ensures) (rw c.gid.ensures at c.gid_among-gid.ensures))
+    (c.groups_of-groups.ensures ∙ ap (groups_in c.in-Some.members) c.uid.ensures)
+    (rw c.gid.ensures at c.gid_among-gid.ensures))

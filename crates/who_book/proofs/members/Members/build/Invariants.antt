@@ -8,7 +8,8 @@ use Rattle.who_book.proofs.members.Members.build.Given as goal
 
 abbrev pub invariant-loop-roll : goal.invariant-loop-roll
 invariant-loop-roll l = record {
-  each : (n : ℕ) → groups_in l.members n ≡ groups_with l.groups (rolls_of (take l.roll-index l.rolls)) (name_at n l.users);
+  each : (n : ℕ) → groups_in l.members n ≡ groups_with l.groups (rolls_of (take l.roll-index l.rolls))
+      (name_at n l.users);
   taken : list_all (is_roll l.users l.groups) (rolls_of (take l.roll-index l.rolls)) ≡ true;
   few : (n : ℕ) → length (groups_in l.members n) ≤ 17;
 }

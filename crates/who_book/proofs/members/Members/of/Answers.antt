@@ -9,4 +9,5 @@ returns-in_ok-build-in-Some c =
     let (each, agreed) = rw c.as_slice.ensures.value at c.in_ok-build-in-Some.ensures in
     let rolls = rolls_of c.in-Some.rolls.items in
     let index = groups_in c.in_ok-build-in-Some.field-0 in
-    rw c.in-Some.is (ap Some (same_memberships c.args.users.now c.args.groups.now rolls index each c.requires.users), (knows_none c.args.users.now c.args.groups.now rolls index each, agreed))
+    rw c.in-Some.is (ap Some (same_memberships c.args.users.now c.args.groups.now rolls index each c.requires.users),
+    (knows_none c.args.users.now c.args.groups.now rolls index each, agreed))

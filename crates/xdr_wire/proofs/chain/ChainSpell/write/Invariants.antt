@@ -8,7 +8,8 @@ abbrev pub invariant-loop-item : goal.invariant-loop-item
 invariant-loop-item g l =
     let form = g.T.Spell.form in
     let normal = g.T.Spell.normal in
-    Going (link (spelling form)) (λ v. HasSpelling form v × (normalized normal v ≡ v)) l.fn.writer [] (chain_values form normal l.fn.self.bytes.now) l.writer (chain_values form normal l.left.bytes.now)
+    Going (link (spelling form)) (λ v. HasSpelling form v × (normalized normal v ≡ v)) l.fn.writer []
+    (chain_values form normal l.fn.self.bytes.now) l.writer (chain_values form normal l.left.bytes.now)
 
 abbrev pub decreases-loop-item : goal.decreases-loop-item
 decreases-loop-item g l = length (chain_values g.T.Spell.form g.T.Spell.normal l.left.bytes.now)
