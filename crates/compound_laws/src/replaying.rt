@@ -33,7 +33,7 @@ pub fn operations_see_no_session()
         (record { realm = with_sessions sessions new.realm; log = last; settings = settings; handles = new.handles }) }
 {}
 
-/// A call that a server ran is new in each state that covers the server's, and can be replayed there. It has the same
+/// A call that a server ran is new in each state that covers the server's, and can be replayed in it. It has the same
 /// reply, and its end state covers the server's (`again`). After a call that isn't logged, a covering state still
 /// covers the server's, unchanged (`idle`).
 pub fn kept_calls_run_again()

@@ -40,10 +40,10 @@ pub record Seen (A : Type 0) : Type 0 where
   pub hub : Hub A
   pub acts : Option (List Act)
 
--- **Serving all streams.** The hub represents a state to which these events bring the machine. From there the acts run
--- the machine, each allowed when it happens. The numbers of waits and of connections are within the limits. Then the
--- streams that are still at places are closed, and no connection since the start is open. The acts of the streams are
--- exactly those of these acts that are calls of the streams and of the disk. The hub represents the state that the
+-- **Serving all streams.** The hub represents a state to which these events bring the machine. From that state the acts
+-- run the machine, each allowed when it happens. The numbers of waits and of connections are within the limits. Then
+-- the streams that are still at places are closed, and no connection since the start is open. The acts of the streams
+-- are exactly those of these acts that are calls of the streams and of the disk. The hub represents the state that the
 -- machine reaches. With a store, a crash after any of the acts leaves the effects of every call whose reply was
 -- written.
 pub record ServesAll {A : Type 0} (first : ServedState) (events : List Event) (means : Means) (end : AllEnd)

@@ -2,7 +2,7 @@
 use Rattle.std.specs.Prelude.{ℕ, List, Option}
 
 pub record Moving : Type 0 where
-  -- the child's directory, and its name there
+  -- the child's directory, and its name in it
   pub from : ℕ
   pub old : List ℕ
   -- the directory of the new name, and the new name

@@ -10,7 +10,7 @@ use std::marker::Model;
 pub struct Move<'a> {
     /// The number of the child's directory.
     pub(crate) from: u64,
-    /// The name of the child there.
+    /// The name of the child in that directory.
     pub(crate) old: &'a [u8],
     /// The number of the directory of the new name.
     pub(crate) to: u64,

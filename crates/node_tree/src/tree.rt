@@ -198,8 +198,8 @@ impl<A: Allocator + Copy> Tree<A> {
         self.store.next_cookie()
     }
 
-    /// The least number above another one that has an object. No object has the number 0. So the objects of a tree are
-    /// that of the number after 0, that of the number after that one, and so on.
+    /// The least number above another one that has an object. No object has the number 0. The objects of a tree are
+    /// therefore that of the number after 0, that of the number after that one, and so on.
     pub fn number_after(&self, number: u64) -> Option<u64>
         ensures { result ≡ number_after self.now number }
     {

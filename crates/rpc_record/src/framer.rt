@@ -17,9 +17,9 @@ const LAST: u32 = 1 << 31;
 /// A step in a piece from `at` on. After `Part` and `Record` the next call continues at their second number.
 #[derive(Clone, Copy, Debug, PartialEq, Eq)]
 pub enum Step {
-    /// The bytes of the piece from the first to the second number belong to the record. There may be none.
+    /// The bytes of the piece from the first to the second number, possibly none, belong to the record.
     Part(usize, usize),
-    /// The bytes of the piece from the first to the second number end the record. There may be none.
+    /// The bytes of the piece from the first to the second number, possibly none, end the record.
     Record(usize, usize),
     /// The piece is consumed.
     NeedMore,
