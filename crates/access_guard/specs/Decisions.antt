@@ -24,8 +24,7 @@ answer object mask (verdicts.Missing bit) = Refused object mask (Missing bit)
 -- Whether a name of the target may be removed from the parent (RFC 8881, section 6.2.1.3.2). DELETE in the target's ACL
 -- decides, and DELETE_CHILD and ADD_FILE in the parent's. An ALLOW of DELETE or of DELETE_CHILD suffices, whatever the
 -- other ACL has. ADD_FILE suffices if no ACE matches DELETE and none DELETE_CHILD. A refusal names the parent's DENY of
--- DELETE_CHILD if there is one. Otherwise it names the target's DENY of DELETE if there is one, else the refusal of
--- ADD_FILE.
+-- DELETE_CHILD, if any. Otherwise it names the target's DENY of DELETE, if any, else the refusal of ADD_FILE.
 abbrev pub removal : ℕ → ℕ → FirstMatch → FirstMatch → Verdict → Decision
 removal parent target (AllowedBy index) on_parent add = Granted
 removal parent target (DeniedBy index) (AllowedBy other) add = Granted

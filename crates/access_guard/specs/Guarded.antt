@@ -1,5 +1,5 @@
 -- A tree beside the guard of its access control lists, and the book of its callers. It doesn't have the remembered
--- summaries, but it has how many there may be.
+-- summaries, but it has the limit on their number.
 use Rattle.std.specs.Prelude.{ℕ, []}
 use Rattle.who_book.specs.Content.{Content}
 use Rattle.node_tree.specs.World.{World}

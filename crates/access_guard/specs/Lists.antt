@@ -14,7 +14,7 @@ use Rattle.acl_list.specs.declared.answer.FirstMatch.TheVariants.{Unmatched}
 use Rattle.acl_list.specs.declared.answer.Summary.{Summary}
 use Rattle.node_tree.specs.Judged.{Judged}
 
--- the access attributes of the object of each number, if there is one
+-- the access attributes of the object of each number, if any
 abbrev pub Lists : Type 0
 Lists = ℕ → Option Judged
 

@@ -1,2 +1,2 @@
--- What private contracts, invariants and proofs name. No public contract reaches it.
+-- Definitions that only private contracts, invariants and proofs name. No public contract reaches them.
 pub mod Keys

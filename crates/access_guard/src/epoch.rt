@@ -5,7 +5,7 @@ ghost use Rattle.access_guard.specs.Epochs as specs;
 /// The epoch of the first book.
 pub const FIRST_EPOCH: u64 = 1;
 
-/// The epoch after this one. `None`: there is none from 2^63 on.
+/// The epoch after this one. `None`: none follows from 2^63 on.
 pub fn next_epoch(epoch: u64) -> Option<u64>
     ensures { result ≡ specs.next_epoch epoch }
 {

@@ -38,8 +38,8 @@ use std::num::NonZeroUsize;
 use who_book::Book;
 
 /// A tree, the guard of its access control lists (ACLs), and the book of its callers. The guard's remembered summaries
-/// agree with the current ACLs, through every change of the tree and every reload of the book. So no function here has
-/// a condition on them.
+/// agree with the current ACLs, through every change of the tree and every reload of the book. No function here
+/// therefore has a condition on them.
 #[derive(Drop)]
 pub struct GuardedTree<A: Allocator = Global> {
     tree: Tree<A>,
@@ -145,8 +145,8 @@ impl<A: Allocator + Copy> GuardedTree<A> {
 // The book. None of these calls allocates memory.
 impl<A: Allocator + Copy> GuardedTree<A> {
     /// Loads another book, and returns the old one. The epoch rises by 1, so that no summary that was remembered under
-    /// the old book is used again. The tree, the lines and the trail stay. `Err`: there is no next epoch
-    /// ([`next_epoch`]), the new book is returned, and nothing changes.
+    /// the old book is used again. The tree, the lines and the trail stay. `Err`: no epoch is left ([`next_epoch`]),
+    /// the new book is returned, and nothing changes.
     pub fn reload(&mut self, book: Book) -> Result<Book, Book>
         ensures given { MatchOption (epochs.next_epoch self.old.epoch) (result ≡ Err book)
             (λ epoch. result ≡ Ok self.old.book) }

@@ -25,7 +25,7 @@ use Rattle.access_rows.specs.declared.facts.Second.{Second}
 
 -- ---- demands
 
--- permissions on an object; without an object or a bit there is no demand
+-- permissions on an object; without an object or a bit nothing is demanded
 abbrev pub bits : Option Object → ℕ → Option Demand
 bits None mask = None
 bits (Some o) mask = if mask == 0 then None else Some (Bits o.number mask)

@@ -103,7 +103,7 @@ pub fn entry_demands(asked: &Bitmap, entry: Option<Object>) -> [Option<Demand>; 
 
 // ---- demands
 
-/// Permissions on an object. `None`: there is no object, or no permission.
+/// Permissions on an object. `None`: no object is given, or no permission.
 fn bits(object: Option<Object>, mask: u32) -> Option<Demand>
     ensures { result ≡ specs.bits object mask }
 {
@@ -215,7 +215,7 @@ fn sizing_mask(size: Option<u64>, new_size: Option<u64>) -> u32
     }
 }
 
-/// The permissions for writing this many bytes.
+/// The permissions for writing `count` bytes.
 fn writing_mask(size: Option<u64>, offset: u64, count: u64) -> u32
     ensures { result ≡ specs.writing_mask size offset count }
 {

@@ -41,7 +41,7 @@ fn command<'a>(alloc: Global) -> Result<Command<'a>, AllocError> {
 }
 
 impl Options {
-    /// Reads the words, of which the first is the program's name. An error is `clap`'s own, with the text for the user.
+    /// Reads the words. The first is the program's name. An error is `clap`'s own, with the text for the user.
     pub(crate) fn read(alloc: Global, words: &[String]) -> Result<Options, Error> {
         let matches = command(alloc)?.try_get_matches_from(words)?;
         Ok(Options {

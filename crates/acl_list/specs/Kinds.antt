@@ -9,7 +9,7 @@ kind_number Deny = 1
 kind_number Audit = 2
 kind_number Alarm = 3
 
--- the type with this number, if there is one
+-- the type with this number, if any
 abbrev pub kind_of : ℕ → Option EntryKind
 kind_of number =
     if number == 0 then Some Allow else if number == 1 then Some Deny else if number == 2 then Some Audit else if number

@@ -1,4 +1,4 @@
-//! What an access control list (ACL) answers: a verdict, the access control entry (ACE) that decides a bit, and a
+//! The answers of an access control list (ACL): a verdict, the access control entry (ACE) that decides a bit, and a
 //! summary.
 
 /// The verdict of an ACL on a mask (RFC 8881, section 6.2.1).

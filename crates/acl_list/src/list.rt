@@ -70,7 +70,7 @@ impl<A: Allocator> AclList<A> {
         self.entries.len()
     }
 
-    /// Whether there are no ACEs.
+    /// Whether the ACL has no ACEs.
     pub fn is_empty(&self) -> bool
         ensures { result ≡ (length self.now == 0) }
     {

@@ -27,7 +27,7 @@ by_add_file verdicts.Granted = ByAddFile
 by_add_file (verdicts.Denied index) = AddFileDenied index
 by_add_file (verdicts.Missing bit) = AddFileMissing
 
--- by the access control entry (ACE) that decides DELETE_CHILD on the parent, if there is one
+-- by the access control entry (ACE) that decides DELETE_CHILD on the parent, if any
 abbrev pub by_parent : FirstMatch → RemovalReason → RemovalReason
 by_parent (AllowedBy index) unmatched = ByDeleteChild index
 by_parent (DeniedBy index) unmatched = DeleteChildDenied index

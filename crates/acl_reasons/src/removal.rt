@@ -75,7 +75,7 @@ fn by_first_matches(on_target: FirstMatch, on_parent: FirstMatch, add: Verdict) 
     }
 }
 
-/// The reason by the parent's ACE that decides DELETE_CHILD, if there is one.
+/// The reason by the parent's ACE that decides DELETE_CHILD, if any.
 fn by_parent(on_parent: FirstMatch, unmatched: RemovalReason) -> RemovalReason
     ensures { result ≡ specs.by_parent on_parent unmatched }
 {

@@ -92,7 +92,7 @@ fn is_decided_before<A: Allocator>(
         && is_earlier(first_match_at(list, owner, group, caller, place), index)
 }
 
-/// Whether there is an ACE at the index, which applies and has the bit at this place.
+/// Whether an ACE is at the index, applies, and has the bit at this place.
 fn counts_at<A: Allocator>(
     list: &AclList<A>,
     owner: u32,

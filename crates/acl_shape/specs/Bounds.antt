@@ -13,7 +13,7 @@ keeps e =
     not (allows_or_denies e.kind) || has_bit e.flags inherit_only || not (is_special e.who)
     || has_bit e.flags file_inherit || has_bit e.flags directory_inherit
 
--- at most 64 ACEs, of which a new mode keeps at most 59, which leaves room for the five that it adds
+-- at most 64 ACEs; a new mode keeps at most 59 of them, and has room for the five that it adds
 pub record IsBounded (entries : List Entry) : Type 0 where
   pub all : length entries ≤ 64
   pub kept : count_by keeps entries ≤ 59

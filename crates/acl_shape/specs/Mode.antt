@@ -75,8 +75,8 @@ without mask other = bit_and mask (bit_not w32 other)
 abbrev pub set_aside : Entry → Entry
 set_aside e = record e { flags = bit_or e.flags flag.INHERIT_ONLY }
 
--- What a new mode keeps of an ACE; `lacking` are the mask bits that the group's three bits lack. AUDIT, ALARM and
--- INHERIT_ONLY ACEs neither allow nor deny anything on the object, and stay. Other ALLOW and DENY ACEs of OWNER@,
+-- The part of an ACE that a new mode keeps; `lacking` are the mask bits that the group's three bits lack. AUDIT, ALARM
+-- and INHERIT_ONLY ACEs neither allow nor deny anything on the object, and stay. Other ALLOW and DENY ACEs of OWNER@,
 -- GROUP@ and EVERYONE@ are dropped; the inheritable ones stay as INHERIT_ONLY. The DENY ACEs of a named user or group
 -- stay. Its ALLOW ACEs lose the bits that the group's three bits don't allow.
 abbrev pub kept : ℕ → Entry → Option Entry

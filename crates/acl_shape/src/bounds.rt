@@ -12,9 +12,8 @@ pub const MAX_ENTRIES: usize = 64;
 /// The largest number of ACEs that a new mode keeps, and that a client may ask for: a new mode adds five.
 pub const MAX_KEPT: usize = 59;
 
-/// Whether the ACL of an object may have these ACEs: at most [`MAX_ENTRIES`], of which a new mode keeps at most
-/// [`MAX_KEPT`]. An ACL that this crate makes from one within these bounds is within them too. The function allocates
-/// nothing.
+/// Whether the ACL of an object may have these ACEs: at most [`MAX_ENTRIES`], and at most [`MAX_KEPT`] that a new mode
+/// keeps. An ACL that this crate makes from one within these bounds is within them too. The function allocates nothing.
 pub fn is_bounded<A: Allocator>(list: &AclList<A>) -> bool
     ensures { IsTrue result ↔ IsBounded list.now }
 {

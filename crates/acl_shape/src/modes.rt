@@ -104,7 +104,7 @@ fn plain(kind: EntryKind, mask: u32, who: Who) -> Entry
 ///
 /// Only the lowest nine bits of `mode` count. Two ACEs for OWNER@ come first. The kept ACEs follow, in their order. Two
 /// ACEs for GROUP@ and one for EVERYONE@ come last. The class bits are READ_DATA to read, WRITE_DATA and APPEND_DATA
-/// (on a directory also DELETE_CHILD) to write, EXECUTE to execute. What is kept of an ACE depends on its flags
+/// (on a directory also DELETE_CHILD) to write, EXECUTE to execute. The kept part of an ACE depends on its flags
 /// FILE_INHERIT (1), DIRECTORY_INHERIT (2) and INHERIT_ONLY (8):
 ///
 /// | Type | Principal | 8 set | 8 not set, 1 or 2 set | 1, 2 and 8 not set |

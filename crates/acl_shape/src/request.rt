@@ -19,7 +19,7 @@ pub struct Raw {
 /// Why an ACL is refused.
 #[derive(Clone, Copy, Debug, PartialEq, Eq, Error)]
 pub enum AdmitFault {
-    /// NFS4ERR_NOSPC: there are more than [`crate::MAX_KEPT`] ACEs.
+    /// NFS4ERR_NOSPC: the ACL has more than [`crate::MAX_KEPT`] ACEs.
     #[error("a list of more than 59 entries")]
     NoSpc,
     /// NFS4ERR_ATTRNOTSUPP: the type of an ACE is above 3.

@@ -1,4 +1,4 @@
--- The help on a field: what is valid there.
+-- The help on a field: the texts that are valid in it.
 use Rattle.std.specs.Prelude.{ℕ, List, codes}
 use Rattle.acl_words.specs.declared.field.Field.{Field}
 use Rattle.acl_words.specs.declared.field.Field.TheVariants.{Form, EntryType, Flags, Permissions, Principal}

@@ -1,11 +1,12 @@
-//! The field of an access control entry (ACE) that can't be read, and what is valid there.
+//! The field of an access control entry (ACE) that can't be read, and the texts that are valid in
+//! it.
 ghost use Rattle.std.specs.Prelude.{◌≡◌};
 ghost use Rattle.acl_words.specs.Help as specs;
 
 /// The first field of an ACE that can't be read, in this order.
 #[derive(Clone, Copy, Debug, PartialEq, Eq)]
 pub enum Field {
-    /// There are fewer than three colons.
+    /// The text has fewer than three colons.
     Form,
     /// The type isn't one of the four letters.
     EntryType,
@@ -13,12 +14,12 @@ pub enum Field {
     Flags,
     /// The permissions aren't letters or aliases of permissions, or numbers after a `+`.
     Permissions,
-    /// The book has no such user or group.
+    /// The book doesn't have the user or the group.
     Principal,
 }
 
 impl Field {
-    /// A text that says what is valid in the field.
+    /// A text that states what is valid in the field.
     pub fn help(self) -> &'static str
         ensures { result.now ≡ specs.help_text self }
     {

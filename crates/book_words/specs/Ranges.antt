@@ -4,7 +4,7 @@ use Rattle.toml.specs.Data.{Members}
 use Rattle.who_book.specs.Content.{is_domain}
 use Rattle.who_book.specs.Document.{is_up_to, integer_at}
 
--- there is a sentence if and only if something isn't right
+-- a sentence is given if and only if something isn't right
 abbrev pub Reports : {X : Type 0} → Bool → Option X → Type 0
 Reports right None = right ≡ true
 Reports right (Some words) = right ≡ false

@@ -1,4 +1,4 @@
-//! Explains in a sentence why a text isn't a book of names: the key, the names, the line, and what is valid there.
+//! Explains in a sentence why a text isn't a book of names: the key, the names, the line, and the valid values.
 #![tactic(auto)]
 
 mod members;

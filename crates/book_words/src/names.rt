@@ -149,7 +149,7 @@ fn number(alloc: Global, name: &str, number: Option<i64>) -> Result<Option<Strin
     Ok(Some(words))
 }
 
-/// Explains the first name or number of a table that is out of range, or that there are too many names.
+/// Explains the first name or number of a table that is out of range, or that the names are too many.
 fn rows(alloc: Global, table: &Table, key: &str) -> Result<Option<String>, AllocError> {
     let Some(names) = names_at(table, key) else {
         return Ok(None);

@@ -1,4 +1,4 @@
--- What a crash leaves of a store, at any moment.
+-- The content of a store after a crash, at any moment.
 use Rattle.std.specs.Prelude.{◌≡◌, ◌≢◌, ◌⊎◌, ℕ, List, [], ◌∷◌, Option, Some, None, Ok}
 use Rattle.store_journal.specs.declared.current.Current.{Current}
 use Rattle.store_journal.specs.declared.disk.Slot.TheVariants.{A, B}
@@ -25,7 +25,7 @@ AreOpposite None b = Unit {0}
 AreOpposite (Some a) None = Unit {0}
 AreOpposite (Some a) (Some b) = a.current.slot ≡ other b.current.slot
 
--- there is one log, or there are two, in different files
+-- the logs are one, or two in different files
 abbrev pub AreFew : List (Option Log) → Type 0
 AreFew [] = ⊥
 AreFew (log ∷ []) = Unit {0}
@@ -40,8 +40,8 @@ pub record LogsRepresent (states : List State) (logs : List (Option Log)) (acts 
   pub each : (log : Log) (content : Content) → IsIn (Some log) logs → HasAll log (Some content)
       → Keeps states log content
 
--- what is chosen of the file represents one of these states, and the file isn't refused as corrupt; the exception is a
--- checksum collision
+-- the content that is chosen from the file represents one of these states, and the file isn't refused as corrupt; the
+-- exception is a checksum collision
 pub record Survives (states : List State) (log : Log) (c : Current) (file : Bytes) : Type 0 where
   pub chosen : (content : Option Content) (position : Position) (at : ℕ) (bytes : Bytes)
       → Chooses c file content position at bytes
@@ -70,8 +70,8 @@ CrashLaw =
     → (found : Option Bytes) → MayRead (on_current acts) found
     → (a b : Bytes) → MayLeave (on_disk A acts) a → MayLeave (on_disk B acts) b → LeavesOne states logs found a b
 
--- **Some logs represent these states.** `None` is among them only if it was among those before. So a finished
--- checkpoint is never abandoned.
+-- **Some logs represent these states.** `None` is among them only if it was among those before. A finished checkpoint
+-- is therefore never abandoned.
 abbrev pub RepresentAfter : List (Option Log) → List State → List Act → Type 0
 RepresentAfter before states acts =
     (logs : List (Option Log)) × LogsRepresent states logs acts × (IsIn None logs → IsIn None before)

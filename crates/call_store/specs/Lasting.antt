@@ -1,4 +1,4 @@
--- What is stored represents a server: after a checkpoint, after records, and after a start.
+-- The stored content represents a server: after a checkpoint, after records, and after a start.
 use Rattle.std.specs.Prelude.{◌≡◌, ◌≤◌, true, List, [], ◌∷◌, ◌++◌, Some}
 use Rattle.store_journal.specs.Disk.{Bytes}
 use Rattle.store_journal.specs.Files.{Content}

@@ -20,8 +20,8 @@ use Rattle.call_store.specs.Stopping.{RestoresNothing, StartGives}
 
 -- ---- the checkpoint alone
 
--- A server is restored from a checkpoint. The entries after it are of this machine, or there are none. Or no server is
--- restored, for this reason.
+-- A server is restored from a checkpoint. Any entries after it are of this machine. Or no server is restored, for this
+-- reason.
 abbrev pub BeginningGives : ℕ → Content → Result State StoreFault → Type 0
 BeginningGives machine content (Ok q) = IsOwn machine content × Restores content.parts q
 BeginningGives machine content (Err Failed) = ⊥

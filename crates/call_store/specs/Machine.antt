@@ -6,10 +6,10 @@ use Rattle.store_journal.specs.Files.{Content}
 abbrev pub MACHINE : ℕ
 MACHINE = 1
 
--- all entries are of this machine, or there are none
+-- any entries are of this machine
 abbrev pub IsOwn : ℕ → Content → Type 0
 IsOwn machine content = (machine ≡ MACHINE) ⊎ (content.records ≡ [])
 
--- there are entries of another machine
+-- some entries are of another machine
 abbrev pub IsForeign : ℕ → Content → Type 0
 IsForeign machine content = (machine ≢ MACHINE) × (content.records ≢ [])

@@ -36,7 +36,7 @@ fault_of_journal journal.Full = Full
 fault_of_journal journal.NoCheckpoint = Full
 fault_of_journal journal.Failed = Failed
 
--- ---- what was found
+-- ---- the found content
 
 -- CURRENT, the content of its file, where the next frame goes, and the last frame with its place
 pub record Sight : Type 0 where
@@ -61,7 +61,7 @@ pub record Misses {D : Type 0} (p : Passage D) (why : OpenFault) : Type 0 where
   pub some : current.generation ≢ 0
   pub refuses : RefusedFor current file why
 
--- ---- going on
+-- ---- continuing
 
 -- A start replayed to a state, and the journal wasn't resumed, for this reason.
 pub record Halts {D : Type 0} (p : Passage D) (x : Sight) (fault : StoreFault) : Type 0 where
@@ -71,9 +71,9 @@ pub record Halts {D : Type 0} (p : Passage D) (x : Sight) (fault : StoreFault) :
   pub fault_is : fault ≡ fault_of_journal why
   pub resumes : ResumeGives p x.current x.position x.last_at x.last (Err why)
 
--- what a store is when it is opened
+-- the state of a store when it is opened
 pub data Ending : Type 0 where
-  -- no checkpoint was finished yet: there is no CURRENT, or it is this one
+  -- no checkpoint was finished yet: CURRENT doesn't exist, or it is this one
   IsNew : Option Current → Ending
   -- a store with the state to which a start replayed
   Started : Store → State → Ending
@@ -96,7 +96,7 @@ GoesOn p x (Ok (Started store q)) =
     × (store ≡ resumed_store store.journal x.content)
 GoesOn p x (Err fault) = (StartGives x.current.machine x.content (Err fault) × Unchanged p) ⊎ Halts p x fault
 
--- The content of the disk was seen, and then the start went on from it.
+-- The content of the disk was seen, and then the start continued from it.
 pub record SeesThen {D : Type 0} (p : Passage D) (result : Result Ending StoreFault) : Type 0 where
   pub mid : D
   pub sight : Sight

@@ -19,7 +19,7 @@ use Rattle.call_store.specs.Stopping.{RestoresNothing, StopsIn, StopsAmong}
 abbrev pub content_of : List Bytes → List Bytes → Content
 content_of parts records = record { parts = parts; records = records }
 
--- what was chosen of a file
+-- the content that was chosen from a file
 abbrev pub sight_of : {A : Type 0} → Chosen A → Sight
 sight_of chosen = record {
   current = chosen.current;

@@ -34,7 +34,8 @@ pub record AfterFault (s t : State) (store : Store) (acts : List Act) : Type 0 w
   pub represents : KeptRepresent (s ∷ t ∷ []) acts
   pub stops : (store.journal.has_failed ≡ true) ⊎ Serving store s acts
 
--- A call that a crash interrupts counts as one that fails. So a crash at any moment of it leaves one of the two states.
+-- A call that a crash interrupts counts as one that fails. A crash at any moment of it therefore leaves one of the two
+-- states.
 abbrev pub AfterCall : State → State → Result (Unit {0}) StoreFault → Store → List Act → Type 0
 AfterCall s t (Ok done) store acts = Serving store t acts
 AfterCall s t (Err fault) store acts = AfterFault s t store acts

@@ -9,7 +9,7 @@ use Rattle.checkpoint.specs.Writing.{size_of}
 use Rattle.call_store.specs.declared.store.Store.{Store}
 use Rattle.call_store.specs.Machine.{MACHINE}
 
--- The records after a checkpoint may have as many bytes as the checkpoint, and at least this many: 64 MiB.
+-- The records after a checkpoint may have as many bytes as the checkpoint, and at least 64 MiB.
 abbrev pub LEAST : ℕ
 LEAST = 67108864
 

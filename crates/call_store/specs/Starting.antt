@@ -48,8 +48,8 @@ AfterOpen before states (Err Memory) acts = RepresentAfter before states acts
 AfterOpen before states (Err Full) acts = ⊥
 AfterOpen before states (Err Unfit) acts = ⊥
 
--- **A start goes on with what was kept.** The exception is a checksum collision. A start is refused only if the disk
--- fails or an allocation fails. Then the disk represents the same states as before.
+-- **A start continues from the kept content.** The exception is a checksum collision. A start is refused only if the
+-- disk fails or an allocation fails. Then the disk represents the same states as before.
 abbrev pub OpenLaw : Type 0
 OpenLaw =
     (states : List State) (logs : List (Option Log)) (acts acts' : List Act) (result : Result Ending StoreFault)

@@ -16,7 +16,7 @@ pub struct EntryPlace {
     pub entry_number: u64,
 }
 
-/// What is corrupt.
+/// The part of a store that is corrupt.
 #[derive(Clone, Copy, Debug, PartialEq, Eq, Error)]
 pub enum Corruption {
     /// CURRENT, or the file that it names: something that was durable is corrupt or missing.

@@ -36,14 +36,15 @@ pub fn a_start_lasts()
 {}
 
 /// Whatever a crash leaves, a start finds content that represents one of the states, and nothing is refused as corrupt.
-/// The exception is a checksum collision. When everything is synced there is no exception.
+/// The exception is a checksum collision. When everything is synced, this has no exception.
 pub fn a_crash_leaves_a_represented_state()
     ensures crash { CrashLaw }
     ensures no_chance { SettledLaw }
 {}
 
-/// If some states are kept, each CURRENT that a crash may leave records that a checkpoint was finished. So no start
-/// takes the store for a new one. After CURRENT was replaced by one without a finished checkpoint nothing is kept.
+/// If some states are kept, each CURRENT that a crash may leave records that a checkpoint was finished. No start
+/// therefore takes the store for a new one. After CURRENT was replaced by one without a finished checkpoint nothing is
+/// kept.
 pub fn what_is_kept_is_never_new()
     ensures finished { FinishedLaw }
     ensures wiped { WipedLaw }
@@ -85,14 +86,14 @@ pub fn a_new_store_keeps_its_server()
     ensures { BeginLaw }
 {}
 
-/// Over a disk that returns what its acts may have left, a start goes on with one of the states that the disk
+/// Over a disk that returns what its acts may have left, a start continues from one of the states that the disk
 /// represents. It is refused only if the disk or an allocation fails. The exception is a checksum collision.
 pub fn a_start_continues_a_represented_state()
     ensures { OpenLaw }
 {}
 
 /// A moment of a call is after each of its acts. At each moment the disk represents the state before the call or the
-/// one after it. So a crash leaves one of the two. At no moment is a kept store replaced by a new one.
+/// one after it. A crash therefore leaves one of the two. At no moment is a kept store replaced by a new one.
 pub fn at_each_moment_the_disk_represents_one_of_the_two()
     ensures keep { KeepMomentsLaw }
     ensures mark { MarkMomentsLaw }

@@ -24,6 +24,6 @@ pub use looking::{Looked, look, restore};
 pub use opening::{Opened, Restarted, open};
 pub use store::Store;
 
-/// The version of the machine. It changes when any definition of an effect or a result changes. So calls that were kept
-/// are run again by the machine that ran them.
+/// The version of the machine. It changes when any definition of an effect or a result changes. Kept calls are
+/// therefore run again only by the machine that ran them.
 pub const MACHINE: u64 = 1;

@@ -14,7 +14,7 @@ use store_journal::{Chosen, Current, Disk, choose, load};
 /// The second of lease renewals, for a server that doesn't serve.
 const NO_SECOND: u64 = 0;
 
-/// What a store keeps.
+/// The content of a store.
 #[derive(Drop)]
 pub struct Looked<A: Allocator + Copy = Global> {
     pub current: Current,

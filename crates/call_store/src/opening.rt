@@ -20,7 +20,7 @@ pub struct Restarted<A: Allocator + Copy = Global> {
     pub restart: Restart<A>,
 }
 
-/// What a store is when it is opened.
+/// The state of a store when it is opened.
 #[derive(Drop)]
 pub enum Opened<A: Allocator + Copy = Global> {
     /// No checkpoint was finished yet, and the store is begun with [`Store::begin`]. CURRENT is missing, or it is this
@@ -30,7 +30,7 @@ pub enum Opened<A: Allocator + Copy = Global> {
     Kept(Restarted<A>),
 }
 
-/// Starts from what was chosen, and resumes its journal.
+/// Starts from the chosen content, and resumes its journal.
 fn go_on<D: Disk, A: Allocator + Copy>(
     disk: &mut D,
     alloc: A,

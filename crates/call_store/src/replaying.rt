@@ -105,7 +105,7 @@ fn restored<A: Allocator + Copy>(
     }
 }
 
-/// Whether records are of this machine, or there are none.
+/// Whether any records are of this machine.
 fn is_own(machine: u64, records: &[&[u8]]) -> bool
     ensures { MatchBool result (IsOwn machine (content_of [] (map (λ b. b.now) records.now)))
         (IsForeign machine (content_of [] (map (λ b. b.now) records.now))) }
@@ -116,8 +116,9 @@ fn is_own(machine: u64, records: &[&[u8]]) -> bool
     records.is_empty()
 }
 
-/// Restores a server from the parts of a checkpoint, if the records after it can be replayed: there are none, or
-/// `machine` is this one's. The leases of its clients are renewed in this second. So are those that a replay renews.
+/// Restores a server from the parts of a checkpoint, if the records after it can be replayed: with any record,
+/// `machine` has to be this one's. The leases of its clients are renewed in this second, as are those that a replay
+/// renews.
 pub(crate) fn begin<A: Allocator + Copy>(
     alloc: A,
     global: Global,
@@ -135,7 +136,7 @@ pub(crate) fn begin<A: Allocator + Copy>(
     restored(alloc, global, hasher, second, parts)
 }
 
-/// Starts a server from what is stored, in this second of a monotonic clock. If there are entries, `machine` is that of
+/// Starts a server from the stored content, in this second of a monotonic clock. With entries, `machine` is that of
 /// CURRENT.
 pub(crate) fn start<A: Allocator + Copy>(
     alloc: A,

@@ -19,7 +19,7 @@ use store_journal::{Current, Disk, Journal, JournalFault};
 /// The most bytes of a record: those of a frame.
 const MAX_RECORD: usize = 64 * 1024 * 1024;
 
-/// The records after a checkpoint may have as many bytes as the checkpoint, and at least this many.
+/// The least limit of the bytes of records after a checkpoint. A larger checkpoint allows as many bytes as it has.
 const LEAST: u64 = 64 * 1024 * 1024;
 
 /// A server's state on a disk: a checkpoint, and the calls after it. After a fault other than `Memory`, and after
@@ -31,7 +31,7 @@ pub struct Store {
     pub(crate) size: u64,
     /// The bytes of the records after it.
     pub(crate) logged: u64,
-    /// There is a record after the checkpoint.
+    /// A record was appended after the checkpoint.
     pub(crate) has_records: bool,
     /// No record was appended since the last mark or checkpoint.
     pub(crate) is_marked: bool,
@@ -199,8 +199,8 @@ impl Store {
     }
 
     /// Appends a mark, if a record was appended since the last mark or checkpoint. The mark records that everything
-    /// before it is durable. So later damage there is reported as corruption. `Memory`: nothing has changed. After
-    /// `Failed` and `Full` the store stops.
+    /// before it is durable. Later damage before it is then reported as corruption. `Memory`: nothing has changed.
+    /// After `Failed` and `Full` the store stops.
     pub fn mark<D: Disk, A: Allocator + Copy>(
         &mut self,
         disk: &mut D,
@@ -223,8 +223,8 @@ impl Store {
         }
     }
 
-    /// Closes a store after all its records were kept. A checkpoint is written, so that no entries are after it. Then a
-    /// program of another machine can go on. Nothing is done if there are no entries, and the checkpoint is of this
+    /// Closes a store after all its records were kept. A checkpoint is written, with no entries after it. A program of
+    /// another machine can then continue. Nothing is done if the store has no entries, and the checkpoint is of this
     /// machine. Faults are those of [`Store::keep`].
     pub fn close<D: Disk, A: Allocator + Copy>(
         &mut self,

@@ -81,7 +81,7 @@ total (bytes ∷ parts) = length bytes + total parts
 abbrev pub size_of : List Bytes → ℕ
 size_of parts = min (total parts) 18446744073709551615
 
--- **A checkpoint of these parts was written**, or nothing was done, or it stopped there.
+-- **A checkpoint of these parts was written**, or nothing was done, or a step of it failed.
 abbrev pub CheckpointGives : {D : Type 0} → Passage D → ℕ → Journal → List Bytes → Result ℕ WriteFault → Journal
     → Type 0
 CheckpointGives p machine j parts (Ok size) j' = Ended p machine j parts (Ok tt) j' × (size ≡ size_of parts)

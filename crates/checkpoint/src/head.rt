@@ -13,7 +13,7 @@ use xdr_wire::{Opaque, Reader, Spell, Wire, Writer};
 /// The profile of this program.
 const PROFILE: u32 = 0;
 
-/// The size of a head in bytes without a book's text: the profile, whether there is a text, its
+/// The size of a head in bytes without a book's text: the profile, the flag of the text, its
 /// length, and at most three bytes of padding.
 const AROUND_TEXT: usize = 4 + 4 + 4 + 3;
 

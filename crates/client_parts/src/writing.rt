@@ -27,7 +27,7 @@ struct Draft<A: Allocator> {
     count: u32,
 }
 
-/// Room was made before the write, so `Full` is reported as a failed allocation.
+/// Room was made before the write. `Full` is therefore reported as a failed allocation.
 fn written(done: Result<(), Full>) -> Result<(), AllocError> {
     match done {
         Ok(()) => Ok(()),

@@ -78,7 +78,7 @@ pub record IsUnlisted (c : Context) (h : Handles) (v : Value readdir_args) (s : 
   pub refused : all_granted s.lists c.caller (first_demands (Known kinds.ReadDir v) (first_facts s h)) ≡ false
 
 -- A refused entry is reached without rdattr_error (11) requested: the ACL of its object refuses a requested attribute.
--- The entries before it, if there are any, are returned and within the limit.
+-- The entries before it, if any, are returned and within the limit.
 pub record MeetsRefused (c : Context) (h : Handles) (v : Value readdir_args) (s : Sight) : Type 0 where
   pub passed : ArePassed c.caller s (before_row c h v)
   pub granted : all_granted s.lists c.caller (first_demands (Known kinds.ReadDir v) (first_facts s h)) ≡ true

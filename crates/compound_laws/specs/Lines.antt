@@ -33,7 +33,7 @@ use Rattle.compound_laws.specs.RowsAsked.{first_of, second_of}
 pub data Step : Type 0 where
   -- a test; if it fails, the answer is this status
   Tests : Status → Step
-  -- a check that has several statuses; the answer is its fault, if there is one
+  -- a check that has several statuses; the answer is its fault, if any
   Checks : (Sight → Option Status) → Step
   -- a row of demands; if it isn't granted, the answer is ACCESS
   Asks : (Sight → Demands) → Step
@@ -51,7 +51,7 @@ steps_of questions = map step_of questions
 
 -- ---- checks
 
--- there is a filehandle, the current or the saved one, and its object exists
+-- a filehandle is set, the current or the saved one, and its object exists
 abbrev pub with_object : List Step → List Step
 with_object steps = Tests statuses.NoFileHandle ∷ Tests statuses.Stale ∷ steps
 

@@ -7,8 +7,8 @@ use Rattle.node_tree.specs.World.{World, kind_of}
 use Rattle.compound_run.specs.Limits.{MAX_OPENS}
 use Rattle.compound_run.specs.Realm.{Realm}
 
--- Each name has an existing object, and no object has the next number or a higher one. So the object of a name can be
--- opened, and a new object never gets the number of an open file.
+-- Each name has an existing object, and no object has the next number or a higher one. The object of a name can
+-- therefore be opened, and a new object never gets the number of an open file.
 pub record IsKept (w : World) : Type 0 where
   pub children_exist : AllByRecursion (λ n. IsSome (kind_of w n.child)) w.names
   pub numbered : (number : ℕ) → IsSome (kind_of w number) → number < w.next_number

@@ -27,7 +27,7 @@ first_of c h (Known kinds.Write v) s = first_demands (Known kinds.Write v) (size
 first_of c h op s = first_demands op (first_facts s h)
 
 -- The second row, by the objects of the names: OPEN's file, REMOVE's child, RENAME's child and
--- target. READDIR's is the demand by which an entry refuses it, if there is one.
+-- target. READDIR's is the demand by which an entry refuses it, if any.
 abbrev pub second_of : Context → Handles → Operation → Sight → Demands
 second_of c h (Known kinds.Open v) s =
     second_demands (Known kinds.Open v) (opening_facts s h (opens.found v h s) (opens.wanted c v).size)

@@ -12,8 +12,8 @@ ghost use Rattle.compound_run.specs.ExchangeId.{exchanged};
 ghost use Rattle.compound_run.specs.Sequence.{sequence_given};
 ghost use Rattle.compound_run.specs.Sight.{Sight};
 
-/// The stateid that a CLOSE returns is the one that `read_result` of `nfs_ops` accepts (`close`). So are the server
-/// owner and the scope of an EXCHANGE_ID (`exchange_id`), and the target of a SEQUENCE (`sequence`).
+/// The stateid that a CLOSE returns is the one that `read_result` of `nfs_ops` accepts (`close`). It also accepts the
+/// server owner and the scope of an EXCHANGE_ID (`exchange_id`), and the target of a SEQUENCE (`sequence`).
 pub fn what_is_answered_conforms()
     ensures close { (v : Value close_args) (c : Context) (h : Handles) (s : Sight) →
         outcome_conforms ((close v c h).answer s) ≡ true }

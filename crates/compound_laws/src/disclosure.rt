@@ -1,5 +1,5 @@
-//! Two realms that look alike to a caller give that caller equal answers and equal lines in the audit trail. So an
-//! operation reveals nothing that access control lists hide from the caller.
+//! Two realms that look alike to a caller give that caller equal answers and equal lines in the audit trail. An
+//! operation therefore reveals nothing that access control lists hide from the caller.
 ghost use Rattle.std.specs.Prelude.{◌≡◌, ℕ, List, None};
 ghost use Rattle.rpc_record.specs.Identity.{Identity};
 ghost use Rattle.xdr_wire.specs.Xdr.{Value};
@@ -13,7 +13,7 @@ ghost use Rattle.compound_laws.specs.Disclosure.{BeginsAlike, DisclosesNothing, 
 ghost use Rattle.compound_laws.specs.WrongLookup.{disclosing_lookup};
 
 /// No operation discloses anything, at any place of a COMPOUND (RFC 8881, section 18): neither one
-/// that runs nor one that is refused there.
+/// that runs nor one that its place refuses.
 pub fn operations_disclose_nothing()
     ensures { (c : Context) (h : Handles) (op : Operation) → DisclosesNothing (meaning c h op) }
 {}

@@ -85,8 +85,8 @@ pub fn each_row_is_asked()
         IsAmong (second_of c h op) (rows_of (meaning c h op).questions) ⊎ HasNoSecond op }
 {}
 
-/// So an operation that is OK was granted each demand of its rows. One row is excepted: the second of a RENAME whose
-/// names belong to one object, which changes nothing.
+/// An operation that is OK was therefore granted each demand of its rows. One row is excepted: the second of a RENAME
+/// whose names belong to one object, which changes nothing.
 pub fn ok_is_granted()
     ensures first { (c : Context) (h : Handles) (op : Operation) (r : Realm) (o : Outcome) →
         outcome (meaning c h op) r ≡ Ok o →

@@ -16,7 +16,7 @@ pub fn operations_leave_lasting()
 {}
 
 /// Nor does a call, without sessions (`bare`) or with them (`in_session`), however its operations end. Nor does loading
-/// a book (`book`), or expiring a client (`expired`). So it is fixed when a server begins.
+/// a book (`book`), or expiring a client (`expired`). It is therefore fixed when a server begins.
 pub fn calls_leave_lasting()
     ensures bare { (old : State) (call : Call) (results : Option (List ℕ)) (new : State) →
         Answers old call results new → new.realm.lasting ≡ old.realm.lasting }

@@ -1,6 +1,6 @@
 //! Laws of a COMPOUND over a tree with access control lists, which follow from its definitions alone.
 //!
-//! Each is the contract of a function that does nothing, so that a program or a reader can cite it by name.
+//! Each is the contract of a function that does nothing. Programs and readers can cite it by its name.
 #![tactic(auto)]
 
 mod conforming;

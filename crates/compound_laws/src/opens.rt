@@ -15,24 +15,24 @@ ghost use Rattle.compound_run.specs.InSession.{Reply, AnswersInSession};
 ghost use Rattle.compound_laws.specs.LiveOpens.{OpensHold};
 ghost use Rattle.compound_laws.specs.Events.{loaded};
 
-/// The law of open files holds when a server begins. It holds in a new world, in which there are none (`fresh`), and
-/// after a restart with open files that fit their world (`restarted`).
+/// The law of open files holds when a server begins. It holds in a new world, which has none (`fresh`), and after a
+/// restart with open files that fit their world (`restarted`).
 pub fn opens_hold_at_first()
     ensures fresh { (w : World) → IsSound w → OpensHold (unopened w) }
     ensures restarted { (w : World) (k : ClientState) (book : Content) (capacity : ℕ) →
         IsSound w → opens_fit w k ≡ true → OpensHold (restored w k book capacity).realm }
 {}
 
-/// Each operation that is OK preserves the law: each open is of an existing file, and there are at most 4,096 of them.
-/// An operation that isn't OK leaves the realm unchanged.
+/// Each operation that is OK preserves the law: each open is of an existing file, and at most 4,096 opens exist. An
+/// operation that isn't OK leaves the realm unchanged.
 pub fn operations_keep_opens()
     ensures { (c : Context) (h : Handles) (op : Operation) (r : Realm) (o : Outcome) →
         OpensHold r → outcome (meaning c h op) r ≡ Ok o → OpensHold ((meaning c h op).effect r) }
 {}
 
-/// So each call preserves the law, without sessions (`bare`) or with them (`in_session`), however its operations end.
-/// So do loading a book (`book`), and expiring a client (`expired`). So the law holds in every state that a server
-/// reaches.
+/// Each call therefore preserves the law, without sessions (`bare`) or with them (`in_session`), however its operations
+/// end. Loading a book (`book`) and expiring a client (`expired`) preserve it too. The law thus holds in every state
+/// that a server reaches.
 pub fn calls_keep_opens()
     ensures bare { (old : State) (call : Call) (results : Option (List ℕ)) (new : State) →
         OpensHold old.realm → Answers old call results new → OpensHold new.realm }

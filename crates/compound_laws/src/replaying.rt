@@ -33,7 +33,7 @@ pub fn operations_see_no_session()
         (record { realm = with_sessions sessions new.realm; log = last; settings = settings; handles = new.handles }) }
 {}
 
-/// A call that a server ran is new in each state that covers the server's, and can be replayed there. It has the same
+/// A call that a server ran is new in each state that covers the server's, and can be replayed in it. It has the same
 /// reply, and its end state covers the server's (`again`). After a call that isn't logged, a covering state still
 /// covers the server's, unchanged (`idle`).
 pub fn kept_calls_run_again()
@@ -45,10 +45,10 @@ pub fn kept_calls_run_again()
 {}
 
 /// A call that a server ran can be replayed in each state that covers the server's. An allocation fails in it at the
-/// place of the call's record (`again`). Each replay there whose record names the same place ends as the call did. It
-/// has the same reply and the same record, and its end state covers the server's (`alike`). Let the call be logged, and
-/// an allocation fail at the place of its record. Then the replay names that place, or an earlier operation whose
-/// allocation failed (`earlier`).
+/// place of the call's record (`again`). Each replay in that state whose record names the same place ends as the call
+/// did. It has the same reply and the same record, and its end state covers the server's (`alike`). Let the call be
+/// logged, and an allocation fail at the place of its record. Then the replay names that place, or an earlier operation
+/// whose allocation failed (`earlier`).
 pub fn replays_end_as_the_call_did()
     ensures again { (q s new : State) (call : Call) (reply : Reply) (ran : Ran) → Covers q s → IsNumbered call →
         fate s call ≡ IsRun → RanCall call s reply ran new →

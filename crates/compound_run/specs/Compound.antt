@@ -53,8 +53,8 @@ pub record Series : Type 0 where
 abbrev pub series : List ℕ → Context → List ℕ → Series
 series tag c operations = record { tag = tag; context = c; operations = operations }
 
--- Another minor version is refused before any operation. So is a COMPOUND with more operations than the limit, if the
--- minor version is right.
+-- Another minor version is refused before any operation. A COMPOUND with more operations than the limit is refused too,
+-- if the minor version is right.
 abbrev pub opening_fault : ℕ → ℕ → ℕ → Option Status
 opening_fault most minor count =
     if minor == MINOR_VERSION then (if nat_lt most count then Some statuses.TooManyOps else None)

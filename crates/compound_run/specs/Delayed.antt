@@ -1,5 +1,5 @@
 -- In a call, the operation whose allocation failed, and which was answered DELAY. When the call is replayed, the
--- allocation of the same operation fails. So the results are the same.
+-- allocation of the same operation fails. The results are therefore equal.
 use Rattle.std.specs.Prelude.{ℕ, suc, if◌then◌else◌, List, [], ◌∷◌, Option, Some, None, Result}
 use Rattle.std.specs.Option.{option_map}
 use Rattle.xdr_wire.specs.Reading.{read_at}

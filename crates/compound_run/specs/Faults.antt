@@ -10,7 +10,7 @@ IsFault statuses.Access = ⊥
 IsFault statuses.Delay = ⊥
 IsFault _ = Unit {0}
 
--- there is no fault, or it is one of these statuses
+-- the fault is none, or one of these statuses
 abbrev pub MayFault : Option Status → Type 0
 MayFault None = Unit {0}
 MayFault (Some status) = IsFault status

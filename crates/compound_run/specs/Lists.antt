@@ -12,8 +12,8 @@ use Rattle.nfs_types.specs.declared.status.Status.TheVariants as statuses
 -- ---- a new object, in a directory with this ACL
 
 -- The ACL of a new object before its dacl and sacl are put in. It is empty if a dacl is sent: then nothing is
--- inherited, and a mode beside it sets its high bits alone. Else it is the acl that was sent, if any. So a sacl goes
--- into the ACL that is made without it.
+-- inherited, and a mode beside it sets its high bits alone. Else it is the acl that was sent, if any. A sacl therefore
+-- goes into the ACL that is made without it.
 abbrev pub base_of : Option (List Entry) → Option (List Entry) → Option (List Entry)
 base_of list (Some dacl) = Some []
 base_of list None = list

@@ -121,7 +121,7 @@ has_no_child directory name = Holds (λ s. not (is_some (child s directory name)
 abbrev pub names_at : Sight → ℕ → ℕ
 names_at s directory = length (s.names directory)
 
--- a tick is left, and there is space for the change
+-- a tick is left, and the change fits
 abbrev pub has_space : (Sight → Bool) → Question
 has_space test = Holds (λ s. has_left s.next_tick && test s) statuses.NoSpc tt
 
@@ -130,7 +130,7 @@ has_tick = Holds (λ s. has_left s.next_tick) statuses.NoSpc tt
 
 -- ---- room
 
--- a result for which there is no room is too big for the reply, or too big for a reply that is to be cached
+-- a result that doesn't fit is too big for the reply, or too big for a reply that is to be cached
 abbrev pub too_big_for : Option Calling → Status
 too_big_for None = statuses.RepTooBig
 too_big_for (Some calling) = if calling.keeps_reply then statuses.RepTooBigToCache else statuses.RepTooBig
@@ -143,7 +143,7 @@ too_big_may (Some calling) = of calling.keeps_reply
     of true = tt
     of false = tt
 
--- there is room for a result of this size
+-- a result of this size fits
 abbrev pub has_room : Context → (Sight → ℕ) → Question
 has_room c size = Holds (λ s. nat_le (size s) c.room) (too_big_for c.calling) (too_big_may c.calling)
 

@@ -33,7 +33,7 @@ IsPlace owner (Some o) (places.New bytes) = ⊥
 IsPlace owner None (places.Again number seqid) = ⊥
 IsPlace owner None (places.New bytes) = bytes.items ≡ owner
 
--- there is memory for the open, beside `len` opens and with a capacity of `capacity`, with this next number
+-- the open has memory, beside `len` opens and with a capacity of `capacity`, with this next number
 abbrev pub HasPlace : {A : Type 0} → (next len capacity : ℕ) → Place A → Type 0
 HasPlace next len capacity (places.Again number seqid) = Unit {0}
 HasPlace next len capacity (places.New bytes) = (next < 2 ^ 63) × (len + 1 ≤ capacity)

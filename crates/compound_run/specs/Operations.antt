@@ -1,6 +1,6 @@
 -- The meaning of each operation at its place (RFC 8881, section 18): one line for each supported operation, in the
--- order of the standard. The other operations answer NOTSUPP once they are decoded. So do the operations of sessions
--- without a session. Of these RECLAIM_COMPLETE alone runs after a SEQUENCE.
+-- order of the standard. The other operations answer NOTSUPP once they are decoded, as do the operations of sessions
+-- without a session. Of the latter, RECLAIM_COMPLETE alone runs after a SEQUENCE.
 pub mod Access
 pub mod Close
 pub mod Commit
@@ -67,8 +67,8 @@ use Rattle.compound_run.specs.Operations.ReclaimComplete.{reclaim_complete}
 
 -- ---- place
 
--- The fault of an operation by its place. Without a session the operations of sessions aren't supported. After a
--- SEQUENCE there is no place for another SEQUENCE, nor for an operation that must be the only one of its COMPOUND.
+-- The fault of an operation by its place. Without a session the operations of sessions aren't supported. A SEQUENCE
+-- can't be followed by another SEQUENCE, nor by an operation that must be the only one of its COMPOUND.
 abbrev pub refused_place : Option Calling → Placement → Option Status
 refused_place calling Anywhere = None
 refused_place None InSession = Some statuses.NotSupp
@@ -173,7 +173,7 @@ body c h (Unsupported n) = refusing c h n statuses.NotSupp tt
 body c h Illegal = refusing c h illegal statuses.OpIllegal tt
 body c h (Bad n) = refusing c h n statuses.BadXdr tt
 
--- a meaning after a fault, if there is one
+-- a meaning after a fault, if any
 abbrev pub entered : (fault : Option Status) → MayFault fault → Meaning → Meaning
 entered fault may m = record m { questions = is_valid fault may ∷ m.questions }
 

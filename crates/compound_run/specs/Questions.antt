@@ -50,7 +50,7 @@ demand_lines lists caller op (Some d ∷ demands) =
     lines lists caller op d
     ++ (if is_granted (decision lists caller d) then demand_lines lists caller op demands else [])
 
--- these lines if there is no fault, else none
+-- these lines if the fault is none, else no lines
 abbrev pub lines_unless : Option Status → List Line → List Line
 lines_unless None lines = lines
 lines_unless (Some status) lines = []

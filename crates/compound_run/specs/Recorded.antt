@@ -36,7 +36,7 @@ AnswersBy (Fails refusal) call old reply ran new = (reply ≡ refusal) × (new �
 abbrev pub Answers : State → Call → Reply → Ran → State → Type 0
 Answers old call reply ran new = AnswersBy (fate old call) call old reply ran new
 
--- The results are appended to the buffer, and are within the limit of a reply; or there are none.
+-- Results are appended to the buffer and are within the limit of a reply, or no results exist.
 abbrev pub RunsRecorded : State → Call → Option Ran → Buffer → Buffer → State → Type 0
 RunsRecorded old call (Some ran) before after new =
     (results : List ℕ) × Answers old call (Some results) ran new × Appends before after results

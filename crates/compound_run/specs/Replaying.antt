@@ -1,5 +1,5 @@
--- A logged call is replayed when a server starts (RFC 8881, section 2.10.6.5). Its slot may have accepted earlier calls
--- that weren't logged, so it lags. The call is new if its sequence ID is 1 to 2^20 ahead.
+-- A logged call is replayed when a server starts (RFC 8881, section 2.10.6.5). Its slot lags, since it may have
+-- accepted earlier calls that weren't logged. The call is new if its sequence ID is 1 to 2^20 ahead.
 use Rattle.std.specs.Prelude.{◌≡◌, ◌<◌, ◌^◌, ℕ, List, Option, Some, None}
 use Rattle.xdr_wire.specs.Reading.{read_at}
 use Rattle.xdr_wire.specs.Xdr.{Value}

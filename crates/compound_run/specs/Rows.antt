@@ -36,7 +36,7 @@ second_facts s h child replaced = record {
   new_size = None;
 }
 
--- the facts of OPEN: the existing file, if there is one, and the size to be set
+-- the facts of OPEN: the existing file, if any, and the size to be set
 abbrev pub opening_facts : Sight → FileHandles → Option ℕ → Option ℕ → Second
 opening_facts s h file new_size = record (second_facts s h file None) { new_size = new_size }
 

@@ -1,7 +1,7 @@
 -- An operation's sight of the realm, part by part. The parts that access control lists (ACLs) govern are present as far
--- as they may be seen. The questions, result and lines of an operation are functions of a sight. So they are defined
--- once for the whole realm and for a caller's view. No operation after a SEQUENCE sees sessions, their slots, or the
--- numbers of the next client and session.
+-- as they may be seen. The questions, result and lines of an operation are functions of a sight. One definition
+-- therefore serves for the whole realm and for a caller's view. No operation after a SEQUENCE sees sessions, their
+-- slots, or the numbers of the next client and session.
 use Rattle.std.specs.Prelude.{ℕ, Bool, true, ◌||◌, if◌then◌else◌, List, [], length, unwrap_or, Option, None}
 use Rattle.std.specs.Option.{option_map, option_map_or}
 use Rattle.std.specs.Map.{lookup}

@@ -67,7 +67,7 @@ next_numbers s =
       open_file = s.realm.next_open;
     }
 
--- the beginning of a COMPOUND: no line is held, and there is no filehandle
+-- the beginning of a COMPOUND: no line is held, and no filehandle is set
 abbrev pub start : State → Point
 start s =
     record {
@@ -155,7 +155,7 @@ AnswersBy (Run tag c operations) old results new = CallRuns tag c operations old
 abbrev pub Answers : State → Call → Option (List ℕ) → State → Type 0
 Answers old call results new = AnswersBy (fate old call) old results new
 
--- The results are appended to the buffer, and are within the limit of a reply; or there are none.
+-- Results are appended to the buffer and are within the limit of a reply, or no results exist.
 abbrev pub RunsBare : (Option (List ℕ) → State → Type 0) → RunEnd → Buffer → Buffer → State → Type 0
 RunsBare answers Replied before after new =
     (results : List ℕ) × answers (Some results) new × Appends before after results × (length results ≤ MAX_RESULTS)

@@ -52,7 +52,7 @@ seqid_fault seqid o =
 abbrev pub mode_fault : (ℕ → Bool) → Opened → Option Status
 mode_fault serves o = if serves o.access then None else Some statuses.OpenMode
 
--- the fault of an open's stateid: there is no such open, the seqid isn't its current one, or the file isn't open for
+-- the fault of an open's stateid: the open doesn't exist, the seqid isn't its current one, or the file isn't open for
 -- this access
 abbrev pub open_fault : (ℕ → Bool) → ℕ → Option Opened → Option Status
 open_fault serves seqid None = Some statuses.BadStateId

@@ -33,8 +33,7 @@ pub record IsEndOf (end : Ended) (results : List Given) : Type 0 where
   pub changed : end.changed ≡ list_any is_change results
   pub delayed : end.delayed ≡ delayed_in results
 
--- Operations run in turn, and their results are written. The one at the given place fails its allocation, if there is
--- one.
+-- Operations run in turn, and their results are written. The one at the given place, if any, fails its allocation.
 pub record RunGives {A : Type 0} (refused : Option ℕ) (c : Context) (operations : List ℕ)
     (old : Stage (realms.Realm A)) (end : Ended) (new : Stage (realms.Realm A)) : Type 0 where
   pub handles : FileHandles

@@ -175,7 +175,7 @@ impl<A: Allocator + Copy> ClientState<A> {
         }
     }
 
-    /// Renews the leases of all clients in this second. So a client that is restored has a lease again. Leases are no
+    /// Renews the leases of all clients in this second. A client that is restored then has a lease again. Leases are no
     /// part of the model.
     pub fn renew_all(&mut self, now: u64)
         ensures { self.new ≡ self.old }

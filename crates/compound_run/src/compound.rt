@@ -205,7 +205,7 @@ impl<'a> CompoundArgs<'a> {
     }
 }
 
-/// Writes a number for which there is room.
+/// Writes a number. The room suffices for it.
 pub(crate) fn put_word<A: Allocator>(writer: &mut Writer<A>, n: u32)
     requires { 4 ≤ writer.old.room }
     ensures { Appends writer.old writer.new (to_be_bytes w32 n) }
@@ -213,7 +213,7 @@ pub(crate) fn put_word<A: Allocator>(writer: &mut Writer<A>, n: u32)
     writer.put_u32(n).unwrap();
 }
 
-/// Writes a tag for which there is room.
+/// Writes a tag. The room suffices for it.
 pub(crate) fn put_tag<A: Allocator>(writer: &mut Writer<A>, tag: &[u8])
     requires short { length tag.now ≤ 1024 }
     requires room { 1028 ≤ writer.old.room }

@@ -20,7 +20,7 @@ pub(crate) struct Context<'t> {
     /// The caller, as sent.
     pub caller: &'t Caller,
     pub now: Moment,
-    /// The session, if there is one.
+    /// The session, if any.
     pub calling: Option<Calling>,
     /// The number of operations before it.
     pub position: u32,
@@ -31,7 +31,7 @@ pub(crate) struct Context<'t> {
 }
 
 impl Context<'_> {
-    /// The status of a result for which there is no room.
+    /// The status of a result that doesn't fit.
     pub fn too_big(self) -> Status
         ensures { result ≡ too_big_for self.entry.calling }
     {

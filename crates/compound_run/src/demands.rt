@@ -106,8 +106,8 @@ impl<A: Allocator + Copy> Realm<A> {
         )
     }
 
-    /// Whether the ACLs grant the demands of OPEN on the existing file, if there is one, and by the new size. Its lines
-    /// are held.
+    /// Whether the ACLs grant the demands of OPEN on the existing file, if any, and by the new size. Its lines are
+    /// held.
     pub fn grants_opening(
         &mut self,
         step: Step<'_>,

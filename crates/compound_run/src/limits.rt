@@ -3,7 +3,7 @@
 /// The most bytes of a reply without a session, not counting its record mark.
 pub const MAX_REPLY: usize = 65_536;
 
-/// The most bytes of a COMPOUND's results in such a reply, after the header of the reply.
+/// The most bytes of a COMPOUND's results in a reply without a session, after the header of the reply.
 pub const MAX_RESULTS: usize = MAX_REPLY - 24;
 
 /// The most bytes of a COMPOUND's tag.

@@ -149,7 +149,7 @@ impl<A: Allocator + Copy> Realm<A> {
         }
     }
 
-    /// The object of the name, if there is one.
+    /// The object of the name, if any.
     fn found(&self, handles: FileHandles, directory: u64, claim: &OpenClaim<'_>) -> Option<u64>
         requires here { handles.current ≡ Some directory }
         requires there { IsSome (object self.now.tree.world directory) }
@@ -254,8 +254,8 @@ impl<A: Allocator + Copy> Realm<A> {
         })
     }
 
-    /// Reserves memory for the open of a file, and truncates the file, if it is to be. `NoSpc`: there is no space, or
-    /// no tick is left. `Delay`: an allocation fails.
+    /// Reserves memory for the open of a file, and truncates the file, if it is to be. `NoSpc`: the open doesn't fit,
+    /// or no tick is left. `Delay`: an allocation fails.
     fn place_found(
         &mut self,
         context: Context<'_>,

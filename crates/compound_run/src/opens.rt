@@ -99,7 +99,7 @@ fn find_owned<'o, A: Allocator>(
 }
 
 impl<A: Allocator + Copy> Realm<A> {
-    /// The owner's open of an object, if there is one.
+    /// The owner's open of an object, if any.
     fn joined(
         &self,
         context: Context<'_>,
@@ -137,8 +137,8 @@ impl<A: Allocator + Copy> Realm<A> {
         Ok(copy)
     }
 
-    /// The place of the open of a file: the owner's open, if there is one, else a new one, for which memory is
-    /// reserved. `NoSpc`: too many files are open, or no number is left. `Delay`: an allocation fails.
+    /// The place of the open of a file: the owner's open, if any, else a new one with reserved memory. `NoSpc`: too
+    /// many files are open, or no number is left. `Delay`: an allocation fails.
     pub fn place(
         &mut self,
         context: Context<'_>,

@@ -12,7 +12,7 @@ use nfs_types::Status;
 use std::alloc::Allocator;
 use xdr_wire::Writer;
 
-/// Writes the result of an operation that is OK: one that carries no bytes of an object. There must be room for it.
+/// Writes the result of an operation that is OK: one that carries no bytes of an object. The room must suffice for it.
 #[tactic(auto, unfolding(crate::specs::Runs::spelled))]
 pub(crate) fn put_result<A: Allocator>(given: OpResult<'_>, out: &mut Writer<A>)
     requires short { most (result_view given) ≤ limits.MIN_ROOM }
@@ -24,7 +24,7 @@ pub(crate) fn put_result<A: Allocator>(given: OpResult<'_>, out: &mut Writer<A>)
     write_result(given, out).unwrap();
 }
 
-/// Writes the refusal of the operation of this number. There must be room for it.
+/// Writes the refusal of the operation of this number. The room must suffice for it.
 #[tactic(auto, unfolding(crate::specs::Runs::spelled))]
 pub(crate) fn put_refusal<A: Allocator>(number: u32, status: Status, out: &mut Writer<A>)
     requires { limits.REFUSAL_ROOM ≤ out.old.room }

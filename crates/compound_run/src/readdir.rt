@@ -87,7 +87,7 @@ fn judge_by(
     Ok((Status::Access, given))
 }
 
-/// Writes an entry after its link, with these attributes of its object. `Full`: if and only if there is no room; then
+/// Writes an entry after its link, with these attributes of its object. `Full`: if and only if it doesn't fit; then
 /// nothing is written.
 fn put_entry<'t, A: Allocator, B: Allocator>(
     book: &'t Book,
@@ -111,8 +111,8 @@ fn put_entry<'t, A: Allocator, B: Allocator>(
 }
 
 impl<A: Allocator + Copy> Realm<A> {
-    /// The next entry of a directory above a cookie: its own cookie, and the number of its object. `None`: there is
-    /// none. The object isn't looked up.
+    /// The next entry of a directory above a cookie: its own cookie, and the number of its object. `None`: no entry
+    /// follows. The object isn't looked up.
     fn next_entry(&self, directory: u64, cookie: u64) -> Option<(u64, u64)>
         ensures none { result ≡ None → specs.names_above (sight_of self.now) directory cookie ≡ [] }
         ensures some { IfSome result (λ next. IsNextOf (sight_of self.now) directory cookie
@@ -152,7 +152,7 @@ impl<A: Allocator + Copy> Realm<A> {
     }
 
     /// Writes an entry of a directory after its link, by its cookie, with these attributes of its object and this
-    /// status as rdattr_error. `Full`: if and only if there is no room; then nothing is written.
+    /// status as rdattr_error. `Full`: if and only if it doesn't fit; then nothing is written.
     fn put_child<B: Allocator>(
         &self,
         context: Context<'_>,

@@ -45,7 +45,7 @@ impl<A: Allocator + Copy> Source for Text<'_, A> {
     }
 }
 
-/// Writes number and status OK. There must be room for both.
+/// Writes number and status OK. The room must suffice for both.
 fn put_head<A: Allocator>(out: &mut Writer<A>)
     requires { 8 ≤ out.old.room }
     ensures { Appends out.old out.new (to_be_bytes w32 27 ++ to_be_bytes w32 0) }
@@ -53,7 +53,7 @@ fn put_head<A: Allocator>(out: &mut Writer<A>)
     (OP_READLINK, 0u32).write(out).unwrap();
 }
 
-/// Writes the text of a symbolic link straight from the tree. It has `len` bytes, for which there must be room.
+/// Writes the text of a symbolic link straight from the tree. It has `len` bytes, which must fit.
 fn put_text<A: Allocator + Copy>(tree: &GuardedTree<A>, link: u64, len: usize, out: &mut Writer<A>)
     requires all { length (bytes_of tree.now.world link) ≡ len }
     requires short { len ≤ 1024 }

@@ -90,7 +90,7 @@ impl<A: Allocator + Copy> Realm<A> {
         Some(At { tick, moment: now })
     }
 
-    /// Creates an object under a free name. `NoSpc`: there is no space for it. `Delay`: an allocation fails.
+    /// Creates an object under a free name. `NoSpc`: it doesn't fit. `Delay`: an allocation fails.
     pub fn add(
         &mut self,
         directory: u64,
@@ -130,7 +130,7 @@ impl<A: Allocator + Copy> Realm<A> {
         self.tree.write(file, offset, more, at).map_err(status_of)
     }
 
-    /// Adds a free name for an object. `NoSpc`: there is no space for it. `Delay`: an allocation fails.
+    /// Adds a free name for an object. `NoSpc`: it doesn't fit. `Delay`: an allocation fails.
     pub fn add_name(
         &mut self,
         directory: u64,
@@ -194,7 +194,7 @@ impl<A: Allocator + Copy> Realm<A> {
         self.tree.plan_rename(from, old, to, new).map_err(status_of)
     }
 
-    /// Renames a child, as planned. `NoSpc`: there is no space for the name. `Delay`: an allocation fails.
+    /// Renames a child, as planned. `NoSpc`: the name doesn't fit. `Delay`: an allocation fails.
     fn carry_out(&mut self, moved: Move<'_>, at: At) -> Result<(), Status>
         requires tick { IsTick self.old.tree.world at.tick }
         requires planned { IsMove self.old.tree.world moved }
@@ -211,7 +211,7 @@ impl<A: Allocator + Copy> Realm<A> {
     }
 
     /// Renames a child, as planned. A target that has the new name loses it; if that was its last name, its opens are
-    /// closed. `NoSpc`: there is no space for the name. `Delay`: an allocation fails.
+    /// closed. `NoSpc`: the name doesn't fit. `Delay`: an allocation fails.
     pub fn rename_child(&mut self, moved: Move<'_>, at: At) -> Result<(), Status>
         requires tick { IsTick self.old.tree.world at.tick }
         requires planned { IsMove self.old.tree.world moved }

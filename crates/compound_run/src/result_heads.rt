@@ -24,7 +24,7 @@ pub(crate) fn put_head<A: Allocator>(status: Status, tag: &[u8], count: u32, out
     put_word(out, count);
 }
 
-/// Appends to `out` the answer of a COMPOUND of which no operation runs.
+/// Appends to `out` the answer of a COMPOUND that runs no operation.
 pub(crate) fn put_ended<A: Allocator>(tag: &[u8], status: Status, out: &mut Writer<A>)
     requires short { length tag.now ≤ limits.MAX_TAG }
     requires room { limits.MAX_RESULTS ≤ out.old.room }

@@ -19,8 +19,8 @@ use nfs_types::Status;
 use std::alloc::Allocator;
 use xdr_wire::Writer;
 
-/// The fault of an operation's place, if any. Without a session the operations of sessions aren't supported. After a
-/// SEQUENCE there is no place for another SEQUENCE, nor for an operation that must be the only one of its COMPOUND.
+/// The fault of an operation's place, if any. Without a session the operations of sessions aren't supported. A SEQUENCE
+/// can't be followed by another SEQUENCE, nor by an operation that must be the only one of its COMPOUND.
 fn place_fault(context: Context<'_>, op: &Op<'_>) -> Option<Status>
     ensures { result ≡ specs.place_fault_in context.entry.calling (op_view op.now) }
 {

@@ -42,13 +42,13 @@ use xdr_wire::Writer;
 /// The seconds of a lease: a client whose lease wasn't renewed for longer may expire.
 const LEASE: u64 = 90;
 
-/// A silent client may expire if there are more client records than this.
+/// The number of client records above which a silent client may expire.
 const MANY_CLIENTS: usize = 32;
 
-/// A silent client may expire if there are more sessions than this.
+/// The number of sessions above which a silent client may expire.
 const MANY_SESSIONS: usize = 32;
 
-/// A silent client may expire if there are more open files than this.
+/// The number of open files above which a silent client may expire.
 const MANY_OPENS: usize = 2_048;
 
 /// The arguments of a COMPOUND.
@@ -65,7 +65,7 @@ pub struct Args<'a> {
 pub enum RunEnd {
     /// The COMPOUND has results.
     Replied,
-    /// The tag, the minor version or the operation count can't be decoded, and there are no results.
+    /// The tag, the minor version or the operation count can't be decoded, and no results are written.
     Garbage,
 }
 
@@ -142,7 +142,7 @@ impl<A: Allocator + Copy> Server<A> {
     ///
     /// `Misfit`: the open files don't fit. An open's number isn't above those before it, or wasn't given out yet. Its
     /// file doesn't exist, or its client has no record. Its owner has more than 1,024 bytes, its access isn't 1, 2 or
-    /// 3, or its seqid is 0. Or there are more than 4,096 of them, or the number of the next one is 0 or above 2^63.
+    /// 3, or its seqid is 0. Or they are more than 4,096, or the number of the next one is 0 or above 2^63.
     pub fn restored(
         alloc: A,
         tree: Tree<A>,
@@ -164,7 +164,7 @@ impl<A: Allocator + Copy> Server<A> {
 
     /// Runs a COMPOUND without a session at a moment (RFC 8881, section 16.2): its operations in turn, up to and
     /// including the first that isn't OK. Its results are appended to `out`. They are at most [`MAX_RESULTS`] bytes,
-    /// for which there must be room.
+    /// and the room must suffice for that.
     ///
     /// Another minor version than 1 answers MINOR_VERS_MISMATCH, and more than 16 operations answer TOO_MANY_OPS, with
     /// no results. The operations of sessions, and unsupported ones, answer NOTSUPP. CREATE, LINK, NVERIFY, OPEN,
@@ -198,13 +198,14 @@ impl<A: Allocator + Copy> Server<A> {
     }
 
     /// Runs a COMPOUND with sessions at a moment (RFC 8881, sections 2.10.6 and 16.2). It is refused, is a retry, or is
-    /// run. Its results are appended to `out`. They are at most [`MAX_RESULTS`] bytes, for which there must be room.
+    /// run. Its results are appended to `out`. They are at most [`MAX_RESULTS`] bytes, and the room must suffice for
+    /// that.
     ///
     /// After a SEQUENCE the operations run in turn, up to and including the first that isn't OK, within what the
     /// session was granted. Their results are cached. A retry of the last call of a slot gets the cached reply, and
     /// changes nothing. EXCHANGE_ID, CREATE_SESSION, DESTROY_SESSION and DESTROY_CLIENTID are each the only operation
-    /// of their COMPOUND. The operations that answer DELAY in [`Server::run_bare`] do here too if an allocation fails.
-    /// So do EXCHANGE_ID and a new CREATE_SESSION. Then nothing changes.
+    /// of their COMPOUND. The operations that answer DELAY in [`Server::run_bare`] do here too if an allocation fails,
+    /// and EXCHANGE_ID and a new CREATE_SESSION do as well. Then nothing changes.
     #[tactic(auto, using(crate::proofs::Replying::recorded_some, crate::proofs::Replying::recorded_none))]
     pub fn run(
         &mut self,
@@ -225,7 +226,7 @@ impl<A: Allocator + Copy> Server<A> {
     }
 
     /// Runs a COMPOUND as [`Server::run`] does, and returns the facts for the call's record. `None`: the tag, the minor
-    /// version or the operation count can't be decoded, and there are no results. The sequence ID that a call encodes
+    /// version or the operation count can't be decoded, and no results are written. The sequence ID that a call encodes
     /// is a number of 32 bits (`numbered`).
     pub fn run_recorded(
         &mut self,
@@ -273,12 +274,12 @@ impl<A: Allocator + Copy> Server<A> {
     }
 
     /// Replays a logged call, as [`Server::run_recorded`] does, after its slot is marked as lagging: the slot may have
-    /// accepted calls that weren't logged. So the call is new if its sequence ID is 1 to 2^20 ahead of the one that the
-    /// slot caches.
+    /// accepted calls that weren't logged. The call is then new if its sequence ID is 1 to 2^20 ahead of the one that
+    /// the slot caches.
     ///
     /// `delayed` is the place of the operation whose allocation failed, from the call's record (see [`Ran`]). Its
     /// allocation fails here too: it is answered DELAY and isn't run. An operation that never allocates memory runs
-    /// there all the same; then the place in [`Ran`] is another one.
+    /// all the same; then the place in [`Ran`] is another one.
     pub fn replay(
         &mut self,
         args: Args<'_>,
@@ -307,15 +308,15 @@ impl<A: Allocator + Copy> Server<A> {
         self.realm.lag_for(compound);
     }
 
-    /// Whether there are enough clients, sessions or open files that a silent client may expire.
+    /// Whether the clients, sessions or open files are enough for a silent client to expire.
     fn is_crowded(&self) -> bool {
         let (records, sessions) = self.realm.clients.counts();
         records > MANY_CLIENTS || sessions > MANY_SESSIONS || self.realm.opens.len() > MANY_OPENS
     }
 
-    /// The client to expire at this moment, if any. Then there are more than 32 records, 32 sessions or 2,048 open
-    /// files, and the client's lease wasn't renewed for more than 90 seconds, or 10 for a run of `nfsc`. Of several it is
-    /// the one whose lease ended first.
+    /// The client to expire at this moment, if any. None expires up to 32 records, 32 sessions and 2,048 open files.
+    /// Its lease wasn't renewed for more than 90 seconds, or 10 for a run of `nfsc`. Of several it is the one whose
+    /// lease ended first.
     pub fn silent(&self, now: Moment) -> Option<u64>
         ensures { IfSome result (λ client. IsSome (client_at self.now.realm.registry client)) }
     {
@@ -350,7 +351,7 @@ impl<A: Allocator + Copy> Server<A> {
     /// the new book, and no summary that was remembered before is used again. The tree with its owner, the open files,
     /// the clients with their sessions, and the trail stay. It allocates no memory.
     ///
-    /// `Err`: there is no next epoch ([`next_epoch`]); the new book is returned, and nothing changes.
+    /// `Err`: no epoch is left ([`next_epoch`]); the new book is returned, and nothing changes.
     pub fn reload(&mut self, book: Book) -> Result<Book, Book>
         ensures given { MatchOption (next_epoch self.old.settings.epoch) (result ≡ Err book)
             (λ epoch. result ≡ Ok self.old.settings.book) }
@@ -379,8 +380,8 @@ impl<A: Allocator + Copy> Server<A> {
         self.realm.tree.tree()
     }
 
-    /// Forgets the lines of the trail, and counts from 0 again. So the lines of calls that are replayed at a start
-    /// aren't reported twice. It allocates no memory.
+    /// Forgets the lines of the trail, and counts from 0 again. The lines of calls that are replayed at a start are
+    /// then not reported twice. It allocates no memory.
     pub fn forget_lines(&mut self)
         ensures { self.new ≡ without_lines self.old }
     {

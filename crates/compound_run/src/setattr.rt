@@ -267,7 +267,7 @@ impl<A: Allocator + Copy> Realm<A> {
         Ok(())
     }
 
-    /// Sets these attributes; if there are none, no tick is taken. `NoSpc`: the ACL would exceed the bounds of an ACL.
+    /// Sets these attributes; without any, no tick is taken. `NoSpc`: the ACL would exceed the bounds of an ACL.
     /// `Delay`: an allocation fails.
     #[tactic(auto, unfolding(crate::specs::Operations::Setattr::can_count, crate::specs::Operations::Setattr::setting))]
     fn set_any(&mut self, now: Moment, number: u64, wanted: Attrs<A>) -> Result<(), Status>

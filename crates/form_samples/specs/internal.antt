@@ -1,3 +1,3 @@
--- What private contracts, invariants and proofs name. No public contract reaches it.
+-- Definitions that only private contracts, invariants and proofs name. No public contract reaches them.
 pub mod Children
 pub mod Forms

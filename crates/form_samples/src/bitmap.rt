@@ -68,7 +68,7 @@ impl Bitmap {
         Ok(words)
     }
 
-    /// Reads a set of at most eight words. `TooLong`: there are more.
+    /// Reads a set of at most eight words. `TooLong`: it has more.
     pub fn read(reader: &mut Reader<'_>) -> Result<Bitmap, XdrFault>
         ensures { Gives (λ b. b) reader.old reader.new result
             (in_normal_form (Some trimmed) (read_at bitmap reader.old)) }

@@ -85,7 +85,7 @@ impl<'a> Wire<'a> for Stable {
     }
 }
 
-/// A number that a reader ignores, and a time if there is one: an ignored field, and optional data.
+/// A number that a reader ignores, and an optional time: an ignored field, and optional data.
 #[derive(Clone, Copy, PartialEq, Eq)]
 pub struct Mark {
     pub time: Option<i64>,

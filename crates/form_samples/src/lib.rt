@@ -1,5 +1,5 @@
-//! Samples of user-defined XDR forms, one of each shape: a struct, unions, a chain, an array with a normal form. There
-//! are samples of names for READDIR too, and a law of statuses.
+//! Samples of user-defined XDR forms, one of each shape: a struct, unions, a chain, an array with a normal form. The
+//! crate also has samples of names for READDIR, and a law of statuses.
 #![tactic(auto)]
 
 mod bitmap;

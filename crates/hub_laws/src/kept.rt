@@ -27,8 +27,8 @@ pub fn a_start_covers()
     ensures { (q s : ServerState) → Covers q s → Covers (started q).state s }
 {}
 
-/// Replaying entries keeps what a checkpoint requires of a server. Whether its sessions persist over a restart stays (RFC
-/// 8881, section 2.10.6.5), and the epoch of its book never falls.
+/// Replaying entries keeps the facts that a checkpoint requires of a server. The persistence of its sessions over a
+/// restart is unchanged (RFC 8881, section 2.10.6.5), and the epoch of its book never falls.
 pub fn replays_leave_what_lasts()
     ensures lasting { (entries : List Entry) (old new : ServerState) → ReplaysAll entries old new →
         new.realm.lasting ≡ old.realm.lasting }

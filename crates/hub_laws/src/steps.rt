@@ -1,4 +1,4 @@
-//! What no step of the machine changes.
+//! Facts that no step of the machine changes.
 ghost use Rattle.std.specs.Prelude.{◌≡◌, ◌≤◌};
 ghost use Rattle.nfs_hub.specs.Machine.{Event, State, Step};
 

@@ -8,7 +8,7 @@ use Rattle.compound_run.specs.State.{State, with_book}
 use Rattle.nfs_hub.specs.Answer.{Served, with_lasting_sessions}
 use Rattle.call_store.specs.Crash.{LogsRepresent, RepresentAfter}
 
--- What the earlier runs have left: all acts of the disk so far, the newest first; the logs of which one is active; and
+-- The result of the earlier runs: all acts of the disk so far, the newest first; the logs, one of which is active; and
 -- the states that they represent. A log is `None` if no checkpoint was finished yet.
 pub record Before : Type 0 where
   pub states : List State

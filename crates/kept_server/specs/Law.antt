@@ -15,7 +15,7 @@ use Rattle.nfs_streams.specs.Runs.{Runs}
 use Rattle.kept_server.specs.Beginning.{Before, BeginsWith, IsBegun, RepresentsMeanwhile}
 use Rattle.kept_server.specs.Kept.{Serves}
 
--- What a run leaves if it is interrupted after these of its acts, the newest first. The next run finds exactly that.
+-- The result of a run that is interrupted after these of its acts, the newest first. The next run finds exactly that.
 -- Its first server covers a state that has everything that was done for each reply of these acts. This holds whichever
 -- book the next run has.
 pub record Leaves (limits : Limits) (start : State) (prefix : List Act) (history : List DiskAct) : Type 0 where
@@ -34,7 +34,7 @@ GoesOnLaw A =
     (mid new : Option (List Act)) (run : Serves A before book limits end acts mid new) (later prefix : List Act)
     → run.serves.acts ≡ later ++ prefix → Leaves limits run.serves.start prefix (acts ++ before.history)
 
--- What a start leaves if it is interrupted after these of its acts of the disk. The next run finds exactly that. Each
+-- The result of a start that is interrupted after these of its acts of the disk. The next run finds exactly that. Each
 -- state that the disk then represents is from before, or one with which this run began. A checkpoint that was finished
 -- before isn't missing.
 pub record LeavesMeanwhile (before : Before) (book : Content) (prefix : List DiskAct) : Type 0 where

@@ -11,7 +11,7 @@ use std::hash::RandomState;
 use store_journal::{Current, Disk, Identity};
 use who_book::Book;
 
-/// What a server is started with.
+/// The inputs of a server's start.
 #[derive(Drop)]
 pub struct Start {
     /// The book of names. It judges each call until another book is loaded.

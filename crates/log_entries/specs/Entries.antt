@@ -102,6 +102,6 @@ entries_by zero (b ∷ bytes) = None
 entries_by (suc n) (b ∷ bytes) = then_others (entries_by n) (entry_at (b ∷ bytes))
 
 -- All entries of a record of the log, in their order. `None`: some bytes are no entry. Each entry has at least one
--- byte, so there are at most as many entries as bytes.
+-- byte. The entries are therefore at most as many as the bytes.
 unfoldable pub entries_in : List ℕ → Option (List Entry)
 entries_in bytes = entries_by (length bytes) bytes

@@ -56,7 +56,8 @@ fn take<'a>(reader: &mut Reader<'a>) -> Option<Entry<'a>>
 }
 
 impl<'a> Entry<'a> {
-    /// The entry at the start of the bytes, and the number of bytes that it takes. `None`: no entry is there.
+    /// The entry at the start of the bytes, and the number of bytes that it takes. `None`: the bytes don't begin with
+    /// an entry.
     pub fn read(bytes: &'a [u8]) -> Option<(Self, usize)>
         ensures reads { option_map (λ x. (entry_of x.0, drop x.1 bytes.now)) result ≡ entry_at bytes.now }
         ensures some { IfSome result (λ x. 0 < x.1) }

@@ -16,7 +16,7 @@ pub fn call_room(len: usize) -> usize
     len.saturating_add(AROUND_CALL)
 }
 
-/// Kind, whether there is a text, length, and at most three bytes of padding.
+/// Kind, the flag of the text, length, and at most three bytes of padding.
 const AROUND_BOOK: usize = 4 + 4 + 4 + 3;
 
 /// Room that is enough for the entry of a book whose text has `len` bytes.

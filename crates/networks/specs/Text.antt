@@ -18,7 +18,7 @@ is_slash c = c == 47
 abbrev pub address_part : List ℕ → List ℕ
 address_part text = before_first is_slash text
 
--- the text after the first slash, if there is one
+-- the text after the first slash, if any
 abbrev pub prefix_part : List ℕ → Option (List ℕ)
 prefix_part text =
     if nat_lt (position_or_len is_slash text) (length text) then Some (after_first is_slash text) else None

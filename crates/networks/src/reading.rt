@@ -62,7 +62,7 @@ fn number(digits: &str) -> u32
     digits.parse::<u32>().unwrap_or(u32::MAX)
 }
 
-/// The length of the prefix of an address of this width, from the written length if there is one.
+/// The length of the prefix of an address of this width, from the written length, if any.
 fn prefix_length(written: Option<&str>, width: u8) -> Result<u8, NetworkError>
     ensures { ReadsLength (option_map (λ t. t.now) written.entry) width result }
 {

@@ -80,7 +80,7 @@ SetAclAsks part path texts names op =
     (values : List (Value ace)) × (names_in path ≡ Some names) × (0 < length texts) × AreRead texts values
     × (op ≡ set_attributes (of_entries part values))
 
--- The path is read before the ACEs, of which there is at least one.
+-- The path is read before the ACEs, and at least one ACE is required.
 abbrev pub WrongAcl : List ℕ → List (List ℕ) → ToolFault → Type 0
 WrongAcl path texts Path = names_in path ≡ None
 WrongAcl path texts Entry =

@@ -47,7 +47,7 @@ columns end l =
 abbrev pub line : Listed → List ℕ
 line l = columns 32 l
 
--- ---- what ends columns and lines
+-- ---- the ends of columns and lines
 
 -- the byte between two columns: a space, or a zero byte
 abbrev pub column_end : Ends → ℕ
@@ -93,7 +93,7 @@ parts_from part (byte ∷ text) = if byte == 0 then part ∷ parts_from [] text 
 abbrev pub parts : List ℕ → List (List ℕ)
 parts text = parts_from [] text
 
--- a size of 64 bits, if there is one
+-- a size of 64 bits, if any
 abbrev pub IsSize : Option ℕ → Type 0
 IsSize (Some size) = size < 2 ^ 64
 IsSize None = Unit {0}

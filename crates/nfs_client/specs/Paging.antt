@@ -39,7 +39,7 @@ module _ {S A V : Type 0} (paging : Paging S A V) where
   PageGives before old new result =
       AskGives paging.talks (taking paging.taken itself) (within_session (paging.asks old before)) old new result
 
-  -- an exchange for each of these pages, none of which is the last
+  -- an exchange for each of these pages, before the last one
   abbrev pub Goes : Client S A → List V → Client S A → Type 0
   Goes old [] new = new ≡ old
   Goes old (v ∷ before) new =
@@ -57,7 +57,7 @@ module _ {S A V : Type 0} (paging : Paging S A V) where
       (mid : Client S A) × (before : List V) × Goes old before mid × (length before ≡ most_calls)
       × (new ≡ record mid { usable = false })
 
-  -- All pages up to the last, at most as many as the most calls; or an exchange fails; or there are too many pages.
+  -- All pages up to the last, at most as many as the most calls; or an exchange fails; or the pages are too many.
   abbrev pub PagesGive : {X W : Type 0} → (X → W) → (List V → W) → Client S A → Client S A → Result X ToolFault → Type 0
   PagesGive value whole old new (Ok x) =
       (mid : Client S A) × (before : List V) × (last : V) × Goes old before mid × (length before < most_calls)

@@ -9,7 +9,7 @@ is_slash b = b == 47
 abbrev pub is_name : List ℕ → Bool
 is_name name = not (length name == 0)
 
--- the parts between the slashes, each of which is a name: a part that isn't empty
+-- the parts between the slashes: each is a name, a part that isn't empty
 abbrev pub parts_of : List ℕ → Option (List (List ℕ))
 parts_of text = if list_all is_name (slice_split is_slash text) then Some (slice_split is_slash text) else None
 

@@ -14,7 +14,7 @@ use Rattle.nfs_client.specs.declared.fault.ToolFault.TheVariants.{Memory, TooLar
 abbrev pub asked_of : List Operation → List ℕ
 asked_of ops = map number_of ops
 
--- The bytes are these operations, and there is room for all further ones that a record may have.
+-- The bytes are these operations, and all further ones that a record may have fit.
 pub record Fits (body : Buffer) (ops : List Operation) : Type 0 where
   pub bytes : body.bytes ≡ flat_map op_bytes ops
   pub room : length body.bytes + body.room ≡ most_sent

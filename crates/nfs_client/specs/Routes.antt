@@ -21,8 +21,8 @@ abbrev pub most_of_both : ℕ
 most_of_both = 11
 
 -- The most names of the first of two paths that may remain at the end of its approaches. The paths have `names` and
--- `others` names. If one COMPOUND can walk both paths there is no approach. Else the first is walked to its end,
--- before a name of the second is.
+-- `others` names. If one COMPOUND can walk both paths, no approach is made. Else the first is walked to its end, before
+-- a name of the second is.
 abbrev pub left_of_first : ℕ → ℕ → ℕ
 left_of_first names others = if nat_le (names + others) most_of_both then most_of_both else 0
 

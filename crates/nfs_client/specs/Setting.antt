@@ -17,7 +17,7 @@ use Rattle.nfs_client.specs.declared.acl_part.AclPart.TheVariants.{Acl, Dacl, Sa
 abbrev pub set_under : Value stateid → Seen → List ℕ → Operation
 set_under id s values = Known kinds.SetAttr (id, (client_set s, values))
 
--- the same without an open
+-- SETATTR of the set of these attributes without an open, with these values
 abbrev pub set_by : Seen → List ℕ → Operation
 set_by s values = set_under anonymous s values
 
@@ -56,7 +56,7 @@ of_entries Acl entries = record of_nothing { entries = Some entries }
 of_entries Dacl entries = record of_nothing { dacl = Some (0, entries) }
 of_entries Sacl entries = record of_nothing { sacl = Some (0, entries) }
 
--- the size alone, if there is one
+-- the size alone, if any
 abbrev pub with_size : Option ℕ → Seen
 with_size size = record of_nothing { size = size }
 

@@ -18,11 +18,11 @@ use Rattle.nfs_client.specs.declared.fault.ToolFault.TheVariants.{Memory, TooLar
 abbrev pub save : Operation
 save = Known kinds.SaveFh tt
 
--- along a path, SAVEFH there, along another path, and an operation
+-- along a path, SAVEFH at its end, along another path, and an operation
 abbrev pub along_both : {S A : Type 0} → Client S A → Route → Route → Operation → List Operation
 along_both client first second op = sequence client ∷ walk first ++ save ∷ walk second ++ op ∷ []
 
--- what may be wrong with words: the operation that they make can also be too large alone
+-- the faults of words: the operation that they make can also be too large alone
 abbrev pub OrLarge : (Operation → Type 0) → (ToolFault → Type 0) → ToolFault → Type 0
 OrLarge asks wrong TooLarge = (op : Operation) × asks op × IsLarge op
 OrLarge asks wrong fault = wrong fault

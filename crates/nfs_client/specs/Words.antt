@@ -18,7 +18,7 @@ pub data CommandLine : Type 0 where
   ChMod : List ℕ → List ℕ → CommandLine
   -- the ACL (access control list) or its part, and the path
   GetAcl : AclPart → List ℕ → CommandLine
-  -- the ACL or its part, the path and the ACEs, of which there is at least one
+  -- the ACL or its part, the path, and at least one ACE
   SetAcl : AclPart → List ℕ → List (List ℕ) → CommandLine
   Access : List ℕ → CommandLine
 

@@ -50,7 +50,7 @@ pub(crate) fn handle_bytes<A: Allocator>(
     Ok(bytes)
 }
 
-/// The filehandle in a result, if there is one.
+/// The filehandle in a result, if any.
 fn reached<A: Allocator>(alloc: A, found: Option<OpResult<'_>>) -> Result<Vec<u8, A>, ToolFault>
     ensures { TakeGives (λ v. v.items) (option_and_then handle_of (option_map read_view found.entry)) result }
 {
@@ -146,7 +146,7 @@ impl<S: Transport, A: Allocator + Copy> Client<S, A> {
         Ok(request)
     }
 
-    /// Approaches the end of a path. Returns the request of an operation there, which walks the remaining names.
+    /// Approaches the end of a path. Returns the request of an operation at that end, which walks the remaining names.
     pub(crate) fn ready(&mut self, names: &[&[u8]], op: Op<'_>) -> Result<Request<A>, ToolFault>
         ensures { ReadyGives S.talks (map (λ n. n.now) names.now) (op_view op.entry)
             self.old self.new result }
@@ -177,8 +177,8 @@ impl<S: Transport, A: Allocator + Copy> Client<S, A> {
         Ok(request)
     }
 
-    /// Approaches the ends of two paths, the end of the first path first. Returns the request of an operation there,
-    /// which walks the remaining names of both.
+    /// Approaches the ends of two paths, the end of the first path first. Returns the request of an operation at those
+    /// ends, which walks the remaining names of both.
     pub(crate) fn ready_both(
         &mut self,
         names: &[&[u8]],

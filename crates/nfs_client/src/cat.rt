@@ -49,7 +49,7 @@ impl<A: Allocator + Copy> Reply<A> {
         }
     }
 
-    /// Appends the bytes at the end of the results to the bytes read by now. Returns whether the file ends there.
+    /// Appends the bytes at the end of the results to the bytes read by now. Returns whether the file ends after them.
     fn put_piece(&self, alloc: A, bytes: &mut Vec<u8, A>) -> Result<bool, ToolFault>
         ensures { PieceTaken (results_to self.now.xid self.now.asked.items self.now.content.items) bytes.old.items
             bytes.new.items result }

@@ -64,7 +64,7 @@ impl FaultText {
         self.push(buffer.format(number).as_bytes());
     }
 
-    /// Appends the name of the operation of a number, or the number if this server has no such operation.
+    /// Appends the name of the operation of a number, or the number if this server has no operation of it.
     fn push_operation(&mut self, op: u32)
         requires { length self.old + 20 ≤ MOST_TEXT }
         ensures text { self.new ≡ self.old ++ operation_text op }

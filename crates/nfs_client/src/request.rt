@@ -39,7 +39,7 @@ fn has_room(put: Result<(), Full>) -> Result<(), ToolFault>
     }
 }
 
-/// Bytes as sent. `Memory`: there are more bytes than a length field can express. No bytes that can be copied into a
+/// Bytes as sent. `Memory`: they are more bytes than a length field can express. No bytes that can be copied into a
 /// call are that long.
 pub(crate) fn sendable(bytes: &[u8]) -> Result<Bytes<'_>, ToolFault>
     ensures { MatchResult result (λ b. b.bytes.now ≡ bytes.now) (λ fault. fault ≡ Memory) }
@@ -97,7 +97,7 @@ impl<A: Allocator + Copy> Request<A> {
         })
     }
 
-    /// The bytes of one more operation, if there is room.
+    /// The bytes of one more operation, if it fits.
     fn write(&mut self, op: Op<'_>)
         ensures holds { (ops : List Operation) → Holds self.old.is_too_large self.old.body ops →
             Holds self.new.is_too_large self.new.body (ops ++ op_view op.entry ∷ []) }

@@ -24,7 +24,7 @@ pub(crate) const MOST_BEFORE_TWO: usize = 12;
 pub(crate) const MOST_OF_BOTH: usize = 11;
 
 /// The most names of the first of two paths that may remain at the end of its approaches. The paths have `names` and
-/// `others` names. If one COMPOUND can walk both paths there is no approach. Else the first is walked to its end,
+/// `others` names. If one COMPOUND can walk both paths, no approach is made. Else the first is walked to its end,
 /// before a name of the second is.
 pub(crate) fn left_of_first(names: usize, others: usize) -> usize
     ensures { result ≡ left_of_first names others }

@@ -46,7 +46,7 @@ fn ace(entry: EntryText<'_>) -> Result<Ace<'_>, ToolFault>
     })
 }
 
-/// `Entry` if there is no ACE.
+/// `Entry` if no ACE is given.
 fn some_entry(texts: &[&[u8]]) -> Result<(), ToolFault>
     ensures { MatchResult result (λ _. 0 < length texts.now) (λ fault. (fault ≡ Entry) × (length texts.now ≡ 0)) }
 {
@@ -109,7 +109,7 @@ fn of_aces<'a>(part: AclPart, aces: &'a [Ace<'a>]) -> Result<ClientAttributes<'a
 
 impl<S: Transport, A: Allocator + Copy> Client<S, A> {
     /// Sets the ACL of an object, or a part of it, to these ACEs, each as text. `Entry`: an ACE can't be read, or
-    /// there is none.
+    /// none is given.
     pub(crate) fn set_list(
         &mut self,
         part: AclPart,
@@ -141,7 +141,7 @@ impl<S: Transport, A: Allocator + Copy> Client<S, A> {
     }
 
     /// Sets the ACL (access control list) of an object to these ACEs, each as text. `Entry`: an ACE can't be read, or
-    /// there is none.
+    /// none is given.
     pub fn setacl(&mut self, path: &[u8], texts: &[&[u8]]) -> Result<(), ToolFault>
         ensures failed { self.old.usable ≡ false → result ≡ Err Failed }
         ensures gives { CommandGives S.talks
@@ -152,7 +152,7 @@ impl<S: Transport, A: Allocator + Copy> Client<S, A> {
     }
 
     /// Sets the ACEs that allow and deny, dacl, of the ACL of an object to these ACEs, each as text. `Entry`: an ACE
-    /// can't be read, or there is none.
+    /// can't be read, or none is given.
     pub fn setdacl(&mut self, path: &[u8], texts: &[&[u8]]) -> Result<(), ToolFault>
         ensures failed { self.old.usable ≡ false → result ≡ Err Failed }
         ensures gives { CommandGives S.talks
@@ -163,7 +163,7 @@ impl<S: Transport, A: Allocator + Copy> Client<S, A> {
     }
 
     /// Sets the ACEs that audit and alarm, sacl, of the ACL of an object to these ACEs, each as text. `Entry`: an ACE
-    /// can't be read, or there is none.
+    /// can't be read, or none is given.
     pub fn setsacl(&mut self, path: &[u8], texts: &[&[u8]]) -> Result<(), ToolFault>
         ensures failed { self.old.usable ≡ false → result ≡ Err Failed }
         ensures gives { CommandGives S.talks

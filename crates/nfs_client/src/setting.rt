@@ -60,7 +60,7 @@ pub(crate) fn setting<'a>(
     setting_under(StateId::anonymous(), given, values)
 }
 
-/// The size alone, if there is one.
+/// The size alone, if any.
 pub(crate) fn with_size(size: Option<u64>) -> ClientAttributes<'static>
     ensures { client_value result ≡ with_size size }
 {

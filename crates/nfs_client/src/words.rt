@@ -134,7 +134,7 @@ fn of_more<'a>(name: &[u8], first: &'a [u8], others: &'a [&'a [u8]]) -> Option<C
 }
 
 impl<'a> Command<'a> {
-    /// The command of words. `None`: there is no such command, or it has another number of words.
+    /// The command of words. `None`: no command has the name, or it has another number of words.
     pub fn read(words: &'a [&'a [u8]]) -> Option<Self>
         ensures { option_map command_line result ≡ command_in (map (λ w. w.now) words.entry.now) }
     {

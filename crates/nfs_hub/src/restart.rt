@@ -134,7 +134,7 @@ impl<A: Allocator + Copy> Restart<A> {
 
     /// Replays an entry. A call is run again, at its moment, and the same operation is refused
     /// memory; a client is expired; a book is loaded. A call that differs may have changed
-    /// something: the replay must stop there.
+    /// something: the replay must stop at it.
     pub fn replay(&mut self, entry: &Entry<'_>) -> Result<(), ReplayFault>
         ensures { ReplayEnds result (entry_of entry.entry.now) self.old self.new }
     {

@@ -154,7 +154,7 @@ fn refused(fault: HubFault) -> ServeEnd
 }
 
 /// Opens a connection. Each turn reads at most 4,096 bytes, feeds them at the clock's moment, and
-/// then writes the pending bytes, even if the piece broke the connection. There are at most `turns`
+/// then writes the pending bytes, even if the piece broke the connection. It takes at most `turns`
 /// turns. At the end it closes the connection. Returns how serving ended. If the connection was
 /// refused, nothing was read. If the writer failed, it took a prefix of the bytes to be written.
 pub fn serve<A: Allocator + Copy, R: Read, W: Write, C: Clock>(

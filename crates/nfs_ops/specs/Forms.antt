@@ -13,7 +13,7 @@ use Rattle.nfs_types.specs.Forms.{handle, stateid, time, bitmap, attributes, tri
 abbrev pub bytes : Xdr
 bytes = opaque 0xffff_ffff
 
--- a word of one value: an enum or a union of which only one number is used
+-- a word of one value: an enum or a union that has only one number in use
 abbrev pub always : ℕ → Xdr
 always n = union (arm n void no_more)
 
@@ -132,7 +132,7 @@ getattr_args = bitmap
 abbrev pub getattr_result : Xdr
 getattr_result = attributes
 
--- with this many words of the bitmap, and this many bytes of values
+-- the size by the number of words of the bitmap, and by the number of bytes of the values
 abbrev pub getattr_size : ℕ → ℕ → ℕ
 getattr_size words values = 16 + 4 * words + with_padding values
 
@@ -255,7 +255,7 @@ read_args = fields (stateid ∷ hyper ∷ uint ∷ [])
 abbrev pub read_result : Xdr
 read_result = fields (boolean ∷ bytes ∷ [])
 
--- with this many bytes of the file
+-- the size by the number of bytes of the file
 abbrev pub read_size : ℕ → ℕ
 read_size count = 16 + with_padding count
 
@@ -293,8 +293,7 @@ readdir_result = fields (zeros ∷ chain entry ∷ boolean ∷ [])
 abbrev pub readdir_result_normal : Value readdir_result → Value readdir_result
 readdir_result_normal v = (v.0, (map entry_normal v.1.0, v.1.1))
 
--- an entry after its link: with this many bytes of its name, this many words of its bitmap, and this many bytes of
--- values
+-- the size of an entry after its link, by the bytes of its name, the words of its bitmap, and the bytes of its values
 abbrev pub entry_size : ℕ → ℕ → ℕ → ℕ
 entry_size name words values = 24 + with_padding name + 4 * words + with_padding values
 
@@ -328,7 +327,7 @@ entry_attributes e = e.1.1
 abbrev pub readlink_result : Xdr
 readlink_result = bytes
 
--- with this many bytes of the text
+-- the size by the number of bytes of the text
 abbrev pub readlink_size : ℕ → ℕ
 readlink_size text = 12 + with_padding text
 

@@ -13,11 +13,11 @@ pub record Spelled : Type 0 where
   pub form : Xdr
   pub normal : Normal (Value form)
 
--- a form of which each value is in normal form
+-- a form whose values are all in normal form
 abbrev pub alone : Xdr → Spelled
 alone t = record { form = t; normal = None }
 
--- a form of which f gives the normal form
+-- a form whose normal form f gives
 abbrev pub normally : (t : Xdr) → (Value t → Value t) → Spelled
 normally t f = record { form = t; normal = Some f }
 

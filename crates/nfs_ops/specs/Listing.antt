@@ -62,7 +62,7 @@ first_refusal [] = None
 first_refusal (Ok e ∷ others) = first_refusal others
 first_refusal (Err refusal ∷ others) = Some refusal
 
--- an entry fits, or there is none and a result without entries fits
+-- an entry fits, or no entry exists and a result without entries fits
 abbrev pub some_fit : {R : Type 0} → ℕ → List (Judged R) → Bool
 some_fit limit [] = nat_le empty_size limit
 some_fit limit (j ∷ others) = nat_lt 0 (fitting limit (j ∷ others))
@@ -83,8 +83,8 @@ listing limit all = listing_unless limit all (first_refusal (judged_within limit
 
 -- ---- the facts of a listing
 
--- The entries are a prefix of all, none of which is refused, and it fits. After the prefix there is no entry, or one
--- that isn't refused and exceeds the limit.
+-- The entries are a prefix of all, none of which is refused, and it fits. The entry after the prefix, if any, isn't
+-- refused and exceeds the limit.
 pub record IsLongest {R : Type 0} (limit : ℕ) (all : List (Judged R)) (given : Listing) : Type 0 where
   pub rest : List (Judged R)
   pub parts : all ≡ map Ok given.entries ++ rest
@@ -102,7 +102,7 @@ pub record IsRefused {R : Type 0} (limit : ℕ) (all : List (Judged R)) (refusal
   pub parts : all ≡ map Ok before ++ Err refusal ∷ others
   pub fits : (before ≡ []) ⊎ (listing_size before ≤ limit)
 
--- The first entry isn't refused and doesn't fit; or there is none, and a result without entries doesn't fit.
+-- The first entry isn't refused and doesn't fit; or no entry exists, and a result without entries doesn't fit.
 pub record IsTooSmall {R : Type 0} (limit : ℕ) (all : List (Judged R)) : Type 0 where
   pub none : all ≡ [] → limit < empty_size
   pub first : (e : Value entry) (others : List (Judged R)) → all ≡ Ok e ∷ others → limit < listing_size (e ∷ [])

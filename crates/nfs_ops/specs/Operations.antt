@@ -41,7 +41,7 @@ kind_in _ = None
 abbrev pub placement_of : Operation → Option Placement
 placement_of op = option_map (λ k. (row k).placement) (kind_in op)
 
--- the number and the arguments, as they are written; only the number if there is no operation
+-- the number and the arguments, as they are written; only the number of an unsupported or illegal operation
 abbrev pub op_item : Operation → Item
 op_item (Known k v) = numbered (row k).number (row k).takes v
 op_item (Unsupported n) = number n

@@ -56,7 +56,7 @@ simple number name takes gives = record {
   delays = false;
 }
 
--- the same, with this place, these unsupported arguments, a change of the tree, or DELAY
+-- the row with this place, these unsupported arguments, a change of the tree, or DELAY
 abbrev pub placed : Placement → Row → Row
 placed place r = record r { placement = place }
 

@@ -291,7 +291,7 @@ op_view (ops.Bad n) = Bad n
 abbrev pub after : Op → List ℕ → Operation × List ℕ
 after op rest = (op_view op, rest)
 
--- A result as it is written: a refusal isn't OK there either.
+-- A result as it is written. A refusal isn't OK in it either.
 abbrev pub result_view : OpResult → Outcome
 result_view (results.Access r) = Done kinds.Access (access_result_value r)
 result_view (results.Close r) = Done kinds.Close (close_result_value r)

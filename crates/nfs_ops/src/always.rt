@@ -2,7 +2,7 @@
 use std::alloc::Allocator;
 use xdr_wire::{Full, Reader, Spell, Wire, Writer, XdrFault};
 
-/// A word that is always `N`: an enum or a union of which only one number is used. `BadChoice`: another number.
+/// A word that is always `N`: an enum or a union that has only one number in use. `BadChoice`: another number.
 #[derive(Clone, Copy)]
 pub struct Always<const N: u32>;
 

@@ -210,7 +210,7 @@ macro_rules! rows {
 
 pub(crate) use rows;
 
-/// An operation with its arguments (RFC 8881, sections 16.2 and 18), or why there is none.
+/// An operation with its arguments (RFC 8881, sections 16.2 and 18), or why none can be run.
 #[derive(Drop)]
 pub enum Op<'a> {
     /// ACCESS: checks access rights of the caller.

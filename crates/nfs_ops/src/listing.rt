@@ -18,11 +18,11 @@ use xdr_wire::{Full, Spell, Writer};
 pub enum Next<R> {
     /// The entry is written.
     Written,
-    /// There is no entry.
+    /// No entry is left.
     End,
     /// The entry is refused, with this refusal.
     Refused(R),
-    /// There is no room for the entry.
+    /// The entry doesn't fit.
     Full,
 }
 
@@ -55,12 +55,12 @@ pub fn write_entry<A: Allocator>(given: GivenEntry<'_>, writer: &mut Writer<A>) 
     Some(given).write(writer)
 }
 
-/// Why there are no entries.
+/// Why no entries are returned.
 #[derive(Clone, Copy)]
 pub enum ListFault<R> {
     /// An entry is refused, with this refusal.
     Refused(R),
-    /// The first entry doesn't fit. Or there is no entry, and a result without entries doesn't fit.
+    /// The first entry doesn't fit. Or no entry exists, and a result without entries doesn't fit.
     TooSmall,
 }
 
@@ -99,7 +99,7 @@ fn write_fitting<E: Entries, A: Allocator>(
     }
 }
 
-/// Writes number, status OK and the verifier, for which there is room.
+/// Writes number, status OK and the verifier. The room suffices for them.
 fn put_head<A: Allocator>(writer: &mut Writer<A>)
     requires { 16 ≤ writer.old.room }
     ensures { Appends writer.old writer.new (to_be_bytes w32 OP_READDIR ++ to_be_bytes w32 0 ++ replicate 8 0) }

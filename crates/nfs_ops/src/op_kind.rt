@@ -31,7 +31,7 @@ macro_rules! number {
     };
 }
 
-/// The operation in the row with a number, if there is one.
+/// The operation in the row with a number, if any.
 macro_rules! kind {
     (
         $of:expr;

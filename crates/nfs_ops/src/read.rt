@@ -89,7 +89,7 @@ impl<'a> Wire<'a> for ReadResult<'a> {
     }
 }
 
-/// Writes number, status OK and eof, for which there is room.
+/// Writes number, status OK and eof. The room suffices for them.
 fn put_head<A: Allocator>(eof: bool, writer: &mut Writer<A>)
     requires { 12 ≤ writer.old.room }
     ensures { Appends writer.old writer.new

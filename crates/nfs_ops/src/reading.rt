@@ -47,7 +47,8 @@ fn no_operation<'a>(number: u32) -> Op<'a>
     }
 }
 
-/// Reads the arguments of an operation of this kind, of which none is unsupported. `make` makes the operation of them.
+/// Reads the arguments of an operation of this kind. None of its arguments are unsupported. `make` makes the operation
+/// of them.
 fn read_as<'a, T: Wire<'a>, F: FnOnce(T) -> Op<'a> + Drop>(
     kind: OpKind,
     make: F,
@@ -66,7 +67,7 @@ fn read_as<'a, T: Wire<'a>, F: FnOnce(T) -> Op<'a> + Drop>(
     }
 }
 
-/// Reads the arguments in a row, if there are any.
+/// Reads the arguments in a row, if any.
 macro_rules! arguments {
     (Open arguments, $reader:expr) => { read_open($reader) };
     (ExchangeId arguments, $reader:expr) => { read_exchange_id($reader) };

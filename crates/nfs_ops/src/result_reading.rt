@@ -15,7 +15,7 @@ use crate::{OP_SETATTR, OpKind, OpResult, rows};
 use nfs_types::{Bitmap, StateId, Status};
 use xdr_wire::{Reader, Wire, XdrFault};
 
-/// The status with this number (section 15.1). `None`: there is none, or it is OK.
+/// The status with this number (section 15.1). `None`: no status has the number, or it is OK.
 #[tactic(auto, unfolding(crate::specs::ResultReading::refusal_at))]
 fn refusal_of(number: u32) -> Option<Status>
     ensures { option_map number_of result ≡ refusal_at number }

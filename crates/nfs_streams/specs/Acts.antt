@@ -44,7 +44,7 @@ pub data Act : Type 0 where
   Lost : Act
   -- this act on a file of the store
   OnDisk : DiskAct → Act
-  -- The persistent state of a server in this state, which outlives a restart, is stored if there is a store. The log
+  -- With a store, the persistent state of a server in this state is stored: the part that outlives a restart. The log
   -- begins anew.
   Stored : ServerState → Act
   -- storing failed
@@ -86,7 +86,7 @@ abbrev pub looked : Option Content → List Act
 looked (Some book) = Brought book ∷ []
 looked None = Looked ∷ []
 
--- the act of a read into a buffer that moved this many bytes
+-- the act of a read into a buffer, by the bytes that it moved
 abbrev pub read_acts : ℕ → Moved → List ℕ → List Act
 read_acts place (moved.Bytes n) bytes = Received place (take n bytes) ∷ []
 read_acts place moved.NotYet bytes = []
@@ -109,7 +109,7 @@ IsWithin moved.Failed most = Unit {0}
 
 -- ---- values of a list of acts, the newest first
 
--- the number of the connection at a place, if there is one
+-- the number of the connection at a place, if any
 abbrev pub conn_at : List Act → ℕ → Option ℕ
 conn_at [] place = None
 conn_at (Admitted at id ∷ acts) place = if place == at then Some id else conn_at acts place
@@ -199,7 +199,7 @@ IsAsked (act ∷ acts) = IsAsked acts
 abbrev pub IsLooked : List Act → Type 0
 IsLooked acts = IsAsked acts × (book_waiting acts ≡ None)
 
--- the server was last stored in this state, if there is a store
+-- with a store, the server was last stored in this state
 abbrev pub IsStored : List Act → ServerState → Type 0
 IsStored [] s = ⊥
 IsStored (Stored state ∷ acts) s = state ≡ s

@@ -29,22 +29,23 @@ EndReason Keep limits start acts s = Just Lost acts
 EndReason Store limits start acts s = Just Unstored acts
 EndReason Memory limits start acts s = acts ≡ []
 
--- what serving is given: its limits; its store, if there is one; and the history of the store's files
+-- the inputs of serving: its limits; its store, if any; and the history of the store's files
 pub record Means : Type 0 where
   pub limits : Limits
   pub store : Option CallStore
   pub history : List DiskAct
 
--- what is seen of serving from outside: the hub, and the acts of the streams if they are known
+-- the observable parts of serving: the hub, and the acts of the streams if they are known
 pub record Seen (A : Type 0) : Type 0 where
   pub hub : Hub A
   pub acts : Option (List Act)
 
--- **Serving all streams.** The hub represents a state to which these events bring the machine. From there the acts run
--- the machine, each allowed when it happens. The numbers of waits and of connections are within the limits. Then the
--- streams that are still at places are closed, and no connection since the start is open. The acts of the streams are
--- exactly those of these acts that are calls of the streams and of the disk. The hub represents the state that the
--- machine reaches. If there is a store, a crash after any of the acts leaves everything of which a reply was written.
+-- **Serving all streams.** The hub represents a state to which these events bring the machine. From that state the acts
+-- run the machine, each allowed when it happens. The numbers of waits and of connections are within the limits. Then
+-- the streams that are still at places are closed, and no connection since the start is open. The acts of the streams
+-- are exactly those of these acts that are calls of the streams and of the disk. The hub represents the state that the
+-- machine reaches. With a store, a crash after any of the acts leaves the effects of every call whose reply was
+-- written.
 pub record ServesAll {A : Type 0} (first : ServedState) (events : List Event) (means : Means) (end : AllEnd)
     (old new : Seen A) : Type 0 where
   pub start : State

@@ -1,5 +1,5 @@
--- A crash at any moment of serving leaves everything of which a reply was written. The exception is a checksum
--- collision.
+-- A crash at any moment of serving leaves the effects of every call whose reply was written. The exception is a
+-- checksum collision.
 use Rattle.std.specs.Prelude.{◌≡◌, ◌⊎◌, ℕ, Bool, true, List, [], ◌∷◌, ◌++◌, Option, Some, None, Result, is_ok}
 use Rattle.store_journal.specs.Disk.{Act as DiskAct}
 use Rattle.store_journal.specs.Journaled.{IsIn}
@@ -46,14 +46,14 @@ pub record Survives (history : List DiskAct) (limits : Limits) (acts : List Act)
   pub represents : KeptRepresent states (disk_of acts ++ history)
   pub covers_replies : (t : ServerState) → IsIn t states → CoversReplies limits acts start s run t
 
--- the same holds after each of the acts
+-- `Survives` holds after each of the acts
 abbrev pub AlwaysSurvives : List DiskAct → (limits : Limits) (acts : List Act) (start s : State)
     → Runs limits acts start s → Type 0
 AlwaysSurvives history limits [] start s run = Survives history limits [] start s run
 AlwaysSurvives history limits (act ∷ acts) start s run =
     Survives history limits (act ∷ acts) start s run × AlwaysSurvives history limits acts start run.0 run.1
 
--- the same holds if there is a store
+-- with a store, `AlwaysSurvives` holds
 abbrev pub SurvivesIn : Option Store → List DiskAct → (limits : Limits) (acts : List Act) (start s : State)
     → Runs limits acts start s → Type 0
 SurvivesIn None history limits acts start s run = Unit {0}
@@ -67,12 +67,12 @@ pub record ServesOpen {A : Type 0} (history : List DiskAct) (store : Store) (hub
   pub sessions : hub.service.in_sessions ≡ true
   pub lasting : IsLasting hub.service.state
 
--- if there is a store, `ServesOpen` holds of it
+-- with a store, `ServesOpen` holds of it
 abbrev pub IsOpen : {A : Type 0} → Option Store → List DiskAct → Hub A → Type 0
 IsOpen None history hub = Unit {0}
 IsOpen (Some store) history hub = ServesOpen history store hub
 
--- What the hub has logged is kept, if there is a store and a log.
+-- The events that the hub has logged are kept, with a store and a log.
 abbrev pub KeepsLog : {A D : Type 0} → Passage D → Hub A → Option Store → Bool → Option Store → Type 0
 KeepsLog p hub None result None = (result ≡ true) × Unchanged p
 KeepsLog p hub None result (Some store') = ⊥
@@ -82,7 +82,7 @@ KeepsLog p hub (Some store) result (Some store') =
     → (done : Result (Unit {0}) StoreFault) × (result ≡ is_ok done)
     × KeepGives p store log s.served.state done store'
 
--- A mark is appended to the store, if there is one.
+-- A mark is appended to the store, if any.
 abbrev pub MarksStore : {D : Type 0} → Passage D → Option Store → Bool → Option Store → Type 0
 MarksStore p None result None = (result ≡ true) × Unchanged p
 MarksStore p None result (Some store') = ⊥

@@ -34,13 +34,13 @@ pub record IsElsewhere {A : Type 0} (start id : ℕ) (at : Option (Peer A)) (now
 abbrev pub Seat : {A : Type 0} → ℕ → ℕ → Option (Peer A) → Option Connected → Type 0
 Seat start id at now = IsHere id at now ⊎ IsElsewhere start id at now
 
--- what is known of a place: the bytes that were read there and aren't given yet, the turns of its connection, and the
--- fault at its bytes that were last given
+-- the known facts about a place: the bytes that were read at it and aren't given yet, the turns of its connection, and
+-- the fault at its bytes that were last given
 abbrev pub Knows : {A : Type 0} → List Act → ℕ → Peer A → Type 0
 Knows acts index peer =
     (ahead acts index ≡ peer.ahead) × (turns_at acts index ≡ peer.turns) × (fault_at acts index ≡ peer.fault)
 
--- After these acts the connection of a place is the one that was admitted there. It is at no other place.
+-- After these acts the connection of a place is the one that was admitted to it. It is at no other place.
 abbrev pub IsSeated : {A : Type 0} → (ℕ → ℕ) → List Act → ℕ → Option (Peer A) → Type 0
 IsSeated owner acts index None = conn_at acts index ≡ None
 IsSeated owner acts index (Some peer) =
@@ -56,7 +56,7 @@ pub record AreSeats {A : Type 0} (start : ℕ) (hub : Hub A) (places : List (Opt
     (machine : State) : Type 0 where
   pub is : IsHub hub machine
   pub fresh : IsFresh machine
-  -- the place of a number's connection, if there is one
+  -- the place of a number's connection, if any
   pub owner : ℕ → ℕ
   pub each : (id : ℕ) → Seat start id (place_at places (owner id)) (machine.connection id)
   pub seated : (index : ℕ) → IsSeated owner acts index (place_at places index)

@@ -109,8 +109,8 @@ Way (Answering n) o acts s =
 Way (Stopped end n) o acts s = Runs o.limits acts o.start s × (waits acts ≡ n) × StoppedBy end acts
 Way (Ending served at) o acts s = (endings : List Act) × (acts ≡ endings ++ served) × Ends served endings at s
 
--- After a run the store keeps the server as it was last stored, and everything since then is logged. What it keeps
--- covers the replies. A crash at any moment so far left a state that does.
+-- After a run the store keeps the server as it was last stored, and everything since then is logged. The kept state
+-- covers the replies. A crash at any moment up to now left a state that does.
 pub record Storing (store : CallStore) (o : Origin) (acts : List Act) (machine : State)
     (run : Runs o.limits acts o.start machine) : Type 0 where
   pub base : ServedState
@@ -130,7 +130,7 @@ StoringIn None (Some store) o acts machine run = ⊥
 StoringIn (Some first) None o acts machine run = ⊥
 StoringIn (Some first) (Some store) o acts machine run = Storing store o acts machine run
 
--- what is known of the store at a stage
+-- the known facts about the store at a stage
 abbrev pub Keeping : (stage : Stage) (o : Origin) (acts : List Act) (machine : State) → Way stage o acts machine
     → Option CallStore → Type 0
 Keeping (Listening n) o acts machine way store = StoringIn o.store store o acts machine way.0
@@ -205,7 +205,7 @@ pub record AtPlace (A : Type 0) : Type 0 where
   pub peer : Option (Peer A)
   pub acts : Option (List Act)
 
--- whatever is at the other places, the connection of this place changes or is closed
+-- independently of the other places, the connection of this place changes or is closed
 abbrev pub Changes : {A : Type 0} → Stage → Stage → Limits → ℕ → AtPlace A → AtPlace A → Type 0
 Changes {A} stage stage' limits place old new =
     (o : Origin) (left : Left) (places : List (Option (Peer A))) → o.limits ≡ limits → place < length places

@@ -1,4 +1,4 @@
-//! Many connections to the file server at once, over streams of which some are ready.
+//! Many connections to the file server at once, over streams that become ready at different times.
 #![tactic(auto)]
 
 mod ahead;

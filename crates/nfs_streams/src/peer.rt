@@ -124,7 +124,7 @@ pub(crate) fn listen<A: Allocator + Copy, S: Streams<A>, C: Clock>(
         return Turned::Done;
     }
     if !peer.ahead.is_empty() {
-        // The bytes are given in this turn, so the next one doesn't wait.
+        // The bytes are given in this turn. The next turn therefore doesn't wait.
         return Turned::Busy;
     }
     if peer.turns >= most {
@@ -218,9 +218,9 @@ fn give_prefix<A: Allocator + Copy, S: Streams<A>, C: Clock>(
     Some(most - n)
 }
 
-/// Gives the hub what was read from the stream of a place, one record after the other. It does so in pieces of at most
-/// 4,096 bytes, while at most 4,096 bytes of replies wait. The trail is kept after each record. `false`: it couldn't be
-/// kept.
+/// Gives the hub the bytes that were read from the stream of a place, one record after the other. The pieces have at
+/// most 4,096 bytes, and are given while at most 4,096 bytes of replies wait. The trail is kept after each record.
+/// `false`: it couldn't be kept.
 pub(crate) fn give<A: Allocator + Copy, S: Streams<A>, C: Clock>(
     hub: &mut Hub<A>,
     streams: &mut S,

@@ -20,7 +20,7 @@ use nfs_hub::{Clock, Hub, MAX_CONNECTIONS};
 use std::alloc::Allocator;
 use who_book::Book;
 
-/// A connection is quiet if no bytes were read or written on it for this many seconds of the clock.
+/// The seconds of the clock without bytes read or written after which a connection is quiet.
 const QUIET: u64 = 2;
 
 /// The state of admission: which connections may still be opened. Also the store, and what waits for a later turn.
@@ -33,7 +33,7 @@ pub(crate) struct AcceptState<A: Allocator + Copy> {
     pub(crate) left: u64,
     /// The stream that arrived last couldn't be taken, or an allocation for it failed.
     pub(crate) refused: bool,
-    /// The store of persistent state, if there is one.
+    /// The store of persistent state, if any.
     pub(crate) store: Option<Store>,
     /// The second of the monotonic clock in which a record was last appended, if no mark was appended since.
     pub(crate) unmarked: Option<u64>,
@@ -102,8 +102,8 @@ fn admit<A: Allocator + Copy, S: Streams<A>, C: Clock>(
     true
 }
 
-/// Opens a connection at a free place for a stream that has arrived, if there is one and the limits allow it. Returns
-/// whether it was opened.
+/// Opens a connection at a free place for a stream that has arrived, if the limits allow it. Returns whether it was
+/// opened.
 fn admit_next<A: Allocator + Copy, S: Streams<A>, C: Clock>(
     hub: &mut Hub<A>,
     streams: &mut S,

@@ -59,7 +59,7 @@ pub enum AllEnd {
     Memory = 5,
 }
 
-/// Why no replies may be written, so that serving ends.
+/// Why no replies may be written. Serving then ends.
 #[derive(Clone, Copy, Debug, PartialEq, Eq)]
 pub(crate) enum Halt {
     /// The trail couldn't be kept.
@@ -97,7 +97,7 @@ fn load_book<A: Allocator + Copy>(hub: &mut Hub<A>, book: Book) -> Option<Book>
     }
 }
 
-/// Loads the book that waits, if there is one. Returns whether none waits now.
+/// Loads the book that waits, if any. Returns whether none waits now.
 fn load_waiting<A: Allocator + Copy>(hub: &mut Hub<A>, accept: &mut AcceptState<A>) -> bool
     ensures moves { (n : ℕ) (places : List (Option (Peer A))) (now : Option (List Act)) →
         Moves (Listening n) (Listening n) accept.old.limits
@@ -133,8 +133,8 @@ fn ask_book<A: Allocator + Copy, S: Streams<A>>(
     accept.book.is_none()
 }
 
-/// Loads the book that waits, if there is one, and then another one that has arrived. `false`: one still waits, and no
-/// bytes may be given.
+/// Loads the book that waits, if any, and then another one that has arrived. `false`: one still waits, and no bytes may
+/// be given.
 fn load_books<A: Allocator + Copy, S: Streams<A>>(
     hub: &mut Hub<A>,
     streams: &mut S,
@@ -200,7 +200,7 @@ fn expire<A: Allocator + Copy, C: Clock>(hub: &mut Hub<A>, clock: &C, limits: Li
     let _ = hub.expire_client(clock.now());
 }
 
-/// Keeps what the hub has logged in the store, if there is one. Returns whether it is kept.
+/// Keeps the events that the hub has logged in the store, if any. Returns whether it is kept.
 fn keep_log<A: Allocator + Copy, S: Streams<A>>(
     hub: &Hub<A>,
     streams: &mut S,
@@ -232,7 +232,7 @@ fn unmarked_since<A: Allocator + Copy, C: Clock>(
     }
 }
 
-/// Stores the persistent state, if there is a store, and begins the log anew. Returns whether it could be stored.
+/// Stores the persistent state, if a store is given, and begins the log anew. Returns whether it could be stored.
 fn store<A: Allocator + Copy, S: Streams<A>, C: Clock>(
     hub: &mut Hub<A>,
     streams: &mut S,
@@ -261,7 +261,7 @@ fn is_due(unmarked: Option<u64>, now: u64) -> bool {
     }
 }
 
-/// Marks the store, if there is one: everything up to here is durable.
+/// Marks the store, if any: everything up to here is durable.
 fn mark_store<A: Allocator + Copy, S: Streams<A>>(
     streams: &mut S,
     alloc: A,
@@ -298,9 +298,10 @@ fn mark<A: Allocator + Copy, S: Streams<A>, C: Clock>(
 /// One turn.
 /// - All places are read.
 /// - The book that waits is loaded, and one that has arrived, and the trail is kept.
-/// - What was read is given to the hub, and the trail is kept after each record. While a book waits nothing is given.
+/// - The bytes that were read are given to the hub, and the trail is kept after each record. While a book waits nothing
+///   is given.
 /// - The most silent client is expired, if one is to expire.
-/// - The persistent state is stored, if there is a store.
+/// - The persistent state is stored, if a store is given.
 /// - The waiting bytes of all places are written.
 /// - The store is marked, in a later second than that of the last record.
 ///
@@ -365,7 +366,7 @@ fn run<A: Allocator + Copy, S: Streams<A>, C: Clock>(
     AllEnd::Turns
 }
 
-/// Serves streams at these places, all of which are free, and then closes all streams that are still open.
+/// Serves streams at these places, which are all free, and then closes all streams that are still open.
 fn serve_at<A: Allocator + Copy, S: Streams<A>, C: Clock>(
     hub: &mut Hub<A>,
     streams: &mut S,
@@ -413,31 +414,31 @@ fn free_places<A: Allocator + Copy>(alloc: A) -> Result<Vec<Option<Peer<A>>, A>,
 /// A turn waits once, and then does this:
 /// - At each place with a connection it reads at most 131,072 bytes, if everything that was read before is given and no
 ///   reply of that connection waits to be written. At a free place it admits a stream that has arrived.
-/// - It asks for another book of names, and loads one that has arrived. So each call whose last byte is read after a
-///   book had arrived is judged by that book. If the allocation for the book's entry in the log fails, nothing is given
-///   until the book is loaded. Each turn tries that again.
-/// - It gives the hub what was read, in order, one record after the other. **The lines of the trail are kept after each
-///   record, before the next one runs**, so none is lost. The bytes are given in pieces of at most 4,096 bytes. The
-///   next piece begins only while at most 4,096 bytes of replies wait, and the rest waits until these are written. So a
-///   peer that sends and doesn't read costs 4,096 bytes and the replies to 4,096 bytes.
-/// - If there is a store, it stores all persistent state: all that outlives a restart of the server. It does so
-///   **before any byte of a reply to what ran is written**. So a crash at any moment leaves everything of which a reply
-///   was written. One sync covers all calls of a turn. The log then begins anew.
+/// - It asks for another book of names, and loads one that has arrived. Each call whose last byte is read after a book
+///   had arrived is therefore judged by that book. If the allocation for the book's entry in the log fails, nothing is
+///   given until the book is loaded. Each turn tries that again.
+/// - It gives the hub the bytes that were read, in order, one record after the other. **The lines of the trail are kept
+///   after each record, before the next one runs**, and none is lost. The bytes are given in pieces of at most 4,096
+///   bytes. The next piece begins only while at most 4,096 bytes of replies wait, and the rest waits until these are
+///   written. A peer that sends and doesn't read therefore costs 4,096 bytes and the replies to 4,096 bytes.
+/// - With a store, it stores all persistent state: all that outlives a restart of the server. It stores it **before any
+///   byte of a reply to the calls that ran is written**. A crash at any moment therefore leaves the effects of every
+///   call whose reply was written. One sync covers all calls of a turn. The log then begins anew.
 /// - It writes the waiting bytes, at most 128 KiB of each connection, as far as the streams take them.
-/// - It marks the store, in the first turn of a later second than that of the last record. So while a record is
-///   unmarked a wait takes at most a second.
+/// - It marks the store, in the first turn of a later second than that of the last record. While a record is unmarked,
+///   a wait therefore takes at most a second.
 ///
 /// The store has to be over the files of `streams`, and to keep the server as it is. The hub's log has to be begun and
 /// empty. The server's sessions have to be persistent.
 ///
 /// A stream that ends or fails is closed at once, with its connection. A stream whose connection is broken or has had
-/// its turns is closed after its replies. The others go on. `close` reports how each ended.
+/// its turns is closed after its replies. The others continue. `close` reports how each ended.
 ///
 /// If the limit of open connections is reached and another stream has arrived, room may have to be made. Then the
 /// stream on which no bytes were read or written for the longest time is closed, if that is at least two seconds of the
-/// clock. Until then the other stream waits outside. So does a stream that can't be taken, or for which an allocation
-/// fails: a connection takes 131,072 bytes of `alloc` besides what the hub takes. Such a stream is tried again in the
-/// next turn, which comes within a second.
+/// clock. Until then the other stream waits outside. A stream that can't be taken, or whose allocation fails, waits
+/// too: a connection takes 131,072 bytes of `alloc` besides the hub's. It is tried again in the next turn, which comes
+/// within a second.
 pub fn serve_all<A: Allocator + Copy, S: Streams<A>, C: Clock>(
     alloc: A,
     hub: &mut Hub<A>,

@@ -14,7 +14,7 @@ use who_book::Book;
 /// The result of a read or a write of a stream.
 #[derive(Clone, Copy, Debug, PartialEq, Eq)]
 pub enum Moved {
-    /// This many bytes were moved.
+    /// The number of bytes that were moved.
     Bytes(usize),
     /// No bytes can be moved yet.
     NotYet,
@@ -71,9 +71,9 @@ pub enum StreamEnd {
 }
 
 /// The streams of a server over the allocator `A`, each at a place, whose number is below 16. Beside them the trait has
-/// the file, or whatever else, in which the server's trail is kept. It has the files of the store, if there is one
-/// (`Disk`), and the source of other books of names. A place has one stream at a time, from `admit` to `close`. No
-/// other call is made for a place without a stream. Only `wait` waits for a peer.
+/// the file, or another medium, in which the server's trail is kept. It has the files of the store, if any (`Disk`),
+/// and the source of other books of names. A place has one stream at a time, from `admit` to `close`. No other call is
+/// made for a place without a stream. Only `wait` waits for a peer.
 pub trait Streams<A: Allocator + Copy>: Disk {
     // The calls so far and their results, the newest first, if they are known. Those of the disk are among them.
     ghost acts: { Self → Option (List Act) } = { λ _. None };
@@ -84,8 +84,8 @@ pub trait Streams<A: Allocator + Copy>: Disk {
         ensures { Adds (acts self.old) (acts self.new) (Waited result ∷ []) };
 
     /// Another book of names, if one has arrived since the last call. `book` is called after streams were read, and
-    /// before any of their bytes are given to the hub. The book is also loaded before that. So a call whose last byte
-    /// was read after a book had arrived is judged by that book.
+    /// before any of their bytes are given to the hub. The book is also loaded before that. A call whose last byte was
+    /// read after a book had arrived is therefore judged by that book.
     ///
     /// If the allocation for its entry in the log fails, the book is loaded in a later turn. Until then `book` isn't
     /// called and no bytes are given. If no epoch is left for the book, it is dropped, and the previous book stays.

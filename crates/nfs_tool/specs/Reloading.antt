@@ -35,7 +35,7 @@ pub record BookLoads {A : Type 0} (book : Content) (answer : Result Content Unlo
   pub extends : ExtendsHistory (Reload book) old new
   pub gives : ReloadGives book answer old new
 
--- The hub takes the book, or has no epoch for it. If there is no book, the hub is unchanged.
+-- The hub takes the book, or has no epoch for it. Without a book the hub is unchanged.
 abbrev pub Loads : {A T : Type 0} → Giving T → List ℕ → Lent A T → Lent A T → Result (Unit {0}) LoadFault → Type 0
 Loads gives name old new (Ok done) =
     (book : Content) × (earlier : Content) × BookGives gives name old.texts new.texts (Ok book)

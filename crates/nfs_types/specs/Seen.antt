@@ -13,7 +13,7 @@ use Rattle.nfs_types.specs.declared.attribute.Attribute.{Attribute}
 use Rattle.nfs_types.specs.declared.attribute.Attribute.TheVariants.{ObjectType, Size, RdattrError, Acl, Mode, Owner}
 use Rattle.nfs_types.specs.declared.attribute.Attribute.TheVariants.{OwnerGroup, Dacl, Sacl}
 
--- the values; None if an attribute isn't there
+-- the values; None if an attribute isn't present
 pub record Seen : Type 0 where
   pub kind : Option ℕ
   pub size : Option ℕ
@@ -77,7 +77,7 @@ abbrev pub optional_spelling : (t : Xdr) → Option (Value t) → List ℕ
 optional_spelling t None = []
 optional_spelling t (Some v) = spelling t v
 
--- the bytes of an attribute, if it is there
+-- the bytes of an attribute, if it is present
 abbrev pub client_part : Seen → Attribute → List ℕ
 client_part s ObjectType = optional_spelling uint s.kind
 client_part s Size = optional_spelling hyper s.size
@@ -97,7 +97,7 @@ client_values s = flat_map (client_part s) seen_all
 abbrev pub bit_if : {X : Type 0} → Option X → ℕ → ℕ
 bit_if value bit = if is_some value then bit else 0
 
--- the set of the attributes that are there
+-- the set of the attributes that are present
 abbrev pub client_set : Seen → List ℕ
 client_set s =
     trimmed ((bit_if s.kind 0x2 + bit_if s.size 0x10 + bit_if s.error 0x800 + bit_if s.entries 0x1000)

@@ -135,7 +135,7 @@ taken_plain book mode owner group =
     taken_mode mode >> λ m. taken_name book kinds.User owner >> λ o. taken_name book kinds.Group group
     >> λ g. Ok (m, (o, g))
 
--- A part of an ACL. There is no automatic inheritance; no flag of the ACL is therefore known (section 6.4.3.2). The
+-- A part of an ACL. Automatic inheritance isn't supported; no flag of the ACL is therefore known (section 6.4.3.2). The
 -- flags are checked before the ACEs.
 abbrev pub taken_part : Part → Content → Kind → Option (Value acl41) → Result (Option (List Entry)) Status
 taken_part part book kind None = Ok None

@@ -5,8 +5,8 @@ use crate::ace::Ace;
 use std::alloc::Allocator;
 use xdr_wire::{Full, Spell, Writer};
 
-/// The ACEs of an ACL as a client sends them, `nfsace4<>` (RFC 8881, section 6.2.1), borrowed. There are at most as
-/// many as an array can have.
+/// The ACEs of an ACL as a client sends them, `nfsace4<>` (RFC 8881, section 6.2.1), borrowed. They are at most as many
+/// as an array can have.
 #[derive(Clone, Copy, Debug)]
 pub struct Aces<'a> {
     pub entries: &'a [Ace<'a>],
@@ -14,7 +14,7 @@ pub struct Aces<'a> {
 }
 
 impl<'a> Aces<'a> {
-    /// The ACEs as an array. `None`: there are more than 4294967295.
+    /// The ACEs as an array. `None`: they are more than 4294967295.
     pub fn new(entries: &'a [Ace<'a>]) -> Option<Self>
         ensures same { IfSome result (λ aces. aces.entries.now ≡ entries.now) }
         ensures none { IsNone result ↔ (0xffff_ffff < length entries.now) }

@@ -48,7 +48,7 @@ fn fill<'a>(book: &Book, entries: Array<'a, Ace<'a>, 0xffff_ffff>, raws: &mut [R
 }
 
 impl Asked {
-    /// The ACEs that were sent, with their principals looked up. `None`: there are more than may be set, and none is
+    /// The ACEs that were sent, with their principals looked up. `None`: they are more than may be set, and none is
     /// examined.
     pub fn of<'a>(book: &Book, entries: Array<'a, Ace<'a>, 0xffff_ffff>) -> Option<Self>
         ensures some { IfSome result (λ asked. take asked.count asked.raws ≡

@@ -35,7 +35,7 @@ pub enum Attribute {
     SymlinkSupport = 6,
     /// named_attr: no object has named attributes.
     NamedAttr = 7,
-    /// fsid: there is one file system.
+    /// fsid: the server has one file system.
     Fsid = 8,
     /// unique_handles: two filehandles mean two objects.
     UniqueHandles = 9,
@@ -71,7 +71,7 @@ pub enum Attribute {
     TimeMetadata = 52,
     /// time_modify: the time of the last change of the content.
     TimeModify = 53,
-    /// mounted_on_fileid: the object's number, since there is only one file system.
+    /// mounted_on_fileid: the object's number, since the server has only one file system.
     MountedOnFileId = 55,
     /// dacl: the part of the ACL that allows and denies.
     Dacl = 58,

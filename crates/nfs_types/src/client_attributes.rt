@@ -48,7 +48,7 @@ pub struct ClientAttributes<'a> {
     pub sacl: Option<Acl41<Aces<'a>>>,
 }
 
-/// The bit of a value, if the value is there.
+/// The bit of a value, if the value is present.
 fn bit_if<T>(value: &Option<T>, bit: u32) -> u32
     ensures value { result ≡ bit_if value.now bit }
     ensures small { result ≤ bit }
@@ -59,7 +59,7 @@ fn bit_if<T>(value: &Option<T>, bit: u32) -> u32
     }
 }
 
-/// Writes a value, if it is there.
+/// Writes a value, if it is present.
 fn write_optional<T: Spell, A: Allocator>(
     value: Option<T>,
     writer: &mut Writer<A>,
@@ -73,7 +73,7 @@ fn write_optional<T: Spell, A: Allocator>(
 }
 
 impl<'a> ClientAttributes<'a> {
-    /// The set of the attributes that are there.
+    /// The set of the attributes that are present.
     pub fn set(&self) -> Bitmap
         ensures { bitmap_value result ≡ client_set (client_value self.now) }
     {
@@ -89,7 +89,7 @@ impl<'a> ClientAttributes<'a> {
         Bitmap::of_words(first, second)
     }
 
-    /// Writes the value of an attribute, if it is there.
+    /// Writes the value of an attribute, if it is present.
     fn write_part<A: Allocator>(
         &self,
         attribute: Attribute,

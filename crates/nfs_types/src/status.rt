@@ -50,7 +50,7 @@ pub enum Status {
     Same = 10009,
     /// NFS4ERR_CLID_INUSE: the client owner is in use by another user.
     ClidInUse = 10017,
-    /// NFS4ERR_NOFILEHANDLE: there is no current or saved filehandle.
+    /// NFS4ERR_NOFILEHANDLE: no current or saved filehandle is set.
     NoFileHandle = 10020,
     /// NFS4ERR_MINOR_VERS_MISMATCH: the minor version isn't 1.
     MinorVersMismatch = 10021,
@@ -94,7 +94,7 @@ pub enum Status {
     RepTooBig = 10066,
     /// NFS4ERR_REP_TOO_BIG_TO_CACHE: the reply has no room for the result, and was to be cached.
     RepTooBigToCache = 10067,
-    /// NFS4ERR_TOO_MANY_OPS: there are more operations than the session allows.
+    /// NFS4ERR_TOO_MANY_OPS: the COMPOUND has more operations than the session allows.
     TooManyOps = 10070,
     /// NFS4ERR_OP_NOT_IN_SESSION: the operation needs a session.
     OpNotInSession = 10071,

@@ -25,21 +25,21 @@ enum Objects<'a> {
     At(&'a [u8]),
     /// The object of a path, and the directory of its name.
     Named(&'a [u8]),
-    /// The directories of a path, some of which are made.
+    /// The directories of a path; some of them are made.
     Along(&'a [u8]),
     /// The first path is that of an object, the second that of a name that it gets, or of another
     /// object that gets its bytes.
     Both(&'a [u8], &'a [u8]),
 }
 
-/// What a command is about: its objects, and its words beside their paths.
+/// The subject of a command: its objects, and its words beside their paths.
 #[derive(Clone, Copy)]
 pub(crate) struct About<'a> {
     objects: Objects<'a>,
     pub(crate) form: Form,
 }
 
-/// What a command of the client is about.
+/// The subject of a command of the client.
 fn about_plain<'a>(command: &Command<'a>) -> About<'a> {
     let (objects, form) = match command {
         Command::ChMod(_, path) => (Objects::At(path), Form::Mode),
@@ -77,7 +77,7 @@ impl<'a> About<'a> {
         }
     }
 
-    /// What a command is about.
+    /// The subject of a command.
     pub(crate) fn of(wish: &Wish<'a>) -> Self {
         let objects = match wish {
             Wish::Plain(command) => return about_plain(command),

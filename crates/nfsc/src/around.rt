@@ -11,12 +11,12 @@ pub(crate) struct Around {
     /// A book is given.
     pub(crate) is_named: bool,
     pub(crate) caller: Caller,
-    /// Standard error is a terminal: the progress of a long command is reported there.
+    /// Standard error is a terminal: the progress of a long command is reported on it.
     pub(crate) is_watched: bool,
 }
 
-/// The caller of this user and these groups, of which the first is its own; or of the groups in the
-/// book, if it has them.
+/// The caller of this user and these groups, the first of which is its own; or of the user's groups
+/// in the book, if it has them.
 fn caller_of(names: &Names, uid: u32, gid: u32, groups: &[u32]) -> Caller {
     let further = groups.get(..MOST_FURTHER.min(groups.len())).unwrap_or(&[]);
     match member_of(&names.book, uid) {

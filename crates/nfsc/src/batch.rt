@@ -145,7 +145,7 @@ impl<R: Net<Stream = TcpStream> + Clock + RandomSource + Files + Input + Print +
 }
 
 /// Runs the commands of standard input in one session. If the server grants a persistent session,
-/// the batch goes on after a restart of the server. Returns whether all were answered.
+/// the batch continues after a restart of the server. Returns whether all were answered.
 pub(crate) fn run<
     'a,
     R: Net<Stream = TcpStream> + Clock + RandomSource + Files + Input + Print + Eprint,

@@ -1,7 +1,7 @@
-//! What `clap` reports of the words, as `nfsc` prints it.
+//! The reports of `clap` on the words, as `nfsc` prints them.
 use std::alloc::{AllocError, Global};
 
-/// What `clap` writes before each fault, in whose place the program's name is printed.
+/// The text that `clap` writes before each fault. The program's name is printed in its place.
 const FAULT: &str = "error: ";
 
 /// The tip that a word after `--` is a value. Here it would be the command.

@@ -310,8 +310,8 @@ fn list<S: Transport, R: Print + Eprint>(
     Err(Fault::Partly(tree.unlisted.len()))
 }
 
-/// Changes the objects, the last one first, so that a directory changes after its contents. A
-/// refusal is reported, and the others continue.
+/// Changes the objects, the last one first: a directory changes after its contents. A refusal is
+/// reported, and the others continue.
 fn change_all<S: Transport, R: Eprint>(
     client: &mut Client<S>,
     voice: Voice<'_, R>,

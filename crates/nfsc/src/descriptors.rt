@@ -21,8 +21,8 @@ fn free_descriptor(rt: &HostRuntime) -> Option<i32> {
 /// the connection would have this descriptor, and would get the output meant for it. `None`: none
 /// is closed.
 ///
-/// Reading standard input fails then, and so does writing standard output. Output to standard error
-/// is lost.
+/// Reading standard input fails then, as does writing standard output. Output to standard error is
+/// lost.
 pub(crate) fn open_stand_in(rt: &HostRuntime) -> Option<File> {
     let descriptor = free_descriptor(rt)?;
     if descriptor >= FIRST_DESCRIPTOR {

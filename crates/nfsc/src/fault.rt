@@ -16,7 +16,7 @@ pub(crate) enum Fault {
     /// The server accepts no connection in time.
     #[error("socket")]
     LateSocket,
-    /// The system gives no random bytes, of which the owner of this run is made.
+    /// The system gives no random bytes for the owner of this run.
     #[error("random")]
     Random,
     /// A file of this system can't be read.
@@ -40,7 +40,7 @@ pub(crate) enum Fault {
     /// The words name no user.
     #[error("user")]
     NoUser,
-    /// There is no book whose users could be tested.
+    /// No book is given whose users could be tested.
     #[error("book")]
     NoBook,
     /// The ACE of this number, counted from 1, has a principal whose number is unknown.
@@ -58,7 +58,7 @@ pub(crate) enum Fault {
     /// No ACE would be left.
     #[error("list")]
     NoneLeft,
-    /// There are more objects than a command supports.
+    /// The objects are more than a command supports.
     #[error("tree")]
     TooMany,
     /// A directory can't be listed.

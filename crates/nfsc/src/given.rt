@@ -61,7 +61,7 @@ struct Variable {
 /// has it.
 #[derive(Drop)]
 pub(crate) struct Given<'a> {
-    /// The words, of which the first is the program's name.
+    /// The words. The first is the program's name.
     words: &'a [String],
     /// The variables of options that the words don't have.
     variables: Vec<Variable>,

@@ -30,8 +30,8 @@ impl<'a, S> Grouped<'a, S> {
     }
 }
 
-/// The groups of a text, numbers with commas between them, and none if there is no text. `None`:
-/// the text isn't of this form, or has more than 16 numbers.
+/// The groups of a text, numbers with commas between them, and none without a text. `None`: the
+/// text isn't of this form, or has more than 16 numbers.
 pub(crate) fn groups_in(alloc: Global, text: Option<&str>) -> Result<Option<Vec<u32>>, AllocError> {
     let mut groups = Vec::new(alloc);
     let Some(text) = text else {

@@ -85,7 +85,7 @@ const FORCE: &str = "
 With '--force' after the command's name a list is set even if you can't read it or change it back.
 ";
 
-/// What help tells of a command beside its line.
+/// The note that help adds to a command's line.
 fn note_on(name: &str) -> &'static str {
     match name {
         "why" | "who" => RIGHTS,
@@ -162,8 +162,7 @@ pub(crate) enum Help {
     Commands,
     /// `help lists`: the words of ACLs.
     Lists,
-    /// `COMMAND --help` or `help COMMAND`: the lines of the commands of a name, and what else there
-    /// is to know of them.
+    /// `COMMAND --help` or `help COMMAND`: the lines of the commands of a name, and a note on them.
     Lines {
         first: &'static str,
         deep: Option<&'static str>,

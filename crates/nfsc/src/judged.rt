@@ -103,7 +103,7 @@ fn is_lost(before: Option<&AclList>, after: &AclList, of: (u32, u32), caller: &C
     had && !is_own(after, of, caller)
 }
 
-/// A group of which the caller is no member.
+/// A group that the caller isn't a member of.
 fn foreign_group(caller: &Caller) -> u32 {
     (0..u32::MAX)
         .find(|group| !caller.is_member(*group))

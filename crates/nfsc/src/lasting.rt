@@ -51,8 +51,8 @@ pub(crate) enum Stay {
 }
 
 /// A transport to the server. If the connection of a persistent session breaks, it is made again,
-/// and the call is sent again as it was. Its slot and its sequence ID are the same, so that the
-/// server runs it at most once.
+/// and the call is sent again as it was. Its slot and its sequence ID are the same. The server
+/// therefore runs it at most once.
 #[derive(Drop)]
 pub(crate) struct Lasting<'a, R> {
     peer: Peer<'a, R>,

@@ -7,7 +7,7 @@ use std::rt::Clock;
 use std::time::{Duration, Instant};
 
 /// A stream to the server. A reply is late if it isn't complete within its time after the first
-/// write of its call. So is a call that isn't sent within that time.
+/// write of its call. A call that isn't sent within that time is late too.
 #[derive(Drop)]
 pub(crate) struct Link<'a, R> {
     rt: &'a R,
@@ -16,7 +16,7 @@ pub(crate) struct Link<'a, R> {
     patience: Duration,
     /// When the call was begun. `None`: no call was begun, or the clock can't be read.
     begun: Option<Instant>,
-    /// Whether something was read after the last write, so that the next write begins a call.
+    /// Whether something was read after the last write. The next write then begins a call.
     is_answered: bool,
     /// Set if a reply is late.
     is_late: &'a Cell<bool>,

@@ -3,9 +3,8 @@
 //!
 //! The status is 0. It is 2 if the words aren't understood or ask for help, with a text on standard
 //! error; and else 1. It is 1 after a refusal or another fault of the command, which is printed in
-//! place of its answer. It is 1 too if there is no server or no file of the given name, which is
-//! reported on standard error. A sentence on standard error explains what was wrong, and what would
-//! help.
+//! place of its answer. It is 1 too if no server answers or no file has the given name, which is
+//! reported on standard error. A sentence on standard error explains the fault and its remedy.
 #![tactic(auto)]
 
 mod about;
@@ -148,8 +147,8 @@ fn is_book_unused(given: &Given<'_>, options: &Options<'_>) -> bool {
     given.is_word("--book") && options.person.is_none() && !takes_book
 }
 
-/// Runs the command of words, of which the first is the program's name. They have the options of
-/// the call.
+/// Runs the command of words. The first word is the program's name. They have the options of the
+/// call.
 fn start<R: Net<Stream = TcpStream> + Clock + RandomSource + Files + Input + Print + Eprint>(
     rt: &R,
     alloc: Global,
@@ -217,7 +216,7 @@ fn start_with(rt: &HostRuntime, alloc: Global, given: &Given<'_>) -> Result<Exit
     }
 }
 
-/// Runs the command of words, of which the first is the program's name, or prints help.
+/// Runs the command of words, or prints help. The first word is the program's name.
 fn run_words(rt: &HostRuntime, alloc: Global, words: &[String]) -> Result<ExitCode> {
     if let Some(help) = asked(alloc, words)? {
         return Ok(print_help(rt, help)?);

@@ -23,7 +23,7 @@ struct Words {
 }
 
 impl Words {
-    /// Puts a character into the word, which is begun if there is none.
+    /// Puts a character into the word, which is begun if it isn't yet.
     fn put(&mut self, letter: char) -> Result<(), AllocError> {
         self.begin();
         match &mut self.word {
@@ -32,14 +32,14 @@ impl Words {
         }
     }
 
-    /// Begins a word if there is none.
+    /// Begins a word if none is begun.
     fn begin(&mut self) {
         if self.word.is_none() {
             self.word = Some(String::new(self.alloc));
         }
     }
 
-    /// Ends the word, if there is one.
+    /// Ends the word, if any.
     fn end(&mut self) -> Result<(), AllocError> {
         if let Some(word) = self.word.take() {
             self.words.push(word)?;

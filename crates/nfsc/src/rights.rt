@@ -85,7 +85,7 @@ pub(crate) enum Rights {
     /// decide that (section 6.2.1.3.2).
     Removal,
     /// Permissions by their masks, on a directory and on any other object: the letter `W` has
-    /// another meaning there.
+    /// another meaning on a directory.
     Masks { on_directory: u32, on_other: u32 },
 }
 

@@ -31,7 +31,7 @@ fn uid_in(book: &Book, text: &str) -> Option<u32> {
     }
 }
 
-/// The caller of a user and its groups, the first of which it calls in.
+/// The caller of a user and its groups; the first is the gid of its calls.
 fn caller_in(alloc: Global, uid: u32, text: &str) -> Result<Option<Caller>, Fault> {
     let Some(groups) = groups_in(alloc, Some(text))? else {
         return Ok(None);

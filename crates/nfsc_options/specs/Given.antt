@@ -18,7 +18,7 @@ use Rattle.nfsc_options.specs.declared.options.Options.{Options}
 abbrev pub given : App → Text → List Text → Option Text
 given app option words = first_of option (matches_of app words)
 
--- n is the number that the text spells, from low to high, and there is a text
+-- a text is given, and n is the number that it spells, from low to high
 abbrev pub IsNumber : ℕ → ℕ → ℕ → Option Text → Type 0
 IsNumber low high n None = ⊥
 IsNumber low high n (Some text) = IsSignedIn (pos low) (pos high) text × (signed_digits_value 10 text ≡ pos n)

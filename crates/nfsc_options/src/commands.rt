@@ -35,7 +35,7 @@ fn line_of(name: &str) -> Option<&'static str> {
         .find(|line| line.split(' ').next() == Some(name))
 }
 
-/// The words of a command, its name first, as `mv OLD NEW`. `None`: there is no command of this name.
+/// The words of a command, its name first, as `mv OLD NEW`. `None`: no command has this name.
 pub(crate) fn usage_of(name: &str) -> Option<&'static str> {
     let line = line_of(name)?;
     let (usage, _) = line.split_once("  ")?;

@@ -20,7 +20,7 @@ fn no_address(alloc: Global, text: &str) -> Result<Error, AllocError>
     command(alloc)?.error(ErrorKind::ValueValidation, message.as_str())
 }
 
-/// The address that a text writes, or 127.0.0.1 if there is no text.
+/// The address that a text writes, or 127.0.0.1 without a text.
 pub(crate) fn host_of(alloc: Global, given: Option<&str>) -> Result<IpAddr, Error>
     ensures { ReadsHost (option_map (λ t. t.now) given.entry) result }
 {

@@ -8,14 +8,14 @@ use std::fmt::{Display, Formatter};
 use who_book::BookFault;
 
 /// A fault that prevents `nfslab` from running a script to its end. Faults are tested in this
-/// order. A reason is missing if there was no memory for it.
+/// order. A reason is missing if its allocation failed.
 #[derive(Drop)]
 pub(crate) enum Fault {
     /// The book's file can't be read, or isn't UTF-8, for this reason.
     File(Option<String>),
     /// The book has this fault, for this reason.
     Book(BookFault, Option<String>),
-    /// There is no memory for the hub.
+    /// The allocation of the hub fails.
     Hub,
     /// The script can't be read, or its answers can't be written.
     Failed(ToolFault),

@@ -10,7 +10,7 @@ use Rattle.std.specs.Option.{option_map_or}
 abbrev pub byte_at : List (ℕ × List ℕ) → ℕ → ℕ
 byte_at blocks i = option_map_or (λ block. slice_index block (i % 4096)) (lookup (is_at (nat_cmp (i / 4096))) blocks) 0
 
--- whether there is a block
+-- whether the block exists
 abbrev pub is_held : List (ℕ × List ℕ) → ℕ → Bool
 is_held blocks number = is_some (lookup (is_at (nat_cmp number)) blocks)
 

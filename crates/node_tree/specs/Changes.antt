@@ -181,7 +181,7 @@ abbrev pub with_write : World → ℕ → ℕ → List ℕ → At → World
 with_write w file offset [] at = w
 with_write w file offset (byte ∷ more) at = with_bytes w file offset (byte ∷ more) at
 
--- the first bytes, and zeros if there are too few
+-- the first bytes, followed by zeros if they are too few
 abbrev pub resized : List ℕ → ℕ → List ℕ
 resized bytes size = take size bytes ++ replicate (size - length bytes) 0
 

@@ -17,8 +17,8 @@ judged o = record { stamp = o.stamp; owner = o.owner; group = o.group; list = o.
 abbrev pub judged_of : World → ℕ → Option Judged
 judged_of w number = option_map judged (object w number)
 
--- An object whose stamp is from before has had it since then, with the same access control list, owner and group. So
--- access that was decided by a stamp is still decided alike.
+-- An object whose stamp is from before has had it since then, with the same access control list, owner and group.
+-- Access that was decided under a stamp is therefore still decided the same way.
 pub record KeepsJudged (old new : World) : Type 0 where
   pub stamps_rise : old.next_stamp ≤ new.next_stamp
   pub same : (number : ℕ) (j : Judged) → judged_of new number ≡ Some j → j.stamp < old.next_stamp

@@ -22,7 +22,7 @@ in_place nodes place = option_map_or (λ o. o) (get nodes place) unseen
 abbrev pub placed : Slab Object → List (ℕ × ℕ) → List (ℕ × Object)
 placed nodes places = map (λ e. (e.0, in_place nodes e.1)) places
 
--- Each number has the place of an object, no two have the same place, and there are no other objects.
+-- Each number has the place of an object, no two have the same place, and no other objects exist.
 pub record IsPlaced (nodes : Slab Object) (places : List (ℕ × ℕ)) : Type 0 where
   pub ordered : IsStrictlySortedBy nat_cmp (keys_of places)
   pub held : (number place : ℕ) → lookup (is_at (nat_cmp number)) places ≡ Some place → IsSome (get nodes place)

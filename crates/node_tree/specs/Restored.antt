@@ -116,7 +116,7 @@ abbrev pub is_placed : World → ℕ → Bool
 is_placed w number =
     if is_directory_at w number then climbs_to_root (parent_of w) (length w.objects) number else has_name w.names number
 
--- whether there is a root, and each object has a place
+-- whether a root exists, and each object has a place
 abbrev pub is_whole : World → Bool
 is_whole w = is_directory_at w ROOT && list_all (is_placed w) (map (λ e. e.0) w.objects)
 

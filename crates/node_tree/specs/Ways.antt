@@ -11,8 +11,8 @@ is_met parents zero directory from = true
 is_met parents (suc steps) directory from =
     (from == directory) || option_map_or (λ parent. is_met parents steps directory parent) (parents from) false
 
--- Whether an object is the directory or is below it. There are fewer directories than numbers that were given out, so
--- no way is longer.
+-- Whether an object is the directory or is below it. No way is longer: fewer directories exist than numbers were given
+-- out.
 abbrev pub is_within : World → ℕ → ℕ → Bool
 is_within w directory number = is_met (parent_of w) w.next_number directory number
 

@@ -11,7 +11,7 @@ pub enum TreeFault {
     /// NFS4ERR_EXIST: the name is taken.
     #[error("the name is taken")]
     Exist,
-    /// NFS4ERR_NOENT: there is no such name.
+    /// NFS4ERR_NOENT: the name doesn't exist.
     #[error("no such name")]
     NoEnt,
     /// NFS4ERR_NOTEMPTY: the directory has names.
@@ -26,8 +26,8 @@ pub enum TreeFault {
     /// NFS4ERR_MLINK: the object has [`crate::MAX_LINKS`] names.
     #[error("the object has too many names")]
     MLink,
-    /// NFS4ERR_NOSPC: the directory has [`crate::MAX_NAMES`] names, there are
-    /// [`crate::MAX_OBJECTS`] objects, or a counter is at its end.
+    /// NFS4ERR_NOSPC: the directory has [`crate::MAX_NAMES`] names, the tree has [`crate::MAX_OBJECTS`] objects, or a
+    /// counter is at its end.
     #[error("no room left")]
     NoSpc,
     /// An allocation fails.

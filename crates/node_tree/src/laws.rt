@@ -6,8 +6,8 @@ ghost use Rattle.node_tree.specs.Ways.{is_within, LiesWithin};
 ghost use Rattle.node_tree.specs.Sound.{IsSound};
 ghost use Rattle.node_tree.specs.Parts.{IsReadInOrder};
 
-/// The walk up from a directory decides whether it is another directory or is below it. So [`crate::Tree::plan_rename`]
-/// returns [`crate::TreeFault::Inval`] for exactly the moves of a directory below itself.
+/// The walk up from a directory decides whether it is another directory or is below it. [`crate::Tree::plan_rename`]
+/// therefore returns [`crate::TreeFault::Inval`] for exactly the moves of a directory below itself.
 pub fn way_up_shows_what_lies_below()
     ensures { (w : World) (directory number : ℕ) → IsSound w → kind_of w number ≡ Some Directory →
         (is_within w directory number ≡ true) ↔ LiesWithin w.names directory number }

@@ -10,7 +10,7 @@ use std::marker::Model;
 pub struct Move<'a> {
     /// The number of the child's directory.
     pub(crate) from: u64,
-    /// The name of the child there.
+    /// The name of the child in that directory.
     pub(crate) old: &'a [u8],
     /// The number of the directory of the new name.
     pub(crate) to: u64,
@@ -18,7 +18,7 @@ pub struct Move<'a> {
     pub(crate) new: &'a [u8],
     /// The number of the child.
     pub(crate) child: u64,
-    /// The number of the object that has the new name, if there is one.
+    /// The number of the object that has the new name, if any.
     pub(crate) target: Option<u64>,
 }
 
@@ -45,7 +45,7 @@ impl<'a> Move<'a> {
         self.child
     }
 
-    /// The number of the object that has the new name, if there is one.
+    /// The number of the object that has the new name, if any.
     pub fn target(&self) -> Option<u64>
         ensures { result ≡ self.now.target }
     {
@@ -56,7 +56,7 @@ impl<'a> Move<'a> {
 /// A RENAME that isn't refused.
 #[derive(Debug, Drop)]
 pub enum Plan<'a> {
-    /// Both names belong to one object: there is nothing to do.
+    /// Both names belong to one object, and nothing changes.
     Same,
     /// The child gets the new name.
     Move(Move<'a>),

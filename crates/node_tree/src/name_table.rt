@@ -33,7 +33,7 @@ impl<A: Allocator> Model for NameTable<A> {
     ghost invariant = { λ n. IsKept n.index n.list };
 }
 
-/// Removes the name of a cookie, if there is one.
+/// Removes the name of a cookie, if any.
 fn remove_found<A: Allocator + Copy>(names: &mut NameList<A>, cookie: Option<u64>)
     ensures { names.new ≡ option_map_or (λ k. filter (λ n. not (n.cookie == k)) names.old) cookie names.old }
 {

@@ -226,14 +226,14 @@ impl<A: Allocator + Copy> Restoring<A> {
         Ok(self)
     }
 
-    /// Whether there is a root, and each object has a place.
+    /// Whether a root exists, and each object has a place.
     fn is_whole(&self) -> bool
         ensures { result ≡ is_whole self.now.world }
     {
         self.store.is_directory(ROOT) && self.store.all_placed(&self.numbers)
     }
 
-    /// The tree of these parts. `None`: there is no root, or some object has no place below it.
+    /// The tree of these parts. `None`: the root is missing, or some object has no place below it.
     pub fn finish(self) -> Option<Tree<A>>
         ensures whole { is_some result ≡ is_whole self.world }
         ensures value { IfSome result (λ tree. tree ≡ self.world) }

@@ -174,7 +174,7 @@ impl<A: Allocator + Copy> Store<A> {
     }
 }
 
-// Whether there is space.
+// Tests for space.
 impl<A: Allocator + Copy> Store<A> {
     /// Whether a directory has room for one more name.
     pub fn has_room(&self, directory: u64) -> bool
@@ -190,7 +190,7 @@ impl<A: Allocator + Copy> Store<A> {
         self.link_count(number) < self.limits.links()
     }
 
-    /// Whether there is room for one more object.
+    /// Whether one more object fits.
     pub fn has_object_room(&self) -> bool
         ensures { result ≡ has_object_room self.now.limits (length self.now.objects) }
     {
@@ -294,7 +294,7 @@ impl<A: Allocator + Copy> Store<A> {
         }
     }
 
-    /// Whether there is space for a child's new name; its target may be absent.
+    /// Whether a child's new name fits; its target may be absent.
     pub fn may_move(&self, from: u64, to: u64, target: Option<u64>) -> bool
         ensures { result ≡ may_move self.now.limits (name_count self.now.names to) self.now.next_cookie from to target }
     {
@@ -448,7 +448,7 @@ impl<A: Allocator + Copy> Store<A> {
         Ok(())
     }
 
-    /// Whether an object, if there is one, has a name.
+    /// Whether an object, if any, has a name.
     fn has_link(&self, number: Option<u64>) -> bool
         ensures { result ≡ option_map_or (λ number. has_name self.now.names number) number false }
     {

@@ -1,4 +1,4 @@
--- The reply in a record to a call (RFC 5531, section 9): the results, or why there are none.
+-- The reply in a record to a call (RFC 5531, section 9): the results, or why it has none.
 use Rattle.std.specs.Prelude.{ℕ, List, [], ◌∷◌, Result, Ok, Err, not, ◌==◌, if◌then◌else◌}
 use Rattle.std.proofs.Common.{inl, inr}
 use Rattle.xdr_wire.specs.Xdr.{Xdr, Value, uint, union, arm, no_more, fields}

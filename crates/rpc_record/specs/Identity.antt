@@ -36,6 +36,6 @@ group_set (group ∷ sent) = with_group group (group_set sent)
 abbrev pub identity : ℕ → ℕ → List ℕ → Identity
 identity uid gid further = record { uid = uid; gid = gid; groups = group_set (gid ∷ further) }
 
--- the same user, group and set of groups
+-- both have the same user, group and set of groups
 abbrev pub is_same : Identity → Identity → Bool
 is_same a b = (a.uid == b.uid) && (a.gid == b.gid) && pointwise nat_eq a.groups b.groups

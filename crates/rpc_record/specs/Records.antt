@@ -46,7 +46,7 @@ pub record Breaks (bytes : List ℕ) : Type 0 where
   pub small : length (joined bodies) ≤ limit
   pub above : limit < length (joined bodies) + len
 
--- a header that is within the limit after this many bytes of a record, and less than its body
+-- a header that is within the limit after `before` bytes of a record, and less than its body
 pub record IsPartOfFragment (before : ℕ) (tail : List ℕ) : Type 0 where
   pub last : Bool
   pub len : ℕ
@@ -55,7 +55,7 @@ pub record IsPartOfFragment (before : ℕ) (tail : List ℕ) : Type 0 where
   pub unfinished : length body < len
   pub within : before + len ≤ limit
 
--- After this many bytes of a record there is no whole fragment. There is less than a header, or a header within the
+-- After the first bytes of a record the tail isn't a whole fragment. It is less than a header, or a header within the
 -- limit and less than its body.
 abbrev pub IsPartial : ℕ → List ℕ → Type 0
 IsPartial before tail = (length tail < 4) ⊎ IsPartOfFragment before tail

@@ -124,8 +124,8 @@ fn read_body<'a>(reader: &mut Reader<'a>) -> Result<&'a [u8], ReplyFault>
     }
 }
 
-/// The results after the header of the reply to the call of this transaction, or why there are none. The message type
-/// and the transaction are checked before the rest is read. Any verifier is accepted.
+/// The results after the header of the reply to the call of this transaction, or why it has none. The message type and
+/// the transaction are checked before the rest is read. Any verifier is accepted.
 pub fn read_reply(bytes: &[u8], xid: u32) -> Result<&[u8], ReplyFault>
     ensures { results (λ x. x.now) result ≡ answered xid bytes.now }
 {

@@ -50,7 +50,7 @@ impl CallFault {
         }
     }
 
-    /// The transaction and its reply. `None`: there is no reply, and the connection breaks.
+    /// The transaction and its reply. `None`: no reply is sent, and the connection breaks.
     pub fn reply(self) -> Option<(u32, Reply)>
         ensures { result ≡ reply_to self }
     {

@@ -17,9 +17,9 @@ const LAST: u32 = 1 << 31;
 /// A step in a piece from `at` on. After `Part` and `Record` the next call continues at their second number.
 #[derive(Clone, Copy, Debug, PartialEq, Eq)]
 pub enum Step {
-    /// The bytes of the piece from the first to the second number belong to the record. There may be none.
+    /// The bytes of the piece from the first to the second number, possibly none, belong to the record.
     Part(usize, usize),
-    /// The bytes of the piece from the first to the second number end the record. There may be none.
+    /// The bytes of the piece from the first to the second number, possibly none, end the record.
     Record(usize, usize),
     /// The piece is consumed.
     NeedMore,
@@ -173,7 +173,7 @@ impl Framer {
     }
 }
 
-/// The mark of a record of this many bytes that is sent as one fragment, which is the last one.
+/// The mark of a record of `len` bytes that is sent as one fragment, which is the last one.
 pub fn record_mark(len: usize) -> [u8; 4]
     requires { len ≤ RECORD_LIMIT }
     ensures bytes { result ≡ to_be_bytes w32 (mark true len) }
@@ -189,8 +189,8 @@ pub fn a_stream_has_one_cut()
         → IsEnd rest → IsEnd after → (records ≡ others) × (rest ≡ after) }
 {}
 
-/// The records of a stream that grows. At its start there are none, and new bytes are appended to the rest. A rest that
-/// is a record becomes the next record, and a stream that is broken stays broken.
+/// The records of a stream that grows. Its start has none, and new bytes are appended to the rest. A rest that is a
+/// record becomes the next record, and a stream that is broken stays broken.
 pub fn records_of_a_growing_stream()
     ensures start { Cuts [] [] [] }
     ensures more { (stream rest more : List ℕ) (records : List (List ℕ)) → Cuts stream records rest →

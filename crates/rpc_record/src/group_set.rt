@@ -91,7 +91,7 @@ impl GroupSet {
         self.as_slice().len()
     }
 
-    /// Whether there are no groups.
+    /// Whether the set is empty.
     pub fn is_empty(&self) -> bool
         ensures { result ≡ (length self.now == 0) }
     {

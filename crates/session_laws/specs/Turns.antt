@@ -1,5 +1,5 @@
 -- Turns of a server that keeps sessions, and restarts between them (RFC 8881, section 2.10.6.5). A turn runs calls on
--- many slots, which change one world. Then it is stored whole, or not at all; and then its replies are sent.
+-- many slots, which change one world. Then it is stored whole, or not at all. Its replies are sent after that.
 use Rattle.std.specs.Prelude.{◌≡◌, ◌≢◌, ◌⊎◌, ℕ, ◌<◌, Bool, true, false, List, [], ◌∷◌, length, Option, Some}
 use Rattle.session_slots.specs.declared.slot.Turn.{Turn}
 use Rattle.session_slots.specs.declared.slot.Turn.TheVariants as turns
@@ -8,8 +8,8 @@ use Rattle.session_slots.specs.Counting.{ahead, last_number}
 use Rattle.session_slots.specs.Slots.{Call, Cached, number_of, turn_of}
 use Rattle.session_slots.specs.Acting.{Memory, Entry, State, unused, Sends, begun_again}
 
--- A server between two turns, and the world as it was stored last. A slot has its stored call beside the one that it
--- keeps.
+-- A server between two turns, and the world as it was stored last. A slot has its stored call and the call that it
+-- caches.
 pub record Server (World : Type 0) : Type 0 where
   pub now : State World
   pub stored : World
@@ -18,20 +18,20 @@ pub record Server (World : Type 0) : Type 0 where
 abbrev pub begun : {World : Type 0} → World → Server World
 begun w = record { now = unused w; stored = w }
 
--- ---- what is stored, and when
+-- ---- the rule of storing turns
 
--- How a slot is once a turn is stored. What is known of a turn that isn't: from which world to which each call leads
--- that is run in it; and how near the stored call of each slot then is to the one that the slot keeps.
+-- `settled` gives a slot as it is after a turn is stored. The other two hold for a turn that isn't stored: `leaves` for
+-- the worlds before and after each call of it, `near` for the stored call of each slot and the one that it caches.
 pub record Rule (World : Type 0) : Type 1 where
   pub settled : Memory → Memory
   pub leaves : World → World → Type 0
   pub near : Option Cached → Option Cached → Type 0
 
--- with the call that it keeps
+-- the stored call is the cached one
 abbrev pub with_cached : Memory → Memory
 with_cached m = record m { stored = m.kept }
 
--- fewer than 2^20 calls came after the stored one, modulo 2^32
+-- fewer than 2^20 calls follow the stored one, modulo 2^32
 abbrev pub IsNear : Option Cached → Option Cached → Type 0
 IsNear stored kept =
     (stored ≡ kept) ⊎ (ahead (last_number number_of stored) (last_number number_of kept) < WRITTEN_EVERY)
@@ -40,8 +40,8 @@ IsNear stored kept =
 abbrev pub stores_turns : (World : Type 0) → Rule World
 stores_turns World = record { settled = with_cached; leaves = λ old new. new ≡ old; near = IsNear }
 
--- A turn has fewer calls: it is given at most 131,072 bytes of each of 16 connections, 2^21 bytes in all, and a call
--- has more than two bytes. This is a part of the rule, since numbers are modulo 2^32: after 2^32 calls in one turn a
+-- A turn has fewer calls. It gets at most 131,072 bytes of each of 16 connections, 2^21 bytes in all, and a call has
+-- more than two bytes. The rule includes this bound, since sequence IDs are modulo 2^32. After 2^32 calls in one turn a
 -- slot would seem to be near.
 abbrev pub MOST_IN_TURN : ℕ
 MOST_IN_TURN = 1048576
@@ -55,7 +55,7 @@ pub record MayWait {World : Type 0} (rule : Rule World) (calls : List (ℕ × Ca
 
 -- ---- a turn
 
--- A new call on a slot is run, and kept with its results. It counts as written where the turn is stored.
+-- A new call on a slot is run, and cached with its results. It counts as written if the turn is stored.
 pub record RunsIn {World : Type 0} (rule : Rule World) (run : Call → World → List ℕ → World → Type 0) (stores : Bool)
     (c : ℕ × Call) (old new : State World) : Type 0 where
   pub results : List ℕ
@@ -72,7 +72,7 @@ pub record RunsIn {World : Type 0} (rule : Rule World) (run : Call → World →
   }
   pub others : (other : ℕ) → other ≢ c.0 → new.slots other ≡ old.slots other
 
--- a call by its turn on its slot: only a new one is run, and another one leaves all as it is
+-- a call by its turn on its slot: only a new one is run, and any other changes nothing
 abbrev pub IfNew : Turn → Type 0 → Type 0 → Type 0
 IfNew turns.New runs stays = runs
 IfNew turns.Repeat runs stays = stays
@@ -99,15 +99,15 @@ Ends rule false calls stored s new = MayWait rule calls stored s × (new ≡ rec
 
 -- ---- turns and restarts
 
--- what a restart finds: the world and the slots as they were stored; and each slot lags
+-- the state after a restart: the world and the slots as they were stored, and each slot lags
 abbrev pub found : {World : Type 0} → Server World → Server World
 found server = record server {
   now = record server.now { world = server.stored; slots = λ slot. begun_again (server.now.slots slot) };
 }
 
--- A turn of these calls, and whether it is stored; or a restart. A turn that a crash cuts off before it is stored has
--- not come: none of its replies was sent, and nothing of it is found. So that is a restart before the turn. A crash
--- between the storing of a turn and its replies is a restart after the turn.
+-- A turn of these calls, and whether it is stored; or a restart. A crash in a turn before the turn is stored leaves
+-- nothing of it, and none of its replies was sent. It counts as a restart before the turn. A crash after the turn is
+-- stored and before its replies are sent counts as a restart after the turn.
 pub data Event : Type 0 where
   Serves : List (ℕ × Call) → Bool → Event
   Restarts : Event

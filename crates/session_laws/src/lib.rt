@@ -1,7 +1,6 @@
-//! Laws of sessions that are kept by turns, over restarts (RFC 8881, section 2.10.6.5), and of clients' records.
+//! Laws of sessions that are stored by turns, over restarts (RFC 8881, section 2.10.6.5), and of clients' records.
 //!
-//! Each is the contract of a function that does nothing, or only reads, so that a program or a reader can cite it by
-//! name.
+//! Each is the contract of a function that does nothing or only reads. Programs and readers can cite it by its name.
 #![tactic(auto)]
 
 mod records;

@@ -1,4 +1,4 @@
-//! Records of clients, and the histories of CREATE_SESSION that they stand for (RFC 8881, section 18.36).
+//! Records of clients, and the histories of CREATE_SESSION that they represent (RFC 8881, section 18.36).
 ghost use Rattle.std.specs.Prelude.{◌≡◌, ℕ, ◌<◌, ◌^◌, true, List, Option, IfSome};
 ghost use Rattle.session_slots.specs.declared.client.Creation.{Creation};
 ghost use Rattle.session_slots.specs.Counting.{last_number};
@@ -9,8 +9,8 @@ ghost use Rattle.session_slots.specs.Registry.{Client, Registry, client_at};
 use session_slots::{Clients, Record};
 use std::alloc::Allocator;
 
-/// Whatever a record keeps, there is a history of calls that it stands for: where its last call has the form in which
-/// it is kept (`formed`), and so in each orderly registry (`orderly`). It rests on this: a sequence ID is below 2^32.
+/// A record whose last call has the form of a cached call represents some history of calls (`formed`). So does each
+/// record of an orderly registry (`orderly`). Both assume that a sequence ID is below 2^32.
 #[tactic(auto, using(crate::proofs::Recording::some_history, crate::proofs::Recording::orderly_history))]
 pub fn every_record_has_a_history()
     ensures formed { (last : Option Creation) → has_creation_form last ≡ true → last_number number_of last < 2 ^ 32 →
@@ -24,8 +24,8 @@ fn number_fits(kept: Record<'_>)
     ensures { last_number number_of kept.entry.created < 2 ^ 32 }
 {}
 
-/// Each record that a program has stands for some history, whatever calls came. Nothing is supposed: the record is read
-/// here.
+/// Each record of a program's clients represents some history, whatever calls came. Nothing is assumed: the record is
+/// read here.
 #[tactic(auto, using(crate::proofs::Recording::no_client))]
 pub fn every_client_has_a_history<A: Allocator + Copy>(clients: &Clients<A>, client: u64)
     ensures { IfSome (client_at clients.now client)

@@ -7,14 +7,14 @@ ghost use Rattle.session_laws.specs.WrongRules.{forgets_calls, forgets_slots};
 
 use session_slots::World;
 
-/// However calls come in turns on many slots that change one world, and whenever the server starts again between turns:
-/// the world is what the calls that stand, of all slots, made of the first one, each run once and in turn, and of each
-/// slot no number comes twice. The next number of a slot is new (`once`). Between two turns the world is as it is
-/// stored (`stored`).
+/// Calls arrive in turns on many slots that change one world, and the server restarts at any time between turns. The
+/// calls in effect, of all slots, made the world from the first one. Each of them ran once and in turn, and of each
+/// slot no sequence ID occurs twice. The next sequence ID of a slot is new (`once`). Between two turns the world is as
+/// it is stored (`stored`).
 ///
-/// It rests on this. A turn is stored, with all slots, before its replies are sent; unless each of its calls left the
-/// world as it was, each slot is near, and there were fewer than 2^20 calls. A client sends the next number of a slot,
-/// or that of the slot's last call again.
+/// Two things are assumed. A turn is stored with all slots before its replies are sent, except in one case: each of its
+/// calls left the world unchanged, each slot is near, and the turn has fewer than 2^20 calls. A client sends the next
+/// sequence ID of a slot, or that of the slot's last call again.
 #[tactic(auto, using(crate::proofs::Turning::acts_once, crate::proofs::Turning::is_stored))]
 pub fn what_turns_change_acts_once<W: World>()
     ensures once { (events : List Event) (first : W) (last : Server W) →
@@ -23,8 +23,8 @@ pub fn what_turns_change_acts_once<W: World>()
         Steps (stores_turns W) W.run events (begun first) last → last.stored ≡ last.now.world }
 {}
 
-/// The law is false of a server that stores the world without the slots (`forgets_slots`): a call that stands once was
-/// run twice.
+/// The law is false for a server that stores the world without the slots (`forgets_slots`): a call that is in effect
+/// once was run twice.
 #[tactic(auto, using(crate::proofs::Forgetting::slots_are_lost))]
 pub fn a_rule_that_forgets_slots_acts_twice()
     ensures { ((events : List Event) (last : Server ℕ) →
@@ -32,7 +32,8 @@ pub fn a_rule_that_forgets_slots_acts_twice()
         IsMadeOf counts 0 last.now.calls last.now.world) → ⊥ }
 {}
 
-/// It is false of one that lets a slot lag by 2^20 calls (`forgets_calls`): the next number of the slot isn't new.
+/// The law is false for a server that lets a slot lag by 2^20 calls (`forgets_calls`): the next sequence ID of the slot
+/// isn't new.
 #[tactic(auto, using(crate::proofs::Forgetting::calls_are_refused))]
 pub fn a_rule_that_forgets_calls_refuses_them()
     ensures { ((events : List Event) (last : Server (Unit {0})) →

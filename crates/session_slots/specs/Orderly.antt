@@ -56,7 +56,7 @@ pub record IsOrderly (r : Registry) : Type 0 where
       → (c : Client) × (client_at r e.1.client ≡ Some c) × (c.confirmed ≡ true)
   pub within : (e : ℕ × Session) → IsIn e r.sessions → IsWithin e.1.granted
   pub formed : (e : ℕ × Client) → IsIn e r.clients → has_form e.1 ≡ true
-  -- there aren't too many records and sessions, and no number is 2 ^ 63
+  -- records and sessions are within their limits, and no number is 2 ^ 63
   pub few_clients : length r.clients ≤ MOST_CLIENTS
   pub few_sessions : length r.sessions ≤ MOST_SESSIONS
   pub clients_end : r.next_client ≤ END

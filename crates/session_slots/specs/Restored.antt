@@ -37,7 +37,7 @@ abbrev pub with_call : ℕ → ℕ → Option Cached → Registry → Registry
 with_call session slot None r = r
 with_call session slot (Some k) r = with_cached r session slot k
 
--- with the calls of these slots, the first of which is slot number `slot`
+-- with the calls of these slots, which begin at slot number `slot`
 abbrev pub with_slots : ℕ → ℕ → List Place → Registry → Registry
 with_slots session slot [] r = r
 with_slots session slot (p ∷ ps) r = with_slots session (slot + 1) ps (with_call session slot p.kept r)

@@ -83,7 +83,7 @@ slot_fits (Some s) slot k =
 abbrev pub with_cached : Registry → ℕ → ℕ → Cached → Registry
 with_cached r session slot k = with_session session (with_place slot (restored k)) r
 
--- ---- what is read out
+-- ---- the parts that are read out
 
 -- each number is below those after it
 abbrev pub IsRising : {X : Type 0} → List (ℕ × X) → Type 0

@@ -44,7 +44,7 @@ pub fn confirm<A: Allocator>(
     }
 }
 
-/// Removes the sessions of the client `removed`, if there is one.
+/// Removes the sessions of the client `removed`, if any.
 pub fn remove_sessions<A: Allocator + Copy>(
     sessions: &mut BTreeMap<u64, Session<A>, A>,
     removed: Option<u64>,
@@ -109,7 +109,7 @@ pub fn remove_others<A: Allocator>(
     clients.retain(|n, client| *n == number || stays(removed, owner, *n, client));
 }
 
-/// Removes the record of the client `removed`, if there is one.
+/// Removes the record of the client `removed`, if any.
 pub fn remove_record<A: Allocator>(clients: &mut BTreeMap<u64, Client<A>, A>, removed: Option<u64>)
     ensures { clients.new.entries ≡ without_record removed clients.old.entries }
 {

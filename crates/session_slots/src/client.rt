@@ -17,7 +17,7 @@ use std::marker::Model;
 // the seconds of the lease of a client whose runs are short
 const SHORT_LEASE: u64 = 10;
 
-// the first bytes of such a client's owner: those of a run of `nfsc` with one command
+// the first bytes of the owner of a run of `nfsc` with one command
 const SHORT_RUN: &[u8] = b"nfsc";
 
 /// The answer to a CREATE_SESSION that created a session (RFC 8881, section 18.36).
@@ -40,7 +40,7 @@ pub struct Created {
 pub struct Creation {
     /// The sequence ID of the call.
     pub number: u32,
-    /// The session, or why there is none.
+    /// The session, or why none is created.
     pub result: Result<Created, Status>,
 }
 
@@ -273,8 +273,8 @@ impl<A: Allocator> Client<A> {
     }
 }
 
-/// Whether an owner names a program whose runs take a moment, so that a run that was killed needn't keep its place for
-/// a whole lease.
+/// Whether an owner names a program whose runs take a moment. A killed run then needn't keep its place for a whole
+/// lease.
 fn has_short_runs(owner: &[u8]) -> bool {
     owner.starts_with(SHORT_RUN)
 }

@@ -25,7 +25,7 @@ pub struct Create {
     pub uid: u32,
     /// Whether CREATE_SESSION4_FLAG_PERSIST is asked for.
     pub persist: bool,
-    /// Whether the server's sessions are persistent, so that it may grant the flag.
+    /// Whether the server's sessions are persistent, and it may grant the flag.
     pub lasting: bool,
     /// The fore channel that is requested.
     pub fore: Channel,
@@ -36,7 +36,7 @@ pub struct Create {
 /// The answer to CREATE_SESSION.
 #[derive(Clone, Copy, Debug, PartialEq, Eq)]
 pub struct Made {
-    /// The session, or why there is none.
+    /// The session, or why none is created.
     pub result: Result<Created, Status>,
     /// The client whose record was removed, with its sessions.
     pub removed: Option<u64>,

@@ -79,7 +79,7 @@ fn confirmed_answer<A: Allocator>(client: &Client<A>) -> Exchanged
 }
 
 impl<A: Allocator + Copy> Registry<A> {
-    /// Whether there is room for one more record, if the client `removed` is removed.
+    /// Whether one more record fits, if the client `removed` is removed.
     fn judge_new(&self, asked: Exchange<'_>, removed: Option<u64>) -> ExchangeDecision
         ensures { result ≡ decision_for_new removed self.now (exchanging_of asked.entry) }
     {

@@ -400,8 +400,8 @@ impl<'a> Wire<'a> for CallForm<'a> {
     }
 }
 
-/// Writes the call that a slot caches, with its results. `Full` if and only if there is no room for it, and then
-/// nothing is written.
+/// Writes the call that a slot caches, with its results. `Full` if and only if it doesn't fit, and then nothing is
+/// written.
 pub fn write_call<A: Allocator>(
     session: u64,
     slot: u32,

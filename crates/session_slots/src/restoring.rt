@@ -224,7 +224,7 @@ impl<A: Allocator + Copy> Registry<A> {
         first_from(&self.sessions, number)
     }
 
-    /// How many records and sessions there are.
+    /// The numbers of records and of sessions.
     pub fn counts(&self) -> (usize, usize)
         ensures counts { result ≡ (length self.now.clients, length self.now.sessions) }
         ensures rising { IsRising self.now.clients × IsRising self.now.sessions }

@@ -31,7 +31,7 @@ pub struct Channel {
     pub cached_size: u32,
     /// The most operations of a COMPOUND.
     pub operations: u32,
-    /// How many slots there are.
+    /// The number of slots.
     pub slots: u32,
 }
 

@@ -89,7 +89,7 @@ pub record HasFailed (part : Part) (operation : Operation) (old new : Held) : Ty
   pub operation_is : failure.operation ≡ operation
   pub kept : new ≡ record old { failure = Some failure }
 
--- CURRENT is read if and only if it is there, and has as many bytes as it is known to have
+-- CURRENT is read if and only if it exists, and has as many bytes as it is known to have
 abbrev pub IsReadAs : Option SmallFile → Option Bytes → Type 0
 IsReadAs None found = found ≡ None
 IsReadAs (Some file) None = ⊥
@@ -103,7 +103,7 @@ abbrev pub fitting : ℕ → Option SmallFile → Option SmallFile
 fitting n None = None
 fitting n (Some spare) = if has_length n spare then Some spare else None
 
--- a small file is there, and has `n` bytes; or it has them if it is there
+-- a small file exists and has `n` bytes; or, below, it has them if it exists
 abbrev pub IsOf : ℕ → Option SmallFile → Type 0
 IsOf n None = ⊥
 IsOf n (Some file) = file.len ≡ n
@@ -119,7 +119,7 @@ without_spare h = record h { spare = None }
 abbrev pub bar_of : ℕ → Held → Option ErrorKind
 bar_of n h = if h.may_write then (if nat_lt h.limit n then Some FileTooLarge else None) else Some ReadOnlyFilesystem
 
--- CURRENT was replaced by a file with these bytes. The next spare has the same length, if there is one.
+-- CURRENT was replaced by a file with these bytes. The next spare has the same length, if any.
 pub record IsTurned (bytes : Bytes) (old new : Held) : Type 0 where
   pub allowed : bar_of (length bytes) old ≡ None
   pub stays : new ≡ record old { current = new.current; spare = new.spare }
@@ -137,7 +137,7 @@ PuttingGives n old (Ok file) new = (file.len ≡ n) × (new ≡ without_spare ol
 PuttingGives n old (Err failure) new = PutFails n old failure × (new ≡ without_spare old)
 
 -- CURRENT wasn't replaced. If `bar_of` forbids it nothing was tried. Else it failed before the folder's sync or at
--- it. The spare, if there was one, isn't held any more.
+-- it. The spare, if any, isn't held any more.
 abbrev pub NotReplaced : ℕ → Held → Failure → Held → Type 0
 NotReplaced n old f new =
     ((bar_of n old ≡ Some (error_kind f.error)) × (f.part ≡ TheCurrent) × (f.operation ≡ ToWrite) × (new ≡ old))
@@ -219,7 +219,7 @@ pub record IsOpen (h : Held) : Type 0 where
   pub drawn : h.identity ≢ None → (h.current ≡ None) × (h.a.len ≡ 0) × (h.b.len ≡ 0)
   pub silent : h.failure ≡ None
 
--- A folder that was opened to be read. If CURRENT is there, both files are there.
+-- A folder that was opened to be read. If CURRENT exists, both files exist.
 pub record IsReadable (h : Held) : Type 0 where
   pub files : h.current ≢ None → (h.a.file ≢ None) × (h.b.file ≢ None)
   pub read : h.may_write ≡ false

@@ -58,7 +58,7 @@ found_at_part A s = s.a
 found_at_part B s = s.b
 found_at_part Key s = None
 
--- each part that is there is a regular file with one name, and the two files are different
+-- each part that exists is a regular file with one name, and the two files are different
 pub record AreSound (s : Seen) : Type 0 where
   pub current : flaw_of s.current ≡ None
   pub a : flaw_of s.a ≡ None
@@ -92,7 +92,7 @@ LinkingGives s (Err Earlier) = ⊥
 LinkingGives s (Err (Corrupt part flaw)) = (flaw ≢ Missing) × HasFlaw s part flaw
 LinkingGives s (Err Memory) = ⊥
 
--- There is a store, or a new one, if and only if nothing is wrong.
+-- The folder is a store, or a new one, if and only if nothing is wrong.
 abbrev pub JudgingGives : Seen → Result Kind FolderFault → Type 0
 JudgingGives s (Ok New) =
     (s.is_earlier ≡ false) × AreSound s × (s.current ≡ None) × (is_vacant s.a ≡ true) × (is_vacant s.b ≡ true)

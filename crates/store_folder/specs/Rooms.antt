@@ -10,7 +10,7 @@ abbrev pub Did : List Act → Held → Held → Type 0
 Did [] old new = new ≡ old
 Did (act ∷ acts) old new = (mid : Held) × Did acts old mid × Keeps mid act new
 
--- A file that these acts didn't write to keeps its length. So preallocation never adds bytes to a file that the
+-- A file that these acts didn't write to keeps its length. Preallocation therefore never adds bytes to a file that the
 -- journal takes for empty (`touched` of `on_disk`).
 abbrev pub RoomLaw : Type 0
 RoomLaw = (s : Slot) (acts : List Act) (old new : Held) → IsThere (file_in s old).len (file_in s old) → Did acts old new

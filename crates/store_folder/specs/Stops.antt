@@ -42,7 +42,7 @@ stop_by OfEarlier = Version Earlier
 stop_by (Flawed part flaw) = Corrupt (InFolder part flaw)
 stop_by NoMemory = Memory
 
--- ---- what is wrong with the file that CURRENT names
+-- ---- corruption of the file that CURRENT names
 
 -- it has a checkpoint and records, and no durable frame is corrupt or missing
 pub record IsSound (c : Current) (file : Bytes) : Type 0 where
@@ -66,7 +66,7 @@ IsChoiceStop c file (Version unknown) = ⊥
 IsChoiceStop c file (Corrupt corruption) = IsChoiceCorruption c file corruption
 IsChoiceStop c file Memory = Unit {0}
 
--- ---- what is wrong with what was loaded
+-- ---- corruption of the loaded content
 
 abbrev pub IsNoCheckpoint : StoreStop → Type 0
 IsNoCheckpoint stop = stop ≡ Corrupt NoCheckpoint

@@ -12,7 +12,7 @@ use std::{fs, io};
 /// The file in which the system lists the limits of a process.
 const LIMITS: &str = "/proc/self/limits";
 
-/// The name of the limit of a file's size there.
+/// The name of the limit of a file's size in that file.
 const FILE_SIZE: &str = "Max file size";
 
 /// The limit of a file's size in the text of the limits. Without a limit it is the greatest number.
@@ -33,7 +33,7 @@ fn first_number(text: &str) -> u64 {
     }
 }
 
-/// The greatest size of a file that this process may write. It is the greatest number if there is no limit or the
+/// The greatest size of a file that this process may write. It is the greatest number if the size has no limit or the
 /// system doesn't report it.
 pub fn file_limit<R: Files + Alloc>(rt: &R) -> u64 {
     match fs::read_to_string(rt, LIMITS) {
@@ -61,7 +61,7 @@ impl<F> Bounded<F> {
 impl<F: Write> Write for Bounded<F> {
     ghost contents = { λ b. F.contents b.file };
 
-    /// If the bytes don't all have room none is written, so that no line is torn.
+    /// If the bytes don't all fit none is written. No line is then torn.
     fn write(&mut self, buf: &[u8]) -> io::Result<usize>
         ensures bound { WritesAtMost result buf.now }
         ensures bytes { WriteAppends (F.contents self.old.file) (F.contents self.new.file) result buf.now }

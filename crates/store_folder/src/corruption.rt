@@ -28,7 +28,7 @@ pub struct Spot {
     pub byte: usize,
 }
 
-/// What is wrong with a store.
+/// The corruption of a store.
 #[derive(Clone, Copy, Debug, PartialEq, Eq)]
 pub enum Corruption {
     /// A part of the folder isn't as a store has it.

@@ -110,10 +110,10 @@ impl Failure {
     }
 }
 
-/// What is wrong with a part.
+/// The flaw of a part.
 #[derive(Clone, Copy, Debug, PartialEq, Eq, Error)]
 pub enum Flaw {
-    /// It is missing, though other parts are there.
+    /// It is missing, though other parts exist.
     #[error("it is missing")]
     Missing,
     /// It is a symbolic link, a folder or something else.

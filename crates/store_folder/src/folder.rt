@@ -47,7 +47,7 @@ fn identity_for<R: RandomSource>(rt: &R, kind: Kind) -> Result<Option<Identity>,
     }
 }
 
-/// Opens CURRENT to read it, if it is there. It is never written over.
+/// Opens CURRENT to read it, if it exists. It is never written over.
 fn open_current<R: Files<File = File> + Alloc>(
     rt: &R,
     path: &str,
@@ -83,7 +83,7 @@ fn open_or_make<R: Files<File = File> + Alloc>(
     }
 }
 
-/// Opens a file of the journal to read it, if it is there.
+/// Opens a file of the journal to read it, if it exists.
 fn open_if_there<R: Files<File = File> + Alloc>(
     rt: &R,
     path: &str,
@@ -170,13 +170,13 @@ fn open_held_to_read<R: Files<File = File> + Alloc>(
 }
 
 impl<R: Files<File = File> + Alloc + Drop> StoreFolder<R, R::A> {
-    /// Opens the folder of a path, and locks it and its `LOCK`. The folder is made if it is missing (mode 0700), and
-    /// so are `LOCK` and the two files (0600).
+    /// Opens the folder of a path, and locks it and its `LOCK`. The folder is made if it is missing (mode 0700), as are
+    /// `LOCK` and the two files (0600).
     ///
     /// A refused call has changed no existing file, and has made at most `LOCK` and empty files.
     /// [`FolderFault::InUse`]: another program has it. [`FolderFault::Failed`]: a call of the system failed.
-    /// [`FolderFault::Earlier`]: the key of an earlier form of store is there. [`FolderFault::Corrupt`]: something is
-    /// missing, is a link, or isn't a regular file. [`FolderFault::Memory`]: an allocation failed.
+    /// [`FolderFault::Earlier`]: the folder has the key of an earlier form of store. [`FolderFault::Corrupt`]:
+    /// something is missing, is a link, or isn't a regular file. [`FolderFault::Memory`]: an allocation failed.
     pub fn open(rt: R, path: &str) -> Result<Self, FolderFault>
     where
         R: RandomSource,
@@ -211,7 +211,7 @@ impl<R: Files<File = File> + Alloc + Drop> StoreFolder<R, R::A> {
 }
 
 impl<R, A: Allocator> StoreFolder<R, A> {
-    /// The identity that was drawn for a new store. `None`: CURRENT was there when the folder was opened, and has the
+    /// The identity that was drawn for a new store. `None`: CURRENT existed when the folder was opened, and has the
     /// identity; or the folder was opened to be read.
     pub fn new_identity(&self) -> Option<Identity>
         ensures { result ≡ self.now.held.identity }
@@ -219,7 +219,7 @@ impl<R, A: Allocator> StoreFolder<R, A> {
         self.held.identity
     }
 
-    /// Takes the system's error of a failed call of the disk, if there is one. It is returned once.
+    /// Takes the system's error of a failed call of the disk, if any. It is returned once.
     pub fn take_failure(&mut self) -> Option<Failure>
         ensures result { result ≡ self.old.held.failure }
         ensures after { self.new ≡ without_failure self.old }

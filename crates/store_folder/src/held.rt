@@ -38,7 +38,7 @@ pub(crate) struct Held {
 }
 
 impl Held {
-    /// Reads CURRENT, if there is one.
+    /// Reads CURRENT, if any.
     pub(crate) fn read_current<A: Allocator>(&self, alloc: A) -> io::Result<Option<Vec<u8, A>>>
         ensures { MatchResult result (λ found. Keeps self.now (Read (option_map (λ bytes. bytes.items) found)) self.now)
             (λ e. Unit {0}) }

@@ -14,7 +14,7 @@ pub(crate) struct FileStat {
     pub is_regular: bool,
     /// The number of its names.
     pub links: u64,
-    /// Its device, and its number there.
+    /// Its device, and its number on the device.
     pub device: u64,
     pub number: u64,
     /// The number of bytes.
@@ -35,7 +35,7 @@ impl FileStat {
         }
     }
 
-    /// What is wrong with a file: it isn't a regular file, or has a second name.
+    /// The flaw of a file: it isn't a regular file, or has a second name.
     pub(crate) fn flaw(self) -> Option<Flaw>
         ensures { result ≡ file_flaw self }
     {
@@ -56,10 +56,10 @@ impl FileStat {
     }
 }
 
-/// The metadata of the files of a store, if they are there.
+/// The metadata of the files of a store, if they exist.
 #[derive(Clone, Copy, Debug, PartialEq, Eq)]
 pub(crate) struct Seen {
-    /// The key of an earlier form of store is there.
+    /// The folder has the key of an earlier form of store.
     pub is_earlier: bool,
     pub current: Option<FileStat>,
     pub a: Option<FileStat>,
@@ -71,11 +71,11 @@ pub(crate) struct Seen {
 pub(crate) enum Kind {
     /// It has none yet: CURRENT is missing, and the two files are empty or missing.
     New,
-    /// CURRENT and both files are there.
+    /// CURRENT and both files exist.
     Kept,
 }
 
-/// What is wrong with a file, if it is there.
+/// The flaw of a file, if it exists.
 fn flaw_of(found: Option<FileStat>) -> Option<Flaw>
     ensures { result ≡ flaw_of found }
 {
@@ -95,7 +95,7 @@ fn is_vacant(found: Option<FileStat>) -> bool
     }
 }
 
-/// Whether both are there and are one file.
+/// Whether both exist and are one file.
 fn are_same(a: Option<FileStat>, b: Option<FileStat>) -> bool
     ensures { result ≡ are_same a b }
 {
@@ -105,7 +105,7 @@ fn are_same(a: Option<FileStat>, b: Option<FileStat>) -> bool
     }
 }
 
-/// Whether a file that is there isn't a regular file, or has a second name.
+/// Whether an existing file isn't a regular file, or has a second name.
 fn judge_links(seen: Seen) -> Result<(), FolderFault>
     ensures { LinkingGives seen result }
 {

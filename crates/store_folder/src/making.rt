@@ -210,7 +210,7 @@ fn create_folder<R: Files<File = File>>(rt: &R, path: &str) -> Result<(), Folder
     }
 }
 
-/// Finds the folder, or makes it. Its parent is synced, so that the folder's name is durable. If the folder was there
+/// Finds the folder, or makes it. Its parent is synced, and the folder's name is then durable. If the folder existed
 /// already, an error of that sync is ignored.
 pub(crate) fn make_folder<R: Files<File = File>>(rt: &R, path: &str) -> Result<(), FolderFault>
     ensures { IfErr result IsFault }
@@ -244,8 +244,8 @@ fn lock(part: Part, file: &File, how: Opening) -> Result<(), FolderFault>
     }
 }
 
-/// Locks the folder's `LOCK`, which has been examined. Its name is examined again under the lock, so that no other
-/// program has the lock of a file of the same name.
+/// Locks the folder's `LOCK`, which has been examined. Its name is examined again under the lock. No other program then
+/// has the lock of a file of the same name.
 fn lock_seen<R: Files<File = File> + Alloc>(
     rt: &R,
     path: &str,

@@ -4,7 +4,7 @@ ghost use Rattle.std.specs.Prelude.{◌≡◌, MatchResult};
 use crate::fault::{FolderFault, Part};
 use std::alloc::Allocator;
 
-/// The paths that replacing CURRENT needs. They are made as the folder is opened, so that replacing it allocates no
+/// The paths that replacing CURRENT needs. They are made as the folder is opened. Replacing CURRENT then allocates no
 /// memory.
 #[derive(Drop)]
 pub(crate) struct Names<A: Allocator> {

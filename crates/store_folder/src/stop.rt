@@ -39,7 +39,7 @@ pub enum StoreStop {
     Memory,
 }
 
-/// What is wrong with the file that CURRENT names.
+/// The corruption of the file that CURRENT names.
 fn choice_stop<A: Allocator + Copy>(alloc: A, current: Current, file: &[u8]) -> StoreStop
     ensures { IsChoiceStop current file.now result }
 {
@@ -53,7 +53,7 @@ fn choice_stop<A: Allocator + Copy>(alloc: A, current: Current, file: &[u8]) -> 
     }
 }
 
-/// What is wrong with the loaded store.
+/// The corruption of the loaded store.
 fn loaded_stop<A: Allocator + Copy>(alloc: A, loaded: &Loaded<A>) -> StoreStop
     ensures { IsLoadedStop loaded.now.current loaded.now.bytes.items result }
 {

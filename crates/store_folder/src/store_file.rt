@@ -52,7 +52,7 @@ pub(crate) fn write_zeros(file: &File, place: u64, count: u64) -> u64
     at
 }
 
-/// The first `len` bytes of a file. The length is known, so there is one allocation.
+/// The first `len` bytes of a file. The length is known, and one allocation suffices.
 pub(crate) fn read_all<A: Allocator>(file: &File, len: u64, alloc: A) -> io::Result<Vec<u8, A>>
     ensures { IfOk result (λ bytes. length bytes.items ≡ len) }
 {
@@ -125,8 +125,8 @@ impl StoreFile {
         Some(end)
     }
 
-    /// Writes bytes at an offset, over the bytes there or past the end. Bytes that would pass the limit are refused,
-    /// and none of them is written. The system would end the program by a signal (SIGXFSZ).
+    /// Writes bytes at an offset, over existing bytes or past the end. Bytes that would pass the limit are refused, and
+    /// none of them is written. The system would end the program by a signal (SIGXFSZ).
     pub(crate) fn write(
         &mut self,
         at: u64,
@@ -172,7 +172,7 @@ impl StoreFile {
     }
 
     /// Waits until everything that was written is on the disk. If the file has grown, room is preallocated before, as
-    /// far as the system has it. So the same sync makes it durable, and a checkpoint of many parts gets room once.
+    /// far as the system has it. The same sync then makes it durable, and a checkpoint of many parts gets room once.
     pub(crate) fn sync(&mut self) -> io::Result<()>
         ensures { MatchResult result (λ done. IsSynced self.old self.new) (λ e. self.new ≡ self.old) }
     {

@@ -13,7 +13,7 @@ use std::rt::Files;
 use std::{fs, io};
 
 /// A file that is replaced as a whole: CURRENT, or its spare. The bytes of a spare are never read. The next CURRENT
-/// is written over them, so that replacing CURRENT takes no new room.
+/// is written over them. Replacing CURRENT then takes no new room.
 #[derive(Drop)]
 pub(crate) struct SmallFile {
     file: File,
@@ -47,7 +47,7 @@ impl SmallFile {
     }
 
     /// Writes the next CURRENT over the bytes of a spare, and syncs it. The spare's length and blocks are on the disk
-    /// already, so that only data is written.
+    /// already. Only data is therefore written.
     pub(crate) fn fill(self, bytes: &[u8]) -> Result<SmallFile, Failure>
         ensures { MatchResult result (λ file. file ≡ self) (λ failure. failure.part ≡ Part.Spare) }
     {
@@ -61,7 +61,7 @@ impl SmallFile {
     }
 }
 
-/// Removes a name, if it is there. The target of a link isn't touched.
+/// Removes a name, if it exists. The target of a link isn't touched.
 fn remove<R: Files>(rt: &R, name: &str) -> io::Result<()> {
     match fs::remove_file(rt, name) {
         Err(error) if error.kind() != ErrorKind::NotFound => Err(error),
@@ -69,7 +69,8 @@ fn remove<R: Files>(rt: &R, name: &str) -> io::Result<()> {
     }
 }
 
-/// Makes the file that is to become CURRENT, writes it and syncs it. A file that a crash left there is removed.
+/// Makes the file that is to become CURRENT, writes it and syncs it. A file that a crash left under its name is
+/// removed.
 pub(crate) fn make_fresh<R: Files<File = File>>(
     rt: &R,
     name: &str,
@@ -107,8 +108,8 @@ fn make_zeros<R: Files<File = File>>(rt: &R, name: &str, len: usize) -> io::Resu
     Ok(file)
 }
 
-/// Makes a spare of `len` bytes. They are zero: no CURRENT that a person could take for the store's. `None`: there is
-/// no room for it.
+/// Makes a spare of `len` bytes. They are zero: no CURRENT that a person could take for the store's. `None`: it doesn't
+/// fit.
 pub(crate) fn make_spare<R: Files<File = File>>(rt: &R, name: &str, len: usize) -> Option<SmallFile>
     ensures { IfSome result (λ spare. spare.len ≡ len) }
 {

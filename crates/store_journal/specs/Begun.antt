@@ -44,7 +44,7 @@ pub record IsBegun (id : Identity) (acts : List Act) : Type 0 where
   pub counts : (c : Current) → IsFitCurrent c → MayBe acts c → c.generation ≤ low
   pub begun : (c : Current) → IsFitCurrent c → MayBe acts c → low ≤ c.begun
 
--- the same holds of the CURRENT that the journal has in memory
+-- these facts hold of the CURRENT that the journal has in memory
 pub record MayBegin (j : Journal) (acts : List Act) : Type 0 where
   pub up_to : AreUpTo j.current.identity j.current.begun acts
   pub least : j.current.generation ≤ j.current.begun
@@ -81,7 +81,7 @@ FreshLaw =
     × ((machine : ℕ) → FinishGives (of_acts acts acts') machine j (Err Failed) j' → IsBegun j.current.identity acts')
     × (BeginGives (of_acts acts acts') j (Err Failed) j' → IsBegun j.current.identity acts')
 
--- a start that succeeds keeps the next generation unused, and so does one that fails
+-- a start keeps the next generation unused, whether it succeeds or fails
 abbrev pub AgainLaw : Type 0
 AgainLaw =
     (j : Journal) (c : Current) (acts acts' : List Act) (file : Bytes) (frames : List Frame) (rest : Bytes)

@@ -40,7 +40,7 @@ numbers_of v = record {
 abbrev pub current_form : Xdr
 current_form = pair numbers_form hyper
 
--- what a program of this version writes
+-- the form of CURRENT that a program of this version writes
 abbrev pub form_of : Current → CurrentForm
 form_of c = record {
   version = VERSION;
@@ -77,7 +77,7 @@ abbrev pub in_known_slot : CurrentForm → Result Current CurrentFault
 in_known_slot c =
     if c.slot == 0 then Ok (with_slot c A) else if c.slot == 1 then Ok (with_slot c B) else Err Corrupt
 
--- The checksum is checked before the version, so that corruption is never taken for another version.
+-- The checksum is checked before the version. Corruption is therefore never taken for another version.
 abbrev pub of_form : CurrentForm → ℕ → ℕ → Result Current CurrentFault
 of_form c checksum left =
     if left == 0 then

@@ -19,7 +19,7 @@ pub data Act : Type 0 where
   Unfound : Slot → Act
   -- these bytes were written at this offset of a file
   Wrote : Slot → ℕ → Bytes → Act
-  -- writing them failed: any part of them may be there
+  -- writing them failed, and any part of them may have been written
   Tore : Slot → ℕ → Bytes → Act
   -- everything that this program wrote to the file is durable
   Synced : Slot → Act
@@ -58,8 +58,8 @@ shared (x ∷ old) (y ∷ new) = if x == y then x ∷ shared old new else []
 abbrev pub over : ℕ → Bytes → Bytes → Bytes
 over at bytes now = if nat_lt (length now) at then now else take at now ++ bytes
 
--- A disk writes a sector whole or not at all. So durable bytes stay durable up to the first that a write changes: the
--- old and the new sector agree on the bytes before it.
+-- A disk writes a sector whole or not at all. Durable bytes therefore stay durable up to the first byte that a write
+-- changes: the old and the new sector agree before it.
 abbrev pub with_write : ℕ → Bytes → FileState → FileState
 with_write at bytes d =
     record { safe = shared d.safe (over at bytes d.now); now = over at bytes d.now; touched = true }
@@ -75,8 +75,8 @@ with_tear at bytes d =
 abbrev pub after_sync : FileState → FileState
 after_sync d = record { safe = d.now; now = d.now; touched = d.touched }
 
--- What is read may have been written by a program that ended before its sync, or whose sync failed. No later sync
--- covers those bytes, nor bytes that were written before a failed sync. So only the durable bytes are known to stay.
+-- Bytes that are read may come from a program that ended before its sync, or whose sync failed. No later sync covers
+-- those bytes, nor bytes that were written before a failed sync. Only the durable bytes are therefore known to stay.
 abbrev pub after_reading : FileState → FileState
 after_reading d = record { safe = d.safe; now = d.safe; touched = d.touched }
 
@@ -111,7 +111,7 @@ pub record MayLeave (d : FileState) (file : Bytes) : Type 0 where
 -- ---- CURRENT
 
 pub record Pointer : Type 0 where
-  -- the bytes of the last replacement that succeeded, if there was one
+  -- the bytes of the last replacement that succeeded, if any
   pub last : Option Bytes
   -- those of later replacements that didn't return or failed
   pub doubtful : List Bytes

@@ -25,7 +25,7 @@ with_part part None = None
 with_part part (Some x) = Some (record { parts = part ∷ x.parts; records = x.records })
 
 -- The frames before the first end frame are the parts, and those after it the records. Without an end frame the
--- checkpoint isn't complete, and there is no content.
+-- checkpoint isn't complete, and the content is `None`.
 abbrev pub contents : List Frame → Option Content
 contents [] = None
 contents (f ∷ frames) =
@@ -38,7 +38,7 @@ abbrev pub is_zero : Read ℕ → Bool
 is_zero (Ok x) = x.0 == 0
 is_zero (Err e) = false
 
--- the bytes begin with the end of the log: the version there is 0
+-- the bytes begin with the end of the log, a version of 0
 unfoldable pub is_ended : Bytes → Bool
 is_ended rest = is_zero (read_at hyper rest)
 

@@ -34,7 +34,7 @@ MARK = 3
 abbrev pub log_end : Bytes
 log_end = replicate 8 0
 
--- A start zeroes as many bytes as a head has. So a frame that an earlier program lost never becomes valid again.
+-- A start zeroes as many bytes as a head has. A frame that an earlier program lost therefore never becomes valid again.
 unfoldable pub wiped : Bytes
 wiped = replicate 64 0
 
@@ -55,7 +55,7 @@ head_of v = record {
   body = v.1.1.1.1.1.1;
 }
 
--- what follows a head in a frame
+-- the part of a frame after its head
 abbrev pub tail_form : Xdr
 tail_form = pair hyper (opaque MAX_BODY)
 
@@ -135,8 +135,8 @@ fitting id p (Ok x) =
     if in_place id p (head_of x.0.0) x.0.1.0 x.0.1.1 then Some (frame_of (head_of x.0.0) x.0.1.1, x.1) else None
 fitting id p (Err e) = None
 
--- The frame of this place at the start of the bytes, and the bytes after it. `None`: no valid frame of this version
--- and place is there.
+-- The frame of this place at the start of the bytes, and the bytes after it. `None`: the bytes don't begin with a valid
+-- frame of this version and place.
 unfoldable pub frame_at : Identity → Place → Bytes → Option (Frame × Bytes)
 frame_at id p bytes = fitting id p (read_at form bytes)
 
@@ -151,7 +151,7 @@ pub record Holds (id : Identity) (p : Place) (bytes : Bytes) (frames : List Fram
   pub frames_at : FramesAt id p frames bytes rest
   pub no_more : frame_at id (place_after id p frames) rest ≡ None
 
--- The next frame is taken from the bytes. Or there is none, and the bytes stay.
+-- The next frame is taken from the bytes. If none is left, the bytes stay.
 abbrev pub Takes : Frames → Option Lent → Frames → Type 0
 Takes old (Some f) new =
     (frame_at old.identity old.place old.rest.now ≡ Some (lent f, new.rest.now))
@@ -166,6 +166,6 @@ abbrev pub fitting_head : Identity → Read (Value (pair head_form hyper)) → O
 fitting_head id (Ok x) = if x.0.1 == head_checksum id (head_of x.0.0) then Some (head_of x.0.0) else None
 fitting_head id (Err e) = None
 
--- the head at the start of the bytes, if there is one with a matching checksum
+-- the head at the start of the bytes, if its checksum matches
 unfoldable pub head_at : Identity → Bytes → Option Head
 head_at id bytes = fitting_head id (read_at (pair head_form hyper) bytes)

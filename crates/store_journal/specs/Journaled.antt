@@ -30,14 +30,14 @@ pub record IsLog (log : Log) (acts : List Act) : Type 0 where
   pub whole : contents log.kept ≡ Some log.content
   pub finished : log.current.generation ≢ 0
 
--- where its next frame goes
+-- the position of its next frame
 abbrev pub place_of : Log → Place
 place_of log = place_after log.current.identity (start log.current.generation) (log.kept ++ log.later)
 
 abbrev pub position_of : Log → Position
 position_of log = record { place = place_of log; at = log.at }
 
--- the same CURRENT with another number of the last begun generation
+-- CURRENT with another number of the last begun generation
 abbrev pub at_begun : Current → ℕ → Current
 at_begun c begun = record {
   identity = c.identity;
@@ -72,7 +72,7 @@ pub record IsJournal (logs : List (Option Log)) (acts : List Act) : Type 0 where
   pub named : (found : Option Bytes) → MayRead (on_current acts) found → NamesOne logs acts found
   pub written : (log : Log) → IsIn (Some log) logs → IsLog log acts
 
--- ---- what a start finds
+-- ---- the content that a start finds
 
 abbrev pub in_slot : {X : Type 0} → Slot → X → X → X
 in_slot A x y = x
@@ -90,8 +90,8 @@ pub record HasAll (log : Log) (content : Option Content) : Type 0 where
     records = log.content.records ++ records_in prefix;
   })
 
--- **Barring a checksum collision, what is chosen of the file is the checkpoint, all durable records and a prefix of
--- the later ones. The file isn't refused as corrupt.**
+-- **Barring a checksum collision, the content that is chosen from the file is the checkpoint, all durable records and a
+-- prefix of the later ones. The file isn't refused as corrupt.**
 pub record Survives (log : Log) (c : Current) (file : Bytes) : Type 0 where
   pub chosen : (content : Option Content) (position : Position) (at : ℕ) (bytes : Bytes)
       → Chooses c file content position at bytes → HasAll log content ⊎ HasCollision log file

@@ -61,7 +61,7 @@ IsAsBefore p j j' = Unchanged p × (j' ≡ j)
 
 -- ---- frames in the active file
 
--- The frame is written and then synced. So at most one frame is unsynced at a time.
+-- The frame is written and then synced. At most one frame is therefore unsynced at a time.
 abbrev pub AppendGives : {D : Type 0} → Passage D → Journal → Frame → Result (Unit {0}) JournalFault → Journal → Type 0
 AppendGives p j f (Ok done) j' =
     Twice p (Wrote j.current.slot j.position.at (ended j.current.identity j.position f)) (Synced j.current.slot)

@@ -1,4 +1,4 @@
--- What each act of a call does to a journal.
+-- The effect of each act of a call on a journal.
 use Rattle.std.specs.Prelude.{◌≡◌, ◌≢◌, ◌⊎◌, ◌+◌, ℕ, List, [], ◌∷◌, ◌++◌, length, Option, Some, None}
 use Rattle.store_journal.specs.declared.current.Current.{Current}
 use Rattle.store_journal.specs.declared.checksum.Identity.{Identity}

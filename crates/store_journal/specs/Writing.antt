@@ -9,11 +9,11 @@ use Rattle.store_journal.specs.Frames.{Frame, framed, log_end, next_place, start
 abbrev pub MOST : ℕ
 MOST = 4611686018427387904
 
--- where the first frame of a generation goes
+-- the position of a generation's first frame
 abbrev pub at_start : ℕ → Position
 at_start generation = record { place = start generation; at = 0 }
 
--- where the frame after this one goes
+-- the position of the frame after this one
 abbrev pub next_position : Identity → Position → Frame → Position
 next_position id e f = record { place = next_place id e.place f; at = e.at + length (framed id e.place f) }
 

@@ -1,4 +1,4 @@
--- What private contracts, invariants and proofs name. No public contract reaches it.
+-- Definitions that only private contracts, invariants and proofs name. No public contract reaches them.
 pub mod Disk
 pub mod Files
 pub mod Keeping

@@ -22,8 +22,8 @@ pub struct Current {
     pub identity: Identity,
     /// The active generation. 0: no checkpoint was finished yet.
     pub generation: u64,
-    /// The last generation that was begun. No generation is begun twice. So frames of an abandoned checkpoint never
-    /// have the generation of a later one.
+    /// The last generation that was begun. No generation is begun twice. Frames of an abandoned checkpoint therefore
+    /// never have the generation of a later one.
     pub begun: u64,
     /// The active file.
     pub slot: Slot,

@@ -18,7 +18,7 @@ pub enum LoadFault {
     /// It can't be read.
     #[error("the file can't be read")]
     Failed,
-    /// There is no memory for its bytes.
+    /// The allocation of its bytes fails.
     #[error("no memory for the file")]
     Memory,
 }
@@ -26,8 +26,8 @@ pub enum LoadFault {
 /// CURRENT, a small file that is replaced as a whole, and two files that are written over. After a failed call the
 /// caller makes no other.
 ///
-/// An implementation states by `adds` which act a call adds to a list of acts, wherever that list is kept. So one
-/// list can hold the acts of a disk beside others. A real file claims nothing.
+/// An implementation states by `adds` which act a call adds to a list of acts, wherever that list is kept. One list can
+/// therefore hold the acts of a disk beside others. A real file claims nothing.
 pub trait Disk {
     // this act makes the second disk of the first one
     ghost adds: { Self → Act → Self → Type 0 } = { λ old act new. Unit {0} };
@@ -44,7 +44,7 @@ pub trait Disk {
             (λ fault. adds self.old (Unfound slot) self.new) };
 
     /// Writes `prefix`, `body` and `back`, one after the other, at offset `at` of a file. They replace the bytes
-    /// there, or extend the file. `false`: the write failed, and any part of them may be there.
+    /// at that offset, or extend the file. `false`: the write failed, and any part of them may have been written.
     fn write(&mut self, slot: Slot, at: u64, prefix: &[u8], body: &[u8], back: &[u8]) -> bool
         ensures { adds self.old (wrote result slot at (prefix.now ++ body.now ++ back.now)) self.new };
 

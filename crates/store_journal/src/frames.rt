@@ -62,7 +62,7 @@ pub struct Frames<'a> {
     pub rest: &'a [u8],
 }
 
-/// The head at the start of the bytes. `None`: no head with a matching checksum is there.
+/// The head at the start of the bytes. `None`: the bytes don't begin with a head whose checksum matches.
 #[tactic(auto, unfolding(crate::specs::Frames::head_at))]
 pub(crate) fn head_at(identity: Identity, bytes: &[u8]) -> Option<Head>
     ensures { result ≡ head_at identity bytes.now }

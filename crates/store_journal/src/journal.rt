@@ -17,9 +17,9 @@ use std::alloc::Allocator;
 pub struct Journal {
     /// The content of CURRENT.
     pub current: Current,
-    /// Where the next record goes, in the active file.
+    /// The position of the next record in the active file.
     pub position: Position,
-    /// Where the next part goes, in the inactive file, while a checkpoint is being written.
+    /// The position of the next part in the inactive file, while a checkpoint is being written.
     pub next: Option<Position>,
     /// The disk has failed. The journal doesn't call it again.
     pub has_failed: bool,

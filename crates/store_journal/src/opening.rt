@@ -19,7 +19,7 @@ use std::alloc::Allocator;
 /// CURRENT, and the bytes of the file that it names.
 #[derive(Drop)]
 pub struct Loaded<A: Allocator> {
-    /// `None`: nothing is there, and the store is new. Generation 0: no checkpoint was finished yet.
+    /// `None`: CURRENT doesn't exist, and the store is new. Generation 0: no checkpoint was finished yet.
     pub current: Option<Current>,
     /// The bytes of the active file. None if no checkpoint was finished yet.
     pub bytes: Vec<u8, A>,
@@ -33,7 +33,7 @@ pub struct Chosen<'a, A: Allocator> {
     pub parts: Vec<&'a [u8], A>,
     /// The records after it.
     pub records: Vec<&'a [u8], A>,
-    /// Where the next frame goes.
+    /// The position of the next frame.
     pub position: Position,
     /// The number of bytes before the last frame.
     pub last_at: u64,

@@ -12,10 +12,10 @@ use crate::writing::wiped;
 use std::alloc::Allocator;
 
 impl Journal {
-    /// Opens a journal on what a start found. What was read may be in the page cache alone, if a program ended before
-    /// its sync or the sync failed. All frames but the last were durable before the last was written. So the last
-    /// frame is written again and synced, and CURRENT is replaced by the same bytes. The bytes of a head after it are
-    /// zeroed. So a frame that an earlier program lost never becomes valid again.
+    /// Opens a journal on the content that a start found. The bytes that were read may be in the page cache alone, if a
+    /// program ended before its sync or the sync failed. All frames but the last were durable before the last was
+    /// written. The last frame is therefore written again and synced, and CURRENT is replaced by the same bytes. The
+    /// bytes of a head after it are zeroed. A frame that an earlier program lost then never becomes valid again.
     pub fn resume<D: Disk, A: Allocator>(
         disk: &mut D,
         alloc: A,

@@ -32,7 +32,7 @@ const WIPED: usize = 7 * 8 + 8;
 /// Zero bytes: the padding of a body, the end of the log, and what a start writes after the last frame.
 const ZEROS: [u8; WIPED] = [0; WIPED];
 
-/// Where a frame goes.
+/// The position of a frame.
 #[derive(Clone, Copy, Debug, PartialEq, Eq)]
 pub struct Position {
     pub place: Place,
@@ -41,7 +41,7 @@ pub struct Position {
 }
 
 impl Position {
-    /// Where the first frame of a generation goes.
+    /// The position of a generation's first frame.
     pub(crate) fn start(generation: u64) -> Self
         ensures { result ≡ at_start generation }
     {

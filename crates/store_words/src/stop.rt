@@ -50,7 +50,7 @@ fn version_stop<R: Files<File = File>, A: Allocator, B: Allocator + Copy>(
     }
 }
 
-/// What is wrong with a store when it is loaded again.
+/// The corruption of a store when it is loaded again.
 fn loaded_stop<R: Files<File = File>, A: Allocator, B: Allocator + Copy>(
     alloc: B,
     folder: &mut StoreFolder<R, A>,

@@ -98,9 +98,9 @@ fn lines_after<A: Allocator + Copy>(guard: &Guard<A>, count: u64) -> Iter<'_, Li
     lines
 }
 
-/// Appends the lines of the trail after the first `seen` that there ever were, in order, each with a newline. The text
-/// of a line is that of [`write_line`]. The trail keeps its last 4,096 lines. If it no longer keeps some of the new
-/// ones, `LOST lines=N` comes first, with their number in decimal digits.
+/// Appends the lines of the trail after its first `seen` lines, in order, each with a newline. The text of a line is
+/// that of [`write_line`]. The trail keeps its last 4,096 lines. If it no longer keeps some of the new ones, `LOST
+/// lines=N` comes first, with their number in decimal digits.
 ///
 /// The result is the number of all lines: `seen` for the next call. `Err`: the writer failed, or accepted nothing, and
 /// then a prefix of these bytes was written. The function allocates nothing.

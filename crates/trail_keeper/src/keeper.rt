@@ -20,7 +20,7 @@ pub struct TrailKeeper<W> {
 }
 
 impl<W: Write> TrailKeeper<W> {
-    /// A keeper that has appended no line. The writer isn't flushed, so it must buffer nothing, as a file does.
+    /// A keeper that has appended no line. The writer isn't flushed, and must therefore buffer nothing, as a file does.
     pub fn new(out: W) -> Self
         ensures { result ≡ record { out = out; seen = 0; has_failed = false } }
     {
@@ -55,8 +55,8 @@ impl<W: Write> TrailKeeper<W> {
         self.seen < guard.total()
     }
 
-    /// Appends a newline if `last`, the last byte of what is there, leaves a line unfinished. The next line then begins
-    /// on a line of its own. `false`: the writer failed, or accepted no bytes, now or before.
+    /// Appends a newline if `last`, the last byte so far, leaves a line unfinished. The next line then begins on a line
+    /// of its own. `false`: the writer failed, or accepted no bytes, now or before.
     pub fn end_line(&mut self, last: Option<u8>) -> bool
         ensures { AddingGives W.contents (line_end last) result self.old self.new }
     {

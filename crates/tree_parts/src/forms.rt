@@ -178,7 +178,7 @@ pub struct ListForm<'a> {
 }
 
 impl<'a> ListForm<'a> {
-    /// The entries as an array, or none if there are more than 64.
+    /// The entries as an array. `None`: they are more than 64.
     pub fn new(entries: &'a [Entry]) -> Option<Self>
         ensures same { IfSome result (λ list. list.entries.now ≡ entries.now) }
         ensures none { IsNone result ↔ (64 < length entries.now) }

@@ -76,8 +76,8 @@ impl<'a> Wire<'a> for WrittenPart<'a> {
     }
 }
 
-/// Writes the counters of a tree in a form that is read again. `Full` if and only if there is no
-/// room for them, and then nothing is written.
+/// Writes the counters of a tree in a form that is read again. `Full` if and only if they don't
+/// fit, and then nothing is written.
 pub fn write_counters<A: Allocator + Copy, B: Allocator>(
     tree: &Tree<A>,
     writer: &mut Writer<B>,
@@ -89,8 +89,8 @@ pub fn write_counters<A: Allocator + Copy, B: Allocator>(
     (0u32, (tree.next_number(), (tree.next_tick(), last))).write(writer)
 }
 
-/// Writes a name in a form that is read again. `Full` if and only if there is no room for it, and
-/// then nothing is written.
+/// Writes a name in a form that is read again. `Full` if and only if it doesn't fit, and then
+/// nothing is written.
 pub fn write_name<A: Allocator, B: Allocator>(
     name: &DirEntry<A>,
     writer: &mut Writer<B>,
@@ -109,7 +109,7 @@ pub fn write_name<A: Allocator, B: Allocator>(
 /// Why an object isn't written. Then nothing is written.
 #[derive(Clone, Copy, Debug, PartialEq, Eq, Error)]
 pub enum PartFault {
-    /// There is no room for it.
+    /// It doesn't fit.
     #[error("there is less room than the object takes")]
     Full,
     /// An allocation for its bytes failed.
@@ -175,8 +175,8 @@ fn put_object<A: Allocator, B: Allocator>(
     (1u32, (number, (new, (node.change(), times)))).write(writer)
 }
 
-/// Writes the object of a number, which has one, in a form that is read again. `Full` only if there
-/// is no room for it. After a fault nothing is written.
+/// Writes the object of a number, which has one, in a form that is read again. `Full` only if it
+/// doesn't fit. After a fault nothing is written.
 pub fn write_object<A: Allocator + Copy, B: Allocator>(
     tree: &Tree<A>,
     alloc: A,

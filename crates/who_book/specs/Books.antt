@@ -21,6 +21,6 @@ content_in book = record {
   members = option_map (memberships_in book.users) book.members;
 }
 
--- the text that the book was read from, if there is one
+-- the text that the book was read from, if any
 abbrev pub text_in : Inside → Option (List ℕ)
 text_in book = option_map string_bytes book.text

@@ -48,7 +48,7 @@ abbrev pub groups_with : Rows → Rolls → Option (List ℕ) → List ℕ
 groups_with groups rolls None = []
 groups_with groups rolls (Some user) = group_set (numbers_with groups rolls user)
 
--- there is a name, and it is among these
+-- a name is given, and is among these
 abbrev pub is_listed : List (List ℕ) → Option (List ℕ) → Bool
 is_listed names None = false
 is_listed names (Some name) = is_among names name

@@ -17,7 +17,7 @@ abbrev pub value_after : ℕ → List ℕ → ℕ
 value_after n [] = n
 value_after n (digit ∷ digits) = value_after (10 * n + (digit - 48)) digits
 
--- there are digits, and the first is 0 only in the number 0
+-- at least one digit, and the first is 0 only in the number 0
 abbrev pub is_short : List ℕ → Bool
 is_short [] = false
 is_short (digit ∷ []) = true

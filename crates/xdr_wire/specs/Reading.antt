@@ -64,7 +64,7 @@ abbrev pub linked : {V : Type 0} → (List ℕ → Read (List V)) → Bool × Li
 linked onward (false, rest) = Ok ([], rest)
 linked onward (true, rest) = onward rest
 
--- Items, each after its link. A link takes four bytes, and there are therefore fewer links than bytes.
+-- Items, each after its link. A link takes four bytes, and the links are therefore fewer than the bytes.
 abbrev pub links_at : {V : Type 0} → (List ℕ → Read V) → ℕ → List ℕ → Read (List V)
 links_at item zero bytes = Err Short
 links_at item (suc n) bytes =

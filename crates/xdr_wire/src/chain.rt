@@ -1,4 +1,4 @@
-//! Lists, each item of which is preceded by TRUE (RFC 4506, section 4.19).
+//! Lists in which TRUE precedes each item (RFC 4506, section 4.19).
 ghost use Rattle.std.specs.Prelude.{◌≡◌, is_ok, IsTrue};
 ghost use Rattle.xdr_wire.specs.Xdr.{chain};
 ghost use Rattle.xdr_wire.specs.Reading.{Gives, read_at};

@@ -16,7 +16,7 @@ pub struct Opaque<'a, const MAX: u32> {
 }
 
 impl<'a, const MAX: u32> Opaque<'a, MAX> {
-    /// The bytes as an item. `None`: there are more than `MAX` bytes.
+    /// The bytes as an item. `None`: they are more than `MAX`.
     pub fn new(bytes: &'a [u8]) -> Option<Self>
         ensures same { IfSome result (λ item. item.bytes.now ≡ bytes.now) }
         ensures none { IsNone result ↔ (MAX < length bytes.now) }

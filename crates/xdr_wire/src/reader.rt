@@ -22,7 +22,7 @@ impl<'a> Model for Reader<'a> {
     ghost view = { λ r. r.rest.now };
 }
 
-/// The number of zero bytes after an item of this many bytes (RFC 4506, section 3).
+/// The number of zero bytes after an item of `len` bytes (RFC 4506, section 3).
 pub(crate) fn padding_of(len: usize) -> usize
     ensures { result ≡ padding len }
 {

@@ -1,4 +1,4 @@
--- COMMIT (RFC 8881, section 18.3): written data are stable already, so there is nothing to do.
+-- COMMIT (RFC 8881, section 18.3): written data are stable already, and nothing is left to do.
 use Rattle.std.specs.Prelude.{[], ◌∷◌}
 use Rattle.nfs_ops.specs.Views.{zeros_value}
 use Rattle.nfs_ops.specs.declared.OpKind.TheVariants as kinds

@@ -14,7 +14,7 @@ use Rattle.compound_run.specs.Rows.{first_row}
 use Rattle.compound_run.specs.Meaning.{Meaning, at, in_world, changed, with_handle, here, there, is_directory}
 use Rattle.compound_run.specs.Meaning.{is_no_directory, is_name, has_no_child, names_at, has_space}
 
--- the last question: there is space for the name
+-- the last question: the name fits
 abbrev pub is_nameable : ℕ → Question
 is_nameable directory = has_space (λ s. may_name s.limits (names_at s directory) s.next_cookie)
 

@@ -107,7 +107,7 @@ abbrev pub name_in : Claim → List ℕ
 name_in (ByName name) = name
 name_in ByHandle = []
 
--- the object of that name, if there is one
+-- the object of that name, if any
 abbrev pub found_by : Claim → FileHandles → Sight → Option ℕ
 found_by (ByName name) h s = child s (here h) name
 found_by ByHandle h s = h.current
@@ -138,7 +138,7 @@ file_of wanted = record { kind = File; text = resized [] (unwrap_or wanted.size 
 abbrev pub is_opened_by : ℕ → List ℕ → ℕ → Opened → Bool
 is_opened_by client owner file o = (o.client == client) && pointwise nat_eq o.owner owner && (o.object == file)
 
--- the owner's open of the object, if there is one: then OPEN upgrades it
+-- the owner's open of the object, if any: then OPEN upgrades it
 abbrev pub joined : Context → Value open_args → Option ℕ → List Opened → Option Opened
 joined c v None opens = None
 joined c v (Some file) opens = find (is_opened_by (client_of c) (open_owner v) file) opens
@@ -243,12 +243,12 @@ abbrev pub is_within : Limits → Context → Value open_args → Option ℕ →
 is_within limits c v None = size_fits limits (wanted c v).size
 is_within limits c v (Some file) = true
 
--- there is space for a new file; a truncation takes a tick
+-- a new file fits; a truncation takes a tick
 abbrev pub has_file_space : Context → Value open_args → ℕ → Option ℕ → Sight → Bool
 has_file_space c v directory None s = has_left s.next_tick && can_make (wanted c v) File s directory
 has_file_space c v directory (Some file) s = if truncates c v then has_left s.next_tick else true
 
--- there is space for one more open
+-- one more open fits
 abbrev pub has_open_space : Option Opened → Sight → Bool
 has_open_space (Some o) s = true
 has_open_space None s = nat_lt (length s.opens) MAX_OPENS && has_left s.next_open
@@ -265,7 +265,7 @@ last_questions v c h =
 
 -- ---- the result, and the realm after it
 
--- The change attribute of the directory, which stays unless a file is created. By filehandle there is no directory.
+-- The change attribute of the directory, which stays unless a file is created. An OPEN by filehandle has no directory.
 abbrev pub change_of : Claim → ℕ → Option ℕ → Sight → Value change_info
 change_of (ByName name) directory None s = changed s directory
 change_of (ByName name) directory (Some file) s = unchanged s directory

@@ -84,7 +84,7 @@ names_above s directory cookie = filter (λ n. nat_lt cookie n.cookie) (s.names 
 abbrev pub judged_above : Context → List ℕ → ℕ → ℕ → Sight → List (Judged Demand)
 judged_above c asked directory cookie s = map (judged_entry c asked s) (names_above s directory cookie)
 
--- The entries that are returned: the longest prefix that fits. There are none if a judged entry is refused, or if
+-- The entries that are returned: the longest prefix that fits. None are returned if a judged entry is refused, or if
 -- nothing fits.
 unfoldable pub listed : Context → Value readdir_args → ℕ → Sight → Result Listing (ListFault Demand)
 listed c v directory s =

@@ -40,7 +40,7 @@ goes_below s child directory = is_below s.kinds s.parents s.next_number child di
 abbrev pub can_replace : Sight → ℕ → Option ℕ → Bool
 can_replace s child target = may_replace s.kinds s.has_entries child target
 
--- there is space for the name
+-- the name fits
 abbrev pub can_move : Sight → ℕ → ℕ → Option ℕ → Bool
 can_move s from to target = may_move s.limits (names_at s to) s.next_cookie from to target
 

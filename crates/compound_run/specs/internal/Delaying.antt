@@ -1,5 +1,5 @@
 -- On replay, the operation at the place that the call's record names fails its allocation: it is answered DELAY, and
--- isn't run. An operation that may never be delayed runs there too.
+-- isn't run. An operation that may never be delayed runs at that place too.
 use Rattle.std.specs.Prelude.{ℕ, List, Option}
 use Rattle.session_slots.specs.declared.session.Begin.{Begin}
 use Rattle.compound_run.specs.declared.kept.Ran.{Ran}

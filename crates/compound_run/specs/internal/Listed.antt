@@ -32,7 +32,7 @@ abbrev pub given_view : Result (Status × Bitmap) Demand → Result (Status × L
 given_view (Ok (error, set)) = Ok (error, bitmap_value set)
 given_view (Err d) = Err d
 
--- the next entry of a directory above a cookie, if there is one: its own cookie, and its object
+-- the next entry of a directory above a cookie, if any: its own cookie, and its object
 pub record IsNext (s : Sight) (directory cookie : ℕ) (found : Option Name) (next : ℕ) (child : Object) : Type 0 where
   pub name : Name
   pub is : found ≡ Some name
@@ -40,7 +40,7 @@ pub record IsNext (s : Sight) (directory cookie : ℕ) (found : Option Name) (ne
   pub object : object_of s (Some name.child) ≡ Some child
   pub above : names_above s directory cookie ≡ name ∷ names_above s directory next
 
--- the next entry of a directory above a cookie, if there is one: its own cookie, and the number of its object
+-- the next entry of a directory above a cookie, if any: its own cookie, and the number of its object
 pub record IsNextOf (s : Sight) (directory cookie : ℕ) (found : Option Name) (next number : ℕ) : Type 0 where
   pub name : Name
   pub is : found ≡ Some name
@@ -65,7 +65,7 @@ written_entry book facts n asked = (n.cookie, (n.name, (given_set asked, given_v
 unfoldable pub linked : Value entry → List ℕ
 linked e = linked_bytes e
 
--- The entry is written after its link, or there is no room for both, and nothing is written.
+-- The entry is written after its link, or both together don't fit and nothing is written.
 pub record PutsEntry (e : Value entry) (old new : Buffer) (result : Result (Unit {0}) Full) : Type 0 where
   pub sendable : OnOk result (IsSendable e)
   pub puts : Puts old new (linked e) result

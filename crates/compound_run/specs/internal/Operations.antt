@@ -1,6 +1,6 @@
 -- The meaning of each operation at its place (RFC 8881, section 18): one line for each supported operation, in the
--- order of the standard. The other operations answer NOTSUPP once they are decoded. So do the operations of sessions
--- without a session. Of these RECLAIM_COMPLETE alone runs after a SEQUENCE.
+-- order of the standard. The other operations answer NOTSUPP once they are decoded, as do the operations of sessions
+-- without a session. Of the latter, RECLAIM_COMPLETE alone runs after a SEQUENCE.
 use Rattle.std.specs.Prelude.{Bool}
 use Rattle.nfs_ops.specs.Operations.{Operation}
 use Rattle.compound_run.specs.Context.{Context}

@@ -16,7 +16,7 @@ pub record Permits {A : Type 0} (w : World) (number : ℕ) (wanted : Wanted) (p 
   pub highs : IfSome (object w number) (λ o. p.high ≡ changed_high o.high wanted.mode)
   pub bounded : IsBounded p.list
 
--- the world with them, if there are any
+-- the world with them, if any
 abbrev pub permitted : {A : Type 0} → ℕ → Option (Permissions A) → At → World → World
 permitted number made at w = option_map_or (λ p. with_list w number p.list p.high at) made w
 

@@ -55,7 +55,7 @@ CompoundGives (Err Memory) xid a old call new pending pending' = (new ≡ old) �
 CompoundGives (Err Broken) xid a old call new pending pending' = ⊥
 
 -- The results of a COMPOUND, with the facts that its log entry needs, are put after the buffer's bytes, and
--- are within the limit of a reply; or there are none.
+-- are within the limit of a reply; or no results exist.
 abbrev pub RunsAs : Bool → State → Call → Option Ran → Buffer → Buffer → State → Type 0
 RunsAs in_sessions old call (Some ran) before after new =
     (results : List ℕ) × AnswersAs in_sessions old call (Some results) ran new × Appends before after results
@@ -72,7 +72,7 @@ ReloadEnds book result old new =
     ((result ≡ Err (record { fault = hub_fault.Exhausted; book = book })) × (new ≡ old))
     (λ epoch. (result ≡ Ok old.state.settings.book) × (new.state ≡ with_book book old.state))
 
--- whatever rest the connection holds, it takes the piece to its end, or to the break
+-- with any rest that it holds, the connection takes the piece to its end, or to the break
 abbrev pub FeedGives : {A : Type 0} → Result (Unit {0}) ConnectionFault → Connection A → Connection A → Served
     → Served → Read_at → Type 0
 FeedGives (Ok done) old new served served' piece =
@@ -85,8 +85,8 @@ FeedGives (Err Memory) old new served served' piece =
     (rest : List ℕ) → HasRead old.framer old.content.items rest
     → Stopped piece.1 served old.pending.bytes (rest ++ piece.0) served' new.pending.bytes
 
--- Whatever rest the connection holds, it takes the piece to the end of its first record, or to the piece's
--- end if no record ends in it. Or the connection breaks, and nothing is answered.
+-- With any rest that it holds, the connection takes the piece to the end of its first record, or to the piece's end if
+-- no record ends in it. Or the connection breaks, and nothing is answered.
 abbrev pub RecordGives : {A : Type 0} → Result ℕ ConnectionFault → Connection A → Connection A → Served → Served
     → Read_at → Type 0
 RecordGives (Ok n) old new served served' piece =

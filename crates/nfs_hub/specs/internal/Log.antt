@@ -17,10 +17,10 @@ bytes_of log = option_map (λ w. w.bytes) log
 abbrev pub log_size : Option (List ℕ) → ℕ
 log_size log = option_map_or length log 0
 
--- there is room for `room` bytes, if a log is kept
+-- `room` bytes fit, if a log is kept
 abbrev pub HasRoom : ℕ → Option Buffer → Type 0
 HasRoom room log = MatchOption log (Unit {0}) (λ w. room ≤ w.room)
 
--- there is room for the entry of a call, whatever its results are
+-- the entry of a call fits, whatever its results are
 abbrev pub HasRoomFor : Arrival → Option Buffer → Type 0
 HasRoomFor a log = (c : Called) → c.bytes ≡ a.bytes → HasRoom (length (entry_bytes (Call c))) log

@@ -14,7 +14,7 @@ ReadsBook (Ok book) text = book_from text ≡ Ok book
 ReadsBook (Err Memory) text = Unit {0}
 ReadsBook (Err Differs) text = (fault : BookFault) × (book_from text ≡ Err fault)
 
--- the same of logged bytes, which may be no text
+-- the book of logged bytes, which may be no text
 abbrev pub BookGives : Result Content ReplayFault → Option (List ℕ) → Type 0
 BookGives (Ok book) text = IsText text × ReadsBook (Ok book) text
 BookGives (Err Memory) text = Unit {0}

@@ -20,8 +20,8 @@ has_both generation (Err e) = false
 unfoldable pub begins_frames : ℕ → Bytes → Bool
 begins_frames generation bytes = has_both generation (read_at hyper bytes)
 
--- The content of a file of which some frames remain to be read. It is given by what was read: whether the end frame
--- was, the parts, and the records.
+-- The content of a file, while some of its frames remain to be read. It is given by the frames that were read: whether
+-- the end frame was, the parts, and the records.
 abbrev pub after_those : List Bytes → List Bytes → Option Content → Option Content
 after_those parts records None = None
 after_those parts records (Some x) = Some (record { parts = parts ++ x.parts; records = records ++ x.records })

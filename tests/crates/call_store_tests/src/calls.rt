@@ -83,7 +83,7 @@ pub(crate) fn replied(alloc: Global, hub: &mut Hub, compound: &[u32]) -> Option<
     Some(reply)
 }
 
-/// The same, for use in a test.
+/// The reply to a call, or the failure of a test.
 pub(crate) fn asked(alloc: Global, hub: &mut Hub, compound: &[u32]) -> Result<Vec<u8>, Fail> {
     match replied(alloc, hub, compound) {
         Some(reply) => Ok(reply),

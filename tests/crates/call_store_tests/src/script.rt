@@ -137,7 +137,7 @@ pub(crate) fn number_of(hub: &Hub) -> u8 {
     number_in_tree(hub.server().tree())
 }
 
-/// The same in a tree.
+/// The number of the last directory of a tree, or `WRONG` if one before it is missing.
 pub(crate) fn number_in_tree(tree: &Tree) -> u8 {
     let mut last = 0u8;
     for number in 1..10u8 {

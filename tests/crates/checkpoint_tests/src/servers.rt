@@ -87,7 +87,7 @@ fn client_state_of<A: Allocator + Copy>(alloc: A) -> Option<ClientState<A>> {
     Some(clients)
 }
 
-/// A server of all this, with the book of a text, if there is one. `None`: an allocation failed.
+/// A server of all this, with the book of a text, if any. `None`: an allocation failed.
 pub(crate) fn server_of<A: Allocator + Copy>(
     alloc: A,
     global: Global,

@@ -20,7 +20,7 @@ pub(crate) const CHANNEL: Channel = Channel {
 /// The user of all callers.
 pub(crate) const UID: u32 = 4;
 
-/// An owner registers, and gets a client ID, unless there is no room or an allocation fails.
+/// An owner registers, and gets a client ID, unless the limit is reached or an allocation fails.
 pub(crate) fn exchange<A: Allocator + Copy>(
     clients: &mut ClientState<A>,
     owner: &[u8],
@@ -39,7 +39,7 @@ pub(crate) fn exchange<A: Allocator + Copy>(
     }
 }
 
-/// A client gets a session over such a channel by its first CREATE_SESSION.
+/// A client gets a session over this channel by its first CREATE_SESSION.
 pub(crate) fn create<A: Allocator + Copy>(
     clients: &mut ClientState<A>,
     client: u64,

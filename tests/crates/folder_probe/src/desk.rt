@@ -8,7 +8,7 @@ use store_journal::{Current, Disk, Journal, JournalFault, Loaded, OpenFault, cho
 /// The folder of the host's file system.
 type Folder<'r> = StoreFolder<&'r HostRuntime>;
 
-/// An open folder, if there is one, and the journal that was found in it.
+/// An open folder, if any, and the journal that was found in it.
 #[derive(Drop)]
 pub(crate) struct Desk<'r> {
     rt: &'r HostRuntime,

@@ -1,5 +1,5 @@
-//! What is done between a read and the replies. The trail is kept after each record, and a book that arrived with the
-//! read is used. A peer that never reads gets 4,096 bytes of replies, and one piece of its calls is run.
+//! The steps between a read and the replies. The trail is kept after each record, and a book that arrived with the read
+//! is used. A peer that never reads gets 4,096 bytes of replies, and one piece of its calls is run.
 
 use crate::memory::{Memory, Time};
 use crate::peers::{Script, script_of};

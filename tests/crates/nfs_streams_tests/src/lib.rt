@@ -1,6 +1,6 @@
 //! Tests of `nfs_streams`: streams in memory, ready in any order, some of which fail, break or are silent. Books arrive
-//! meanwhile. Persistent sessions over a store on a disk in memory outlive a crash. There are sockets of 127.0.0.1,
-//! too.
+//! meanwhile. Persistent sessions over a store on a disk in memory outlive a crash. Some tests use sockets of
+//! 127.0.0.1.
 #![tactic(auto)]
 
 #[cfg(test)]

@@ -24,7 +24,7 @@ struct Received {
     ends: Vec<StreamEnd>,
 }
 
-/// There is no store.
+/// No store exists.
 impl Disk for Received {
     fn load_current<A: Allocator>(&mut self, _alloc: A) -> Result<Option<Vec<u8, A>>, LoadFault> {
         Err(LoadFault::Failed)
@@ -98,7 +98,7 @@ fn peer(rt: &HostRuntime, port: u16, bytes: &[u8]) -> io::Result<TcpStream> {
     Ok(stream)
 }
 
-/// What a peer receives, up to the end.
+/// The bytes that a peer receives, up to the end.
 fn received_bytes(alloc: Global, stream: &mut TcpStream) -> io::Result<Vec<u8>> {
     let mut bytes = Vec::new(alloc);
     stream.read_to_end(&mut bytes)?;
@@ -111,7 +111,7 @@ fn cut(mut bytes: Bytes) -> Bytes {
     bytes
 }
 
-/// What a peer writes, what it receives, and how its connection ends.
+/// The bytes that a peer writes and receives, and how its connection ends.
 type Peer = (Bytes, Bytes, StreamEnd);
 
 /// Peers that complete their calls, stop inside a call after a complete one, send bytes that break their connection,

@@ -57,7 +57,7 @@ pub struct Memory<'a> {
     alloc: Global,
     time: &'a Time,
     streams: [Stream; 17],
-    /// How many streams there are.
+    /// The number of streams.
     count: usize,
     /// How many streams were admitted.
     pub admitted: usize,
@@ -165,7 +165,7 @@ impl<'a> Memory<'a> {
     }
 }
 
-/// There is no store.
+/// No store exists.
 impl Disk for Memory<'_> {
     fn load_current<A: Allocator>(&mut self, _alloc: A) -> Result<Option<Vec<u8, A>>, LoadFault> {
         Err(LoadFault::Failed)

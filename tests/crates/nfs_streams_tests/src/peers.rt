@@ -125,7 +125,7 @@ pub fn script_of(word: &str) -> Script {
     }
 }
 
-/// What a peer sends.
+/// The bytes that a peer sends.
 fn input_of(number: u32, script: Script) -> Bytes {
     let mut input = if script.removes {
         removes_of(number, script.calls)

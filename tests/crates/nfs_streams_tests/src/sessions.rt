@@ -220,7 +220,7 @@ fn a_call_that_is_sent_again_acts_once(rt: HostRuntime) -> Result<(), Fail> {
     Ok(())
 }
 
-/// The same holds after each act of the files that fails.
+/// A call also acts once if an act of the files fails.
 #[test]
 fn a_call_whose_record_fails_acts_once(rt: HostRuntime) -> Result<(), Fail> {
     let (alloc, hasher) = (rt.alloc(), RandomState::new(&rt)?);

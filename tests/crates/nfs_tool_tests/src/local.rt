@@ -48,7 +48,7 @@ impl Deed for TwoCallers {
     }
 }
 
-/// Each call has its reply, and no byte of it is left. Without a call there is none.
+/// Each call has its reply, and no byte of it is left. Without a call nothing is pending.
 #[test]
 fn each_call_has_its_reply(rt: HostRuntime) -> Result<(), Fail> {
     let alloc = rt.alloc();

@@ -82,7 +82,7 @@ pub fn answer_lines<R: Print, A: Allocator + Copy>(
     Ok(())
 }
 
-/// Answers `none`, and each line with `-`: there is no house.
+/// Answers `none`, and each line with `-`: no house exists.
 pub fn skip_lines<R: Print>(rt: &R, lines: &str) -> Result<(), Fail> {
     println!(rt; "none")?;
     for line in lines.lines() {

@@ -34,7 +34,7 @@ pub fn take_out<A: Allocator + Copy>(
     hub.take_out(conn, buf)
 }
 
-/// The bytes that are pending on a connection, or none if there is no connection.
+/// The bytes that are pending on a connection, or none without a connection.
 pub fn pending<A: Allocator + Copy>(hub: &Hub<A>, conn: ConnId) -> &[u8] {
     hub.pending(conn).unwrap_or(&[])
 }

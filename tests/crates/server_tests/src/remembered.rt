@@ -1,4 +1,4 @@
-//! What a server remembers after two equal calls.
+//! The summaries that a server remembers after two equal calls.
 
 use nfs_hub::{ConnId, Hub};
 use nfs_types::Moment;

@@ -19,7 +19,7 @@ fn first_change(file: &[u8], at: usize, bytes: &[u8]) -> usize {
     at.saturating_add(bytes.len())
 }
 
-/// What a crash leaves: of each sixth of an unsynced write the new bytes, the old ones, or others.
+/// The bytes that a crash leaves: of each sixth of an unsynced write the new bytes, the old ones, or others.
 pub(crate) fn spoiled(
     alloc: Global,
     left: &Left,

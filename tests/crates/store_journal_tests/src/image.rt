@@ -1,4 +1,4 @@
-//! What a crash left: CURRENT and two files, to be read.
+//! The files after a crash: CURRENT and two files, to be read.
 
 use std::alloc::{AllocError, Allocator, Global};
 use store_journal::{Disk, LoadFault, Slot};

@@ -104,7 +104,7 @@ const CREATION: Step<'static> = Create(1, 1, 1001, THREE_SLOTS, SMALL);
 /// The session 1 is created.
 const MADE: Outcome = Made(1, 1, THREE_SLOTS, SMALL, None);
 
-/// There is no session, no record is confirmed, and the first sequence ID isn't accepted.
+/// No session exists, no record is confirmed, and the first sequence ID isn't accepted.
 const NOTHING_IS_CREATED: &[(Step<'_>, Outcome)] = &[
     (Sequence(1, ON_NO_SLOT, b""), Refused(BadSession)),
     (ConfirmedOf(b"alice"), Record(None)),

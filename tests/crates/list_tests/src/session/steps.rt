@@ -39,7 +39,7 @@ pub enum Outcome {
     Done,
     /// The call was refused.
     Refused(Status),
-    /// The client ID of the confirmed record, if there is one.
+    /// The client ID of the confirmed record, if any.
     Record(Option<u64>),
     /// An unconfirmed record: the client, the next sequence ID and the flags.
     Unconfirmed(u64, u32, u32),

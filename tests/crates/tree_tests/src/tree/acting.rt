@@ -18,7 +18,7 @@ pub enum Outcome {
     Misused,
     /// A number.
     Is(u64),
-    /// There is none.
+    /// Nothing was found.
     Absent,
     /// The seconds in which the data and the metadata of an object were changed last.
     Changed(i64, i64),

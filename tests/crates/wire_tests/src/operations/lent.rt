@@ -10,7 +10,7 @@ use xdr_wire::{Chain, Opaque, Reader, Wire};
 const CHAIN: &[u8] =
     b"\0\0\0\x01\0\0\0\0\0\0\0\x04\0\0\0\x01f\0\0\0\0\0\0\x02\0\0\0\x02\0\0\0\0\0\0\0\x04\0\0\0\x01\0\0\0\0";
 
-/// How many results there are.
+/// The number of results.
 pub const COUNT: u32 = 6;
 
 /// The bytes of the result of this index.

@@ -41,7 +41,7 @@ fn channel() -> Channel {
     }
 }
 
-/// How many results there are.
+/// The number of results.
 pub const COUNT: u32 = 26;
 
 /// The bytes of the result of this index.
