@@ -273,13 +273,17 @@ def goes(tree, room):
 
 
 def wrong_words(tree, lab):
-    """Words that a program doesn't take: the fault begins with its name, and help doesn't."""
+    """Words that a program doesn't take: the fault begins with its name. Help is on standard output where the program is for its administrator alone."""
     short = {"nfsc": ["--port", "1", "--uid", "0", "--gid", "0"], "nfstore": ["."], "nfstrail": ["."], "acl_lines": [], "nfslab": [], "nfsd": []}
     for name, words in short.items():
         program = built(tree, name)
-        for more, start in ((["--nonsense"], f"{name}: unexpected argument '--nonsense' found\n"), (["--help"], "")):
-            said, told, status = ran_without([], [program, *more, *words])
-            see(f"{name} {more}", (said, told.startswith(start), "error:" in told, len(told.splitlines()) > 2, status), ("", True, False, True, 2))
+        said, told, status = ran_without([], [program, "--nonsense", *words])
+        start = f"{name}: unexpected argument '--nonsense' found\n"
+        see(f"{name} --nonsense", (said, told.startswith(start), "error:" in told, len(told.splitlines()) > 2, status), ("", True, False, True, 2))
+        said, told, status = ran_without([], [program, "--help", *words])
+        is_new = name in ("nfstore", "nfstrail")
+        text, other = (said, told) if is_new else (told, said)
+        see(f"{name} --help", (other, "error:" in text, len(text.splitlines()) > 2, status), ("", False, True, 0 if is_new else 2))
     for words, wanted in (
         (["nonsense"], "nfsc: there is no command 'nonsense'"),
         (["ls"], "nfsc: the command 'ls' wants these words: ls P"),

@@ -63,6 +63,8 @@ def versions(tree, room):
     for words in (["--version"], ["-V"], ["--home", home, "--version"], ["--bare", "--trail", home, "-V"]):
         see(f"nfsd {words}", ran_with(program, *words), (VERSION, "", 0))
     see("what it makes", os.path.exists(home), False)
+    for name in ("nfstore", "nfstrail"):
+        see(f"{name} --version", ran_with(built(tree, name), "--version"), (VERSION.replace("nfsd", name), "", 0))
     see("an option that isn't one", ran_with(program, "--versions")[::2], ("", 2))
     with open("/dev/full", "w", encoding="ascii") as full:
         wanted = (None, "nfsd: standard output: No space left on device (os error 28)\n", 1)

@@ -94,11 +94,15 @@ class Server:
         if said:
             sys.exit(f"stored: the server over {folder} says {said!r}, and doesn't listen")
 
+    @staticmethod
+    def options_over(folder):
+        """The options of a server over this folder."""
+        return ["--concurrent", *(["--store", folder] if folder else [])]
+
     def begin(self, folder, first=None, options=(), under=()):
         """Starts a server. What it says instead of listening."""
         self.folder, self.port = folder, free_port()
-        store = ["--store", folder] if folder else []
-        call = [*under, Server.programs["nfsd"], "--port", str(self.port), "--concurrent", *store, *options]
+        call = [*under, Server.programs["nfsd"], "--port", str(self.port), *self.options_over(folder), *options]
         self.ran = subprocess.Popen(call, stdout=subprocess.PIPE, stderr=subprocess.PIPE, text=True, preexec_fn=first)
         Server.begun.append(self.ran)
         if self.ran.stdout.readline() == f"listening on 127.0.0.1:{self.port}\n":
@@ -122,6 +126,14 @@ class Server:
     def ends(self, said):
         see("the status", self.ran.wait(timeout=PATIENCE), 1)
         see("what the server said", self.ran.stderr.read(), said)
+
+
+class HomeServer(Server):
+    """A server over a home, which listens."""
+
+    @staticmethod
+    def options_over(folder):
+        return ["--home", folder]
 
 
 def refused(folder, *options, first=None):

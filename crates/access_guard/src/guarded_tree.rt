@@ -29,7 +29,7 @@ use crate::guard::Guard;
 use crate::trail::MOST_HELD;
 use access_rows::Demand;
 use acl_list::{AclList, Caller, Kind};
-use node_tree::{At, DirEntry, Move, NewObject, Node, Plan, ROOT, Tree, TreeFault};
+use node_tree::{At, DirEntry, Limits, Move, NewObject, Node, Plan, ROOT, Tree, TreeFault};
 use std::alloc::{AllocError, Allocator, Global};
 use std::hash::RandomState;
 use std::marker::Model;
@@ -207,6 +207,13 @@ impl<A: Allocator + Copy> GuardedTree<A> {
         self.tree.next_stamp()
     }
 
+    /// As [`Tree::limits`].
+    pub fn limits(&self) -> Limits
+        ensures { result ≡ self.now.world.limits }
+    {
+        self.tree.limits()
+    }
+
     /// As [`Tree::object`].
     pub fn object(&self, number: u64) -> Option<&Node<A>>
         ensures value { option_copied result ≡ object self.now.world number }
@@ -218,7 +225,7 @@ impl<A: Allocator + Copy> GuardedTree<A> {
     /// As [`Tree::links`].
     pub fn links(&self, number: u64) -> usize
         ensures value { result ≡ link_count self.now.world.names number }
-        ensures few { result ≤ 1000 }
+        ensures few { result < 2 ^ 32 }
     {
         self.tree.links(number)
     }
@@ -304,7 +311,7 @@ impl<A: Allocator + Copy> GuardedTree<A> {
         requires live { kind_of self.old.world directory ≡ Some Kind.Directory }
         requires short { length name.now ≤ 255 }
         requires bounded { IsBounded new.list }
-        requires bytes { length new.bytes.items ≤ most_bytes new.kind }
+        requires bytes { length new.bytes.items ≤ most_bytes self.old.world.limits new.kind }
         ensures refused { MatchOption (add_refusal self.old.world directory name.now)
             (IsOkUnless result TreeFault.Memory) (λ fault. result ≡ Err fault) }
         ensures number { IfOk result (λ number. number ≡ self.old.world.next_number) }
@@ -368,7 +375,7 @@ impl<A: Allocator + Copy> GuardedTree<A> {
     pub fn write(&mut self, file: u64, offset: u64, more: &[u8], at: At) -> Result<(), TreeFault>
         requires tick { IsTick self.old.world at.tick }
         requires file { kind_of self.old.world file ≡ Some Kind.File }
-        ensures refused { MatchOption (write_refusal offset more.now) (IsOkUnless result TreeFault.Memory)
+        ensures refused { MatchOption (write_refusal self.old.world.limits offset more.now) (IsOkUnless result TreeFault.Memory)
             (λ fault. result ≡ Err fault) }
         ensures nothing { more.now ≡ [] → IsOk result }
         ensures ok { OnOk result (self.new ≡
@@ -382,7 +389,7 @@ impl<A: Allocator + Copy> GuardedTree<A> {
     pub fn resize(&mut self, file: u64, size: u64, at: At) -> Result<(), TreeFault>
         requires tick { IsTick self.old.world at.tick }
         requires file { kind_of self.old.world file ≡ Some Kind.File }
-        ensures refused { MatchOption (resize_refusal size) (IsOkUnless result TreeFault.Memory)
+        ensures refused { MatchOption (resize_refusal self.old.world.limits size) (IsOkUnless result TreeFault.Memory)
             (λ fault. result ≡ Err fault) }
         ensures shrinks { size ≤ length (bytes_of self.old.world file) → IsOk result }
         ensures ok { OnOk result (self.new ≡ record self.old { world = with_size self.old.world file size at }) }

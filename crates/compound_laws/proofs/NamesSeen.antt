@@ -71,7 +71,7 @@ link_seen c h name w = (
                   λ granted.
                       let names = names_seen w c.caller (here h) (executes w c.caller h.current (bit_or EXECUTE ADD_FILE) (omega arith) refl refl set live granted) in (
                         ap (λ all. not (is_some (child_in all name))) names,
-                        λ _. (refl, λ _. (ap (λ all. has_left w.world.next_tick && may_name (length all) w.world.next_cookie) names, λ _. refl)),
+                        λ _. (refl, λ _. (ap (λ all. has_left w.world.next_tick && may_name w.world.limits (length all) w.world.next_cookie) names, λ _. refl)),
                       ),
                 ),
               ),
@@ -128,7 +128,7 @@ create_seen c h v w = (
                           λ _. (
                             refl,
                             λ _. (
-                              ap (λ all. has_left w.world.next_tick && (new_fits (wanted c v) (draft v).kind (list_at (whole w) (here h)) && may_add (length all) (length w.world.objects) w.world.next_number w.world.next_stamp w.world.next_cookie)) names,
+                              ap (λ all. has_left w.world.next_tick && (new_fits (wanted c v) (draft v).kind (list_at (whole w) (here h)) && may_add w.world.limits (length all) (length w.world.objects) w.world.next_number w.world.next_stamp w.world.next_cookie)) names,
                               λ _. refl,
                             ),
                           ),
@@ -228,7 +228,7 @@ rename_seen c h v w = (
                                 λ i. can_replace (whole w) (number_in (moved i)) (replaced i),
                                 λ _. (
                                   λ i. rename_second (second_facts (whole w) h (moved i) (replaced i)),
-                                  λ _. (λ i. has_left w.world.next_tick && may_move (length (names i)) w.world.next_cookie (there h) (here h) (replaced i), λ _. outcome),
+                                  λ _. (λ i. has_left w.world.next_tick && may_move w.world.limits (length (names i)) w.world.next_cookie (there h) (here h) (replaced i), λ _. outcome),
                                 ),
                               ),
                             ),

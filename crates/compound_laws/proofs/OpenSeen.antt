@@ -46,7 +46,7 @@ apart h = cc
 space_seen : (c : Context) (v : Value open_args) (w : Realm) (h : Handles) (claim : Claim) (file : Option ℕ) → is_some h.current ≡ true → is_some (kind_of w.world (here h)) ≡ true → Opens w c.caller h claim
     → found_by claim h (whole w) ≡ file → has_file_space c v (here h) file (whole w) ≡ has_file_space c v (here h) file (view w c.caller)
 space_seen c v w h (ByName name) None set live granted is =
-    ap (λ all. has_left w.world.next_tick && (new_fits (wanted c v) File (list_at (whole w) (here h)) && may_add (length all) (length w.world.objects) w.world.next_number w.world.next_stamp w.world.next_cookie))
+    ap (λ all. has_left w.world.next_tick && (new_fits (wanted c v) File (list_at (whole w) (here h)) && may_add w.world.limits (length all) (length w.world.objects) w.world.next_number w.world.next_stamp w.world.next_cookie))
     (names_seen w c.caller (here h) (executes w c.caller h.current EXECUTE (omega arith) refl refl set live granted))
 space_seen c v w h ByHandle None set live granted is = absurd (apart (ap is_some (sym is) ∙ set))
 space_seen c v w h claim (Some file) set live granted is = refl
@@ -88,7 +88,7 @@ open_seen c h v w = (
                       λ _. (
                         λ i. is_permitted c v (file i),
                         λ _. (
-                          λ i. is_within c v (file i),
+                          λ i. is_within w.world.limits c v (file i),
                           λ _. (
                             ap (λ b. b && has_open_space (joined c v (found v h (whole w)) w.opens) (whole w)) space
                                 ∙ ap (λ b. has_file_space c v (here h) (found v h (whole w)) (view w c.caller) && b) (open_space_seen w c.caller (joined c v (found v h (whole w)) w.opens))

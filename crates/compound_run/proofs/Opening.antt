@@ -46,14 +46,14 @@ no_lines false within space = refl
 
 module _ (v : Value open_args) (c : Context) (h : FileHandles) (s : Sight) where
   quiet : trace c.caller (row kinds.Open).number s (last_questions v c h) ≡ []
-  quiet = no_lines (is_permitted c v (found v h s)) (is_within c v (found v h s)) (has_space_for c v (here h) (found v h s) s)
+  quiet = no_lines (is_permitted c v (found v h s)) (is_within s.limits c v (found v h s)) (has_space_for c v (here h) (found v h s) s)
 
   module _ (t : Option ℕ) (is : found v h s ≡ t) where
-    pub fails_by : (permitted within space : Bool) → is_permitted c v t ≡ permitted → is_within c v t ≡ within → has_space_for c v (here h) t s ≡ space
+    pub fails_by : (permitted within space : Bool) → is_permitted c v t ≡ permitted → is_within s.limits c v t ≡ within → has_space_for c v (here h) t s ≡ space
         → failure c.caller s (last_questions v c h) ≡ cond permitted (cond within (cond space None (Some statuses.NoSpc)) (Some statuses.FBig)) (Some statuses.Perm)
     fails_by permitted within space p w q =
         λ i. cond ((ap (is_permitted c v) is ∙ p) i)
-        (cond ((ap (is_within c v) is ∙ w) i) (cond ((ap (λ x. has_space_for c v (here h) x s) is ∙ q) i) None (Some statuses.NoSpc)) (Some statuses.FBig)) (Some statuses.Perm)
+        (cond ((ap (is_within s.limits c v) is ∙ w) i) (cond ((ap (λ x. has_space_for c v (here h) x s) is ∙ q) i) None (Some statuses.NoSpc)) (Some statuses.FBig)) (Some statuses.Perm)
 
 -- ---- the answers to an OPEN
 
@@ -80,7 +80,7 @@ module _ {A : Type 0} (room : ℕ) (v : Value open_args) (c : Context) (h : File
   }
 
   -- the file is open
-  pub given : (t : Option ℕ) (after : Buffer) → found v h (sight_of e) ≡ t → is_permitted c v t ≡ true → is_within c v t ≡ true → has_space_for c v (here h) t (sight_of e) ≡ true
+  pub given : (t : Option ℕ) (after : Buffer) → found v h (sight_of e) ≡ t → is_permitted c v t ≡ true → is_within e.tree.world.limits c v t ≡ true → has_space_for c v (here h) t (sight_of e) ≡ true
       → realm_of new ≡ opened_on c v (here h) t (realm_of e) → new.tree.log ≡ e.tree.log → settings_of new ≡ settings_of e
       → Appends before after (spelled (Done kinds.Open (result_on c v (here h) t (sight_of e)))) → length after.bytes ≤ length before.bytes + room
       → OperationGives (sense true (opening v c h) waits) room h (stage e before) (Ok (record h { current = Some (unwrap_or t e.tree.world.next_number) })) (stage new after)
@@ -145,7 +145,7 @@ there_is false x r is full = absurd (apart (sym is ∙ full refl))
 -- ---- a file that is created
 
 pub file_made : {A : Type 0} (c : Context) (v : Value open_args) (new : NewObject A) (want : Wanted) (w : World) (d : ℕ) (name : List ℕ) (a : At) → claim_of v ≡ ByName name → wanted c v ≡ want → a ≡ at c w
-    → MakesFile c.caller (list_at w d) want new → with_new w d name (made new w.next_stamp a) a ≡ file_in c v d None w
+    → MakesFile c.caller w.limits (list_at w d) want new → with_new w d name (made new w.next_stamp a) a ≡ file_in c v d None w
 file_made c v new want w d name a claims is_wanted when m =
     (λ i. with_new w d (name_in (sym claims i)) (new_object (m.kind i) (m.bytes i) (m.owner i) (m.group i) (m.list i) (m.high i) (record { stamp = w.next_stamp; at = when i })) (when i))
     ∙ (λ i. with_new w d (name_in (claim_of v)) (created c (file_of (sym is_wanted i)) (sym is_wanted i) (list_at w d) w.next_stamp (at c w)) (at c w))

@@ -5,7 +5,6 @@ use Rattle.std.proofs.lemmas.Bool.{lt-ltb}
 use Rattle.node_tree.specs.declared.at.At.{At}
 use Rattle.node_tree.specs.declared.fault.TreeFault.{TreeFault}
 use Rattle.node_tree.specs.declared.fault.TreeFault.TheVariants.{NoSpc, Memory}
-use Rattle.node_tree.specs.Limits.{MAX_LINKS}
 use Rattle.node_tree.specs.World.{World, child_named, is_one, link_count}
 use Rattle.node_tree.specs.Changes.{renamed}
 use Rattle.node_tree.specs.Refusals.{may_name, add_refusal, link_refusal}
@@ -31,9 +30,9 @@ pub add_is : (w : World) (directory : ℕ) (name : List ℕ) (can : Bool) → ch
     → add_refusal w directory name ≡ (if can then None else Some NoSpc)
 add_is w directory name can free is = rw free (rw is refl)
 
-pub link_is : (w : World) (directory : ℕ) (name : List ℕ) (number : ℕ) (may : Bool) → child_named w directory name ≡ None → link_count w.names number < MAX_LINKS
-    → may_name (names_at (seen w) directory) w.next_cookie ≡ may → link_refusal w directory name number ≡ (if may then None else Some NoSpc)
-link_is w directory name number may free few is = rw free (rw (lt-ltb (link_count w.names number) MAX_LINKS few) (rw is refl))
+pub link_is : (w : World) (directory : ℕ) (name : List ℕ) (number : ℕ) (may : Bool) → child_named w directory name ≡ None → link_count w.names number < w.limits.links
+    → may_name w.limits (names_at (seen w) directory) w.next_cookie ≡ may → link_refusal w directory name number ≡ (if may then None else Some NoSpc)
+link_is w directory name number may free few is = rw free (rw (lt-ltb (link_count w.names number) w.limits.links few) (rw is refl))
 
 -- renaming one of two names of an object to the other changes nothing
 pub renamed_same : (w : World) (from : ℕ) (old : List ℕ) (to : ℕ) (new : List ℕ) (at : At) → is_one (child_named w from old) (child_named w to new) ≡ true → renamed w from old to new at ≡ w

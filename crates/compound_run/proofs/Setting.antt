@@ -94,7 +94,7 @@ module _ {A : Type 0} (c : Context) (h : FileHandles) (v : Value setattr_args) (
     (is_wanted : sent c v (kind_at (sight_of e) (here h)) ≡ Ok wanted)
     (size : size_fault wanted.size c (here h) (set_stateid v) (sight_of e) ≡ None)
     (granted : all_granted (judged_of e.tree.world) c.caller (demanded v h e wanted) ≡ true)
-    (fits : size_fits wanted.size ≡ true)
+    (fits : size_fits e.tree.world.limits wanted.size ≡ true)
     (counts : can_count wanted (sight_of e) ≡ true)
     (bounded : Bool)
     (bounds : set_fits wanted (kind_at (sight_of e) (here h)) (list_at e.tree.world (here h)) ≡ bounded) where
@@ -169,7 +169,7 @@ pub attributes_set : {A : Type 0} (room : ℕ) (c : Context) (h : FileHandles) (
     → size_fault wanted.size c number (set_stateid v) (sight_of e) ≡ None
     → all_granted (judged_of e.tree.world) c.caller (demanded v h e wanted) ≡ true
     → mid ≡ holding (demand_lines (judged_of e.tree.world) c.caller (row kinds.SetAttr).number (demanded v h e wanted)) e
-    → size_fits wanted.size ≡ true
+    → size_fits e.tree.world.limits wanted.size ≡ true
     → can_count wanted (sight_of mid) ≡ true
     → set_fits wanted (kind_at (sight_of mid) number) (list_at mid.tree.world number) ≡ true
     → new ≡ with_world (setting number wanted (at c mid.tree.world) mid.tree.world) mid
@@ -195,7 +195,7 @@ pub attributes_refused : {A : Type 0} (room : ℕ) (c : Context) (h : FileHandle
     → size_fault wanted.size c number (set_stateid v) (sight_of e) ≡ None
     → all_granted (judged_of e.tree.world) c.caller (demanded v h e wanted) ≡ true
     → mid ≡ holding (demand_lines (judged_of e.tree.world) c.caller (row kinds.SetAttr).number (demanded v h e wanted)) e
-    → size_fits wanted.size ≡ true
+    → size_fits e.tree.world.limits wanted.size ≡ true
     → can_count wanted (sight_of mid) ≡ true
     → (status ≢ statuses.Delay → (status ≡ statuses.NoSpc) × (set_fits wanted (kind_at (sight_of mid) number) (list_at mid.tree.world number) ≡ false))
     → new ≡ mid

@@ -11,6 +11,7 @@ use Rattle.nfs_types.specs.Sent.{Wanted}
 use Rattle.nfs_ops.specs.Parts.{Claim, ByName, ByHandle}
 use Rattle.node_tree.specs.declared.node.NewObject.{NewObject}
 use Rattle.node_tree.specs.Changes.{resized}
+use Rattle.node_tree.specs.Limits.{Limits}
 use Rattle.node_tree.specs.Sound.{most_bytes}
 use Rattle.compound_run.specs.declared.filehandles.FileHandles.{FileHandles}
 use Rattle.compound_run.specs.Sight.{Sight}
@@ -62,8 +63,8 @@ placed_stateid (places.New bytes) next = open_stateid 1 next
 -- ---- the file
 
 -- a new file
-pub record MakesFile {A : Type 0} (caller : Identity) (parent : List Entry) (wanted : Wanted)
-    (new : NewObject A) : Type 0 where
+pub record MakesFile {A : Type 0} (caller : Identity) (limits : Limits) (parent : List Entry)
+    (wanted : Wanted) (new : NewObject A) : Type 0 where
   pub kind : new.kind ≡ File
   pub bytes : new.bytes.items ≡ resized [] (unwrap_or wanted.size 0)
   pub owner : new.owner ≡ caller.uid
@@ -71,7 +72,7 @@ pub record MakesFile {A : Type 0} (caller : Identity) (parent : List Entry) (wan
   pub list : new.list ≡ new_list wanted File parent
   pub high : new.high ≡ created_high wanted.mode
   pub bounded : IsBounded new.list
-  pub short : length new.bytes.items ≤ most_bytes File
+  pub short : length new.bytes.items ≤ most_bytes limits File
 
 -- by name the change attribute is the directory's, by filehandle it is 0
 abbrev pub IsBefore : Claim → Sight → FileHandles → ℕ → Type 0

@@ -13,6 +13,7 @@ use Rattle.acl_list.specs.declared.entry.Kind.TheVariants.{File}
 use Rattle.acl_list.specs.declared.mask.TheConstants.{READ_DATA, LIST_DIRECTORY, EXECUTE, READ_ATTRIBUTES}
 use Rattle.acl_shape.specs.Inherited.{is_directory}
 use Rattle.nfs_types.specs.declared.moment.Moment.{Moment}
+use Rattle.node_tree.specs.Limits.{Limits}
 use Rattle.node_tree.specs.World.{World, Object, Name, object, kind_of, bytes_of, link_count, has_entries, parent_of}
 use Rattle.node_tree.specs.World.{names_in, child_in}
 use Rattle.node_tree.specs.Judged.{judged_of}
@@ -32,7 +33,7 @@ pub record Details : Type 0 where
 pub record Sight : Type 0 where
   -- Every caller sees these parts. Of an object: its type, its ACL, owner and group, and its name count. Of a file or a
   -- link's text: the byte count. Of a directory: whether it has names, its parent, and its change attribute. Besides:
-  -- the object count and the counters.
+  -- the limits, the object count and the counters.
   pub kinds : ℕ → Option Kind
   pub sizes : ℕ → ℕ
   pub lists : Lists
@@ -40,6 +41,7 @@ pub record Sight : Type 0 where
   pub has_entries : ℕ → Bool
   pub parents : ℕ → Option ℕ
   pub changes : ℕ → ℕ
+  pub limits : Limits
   pub object_count : ℕ
   pub next_number : ℕ
   pub next_tick : ℕ
@@ -73,6 +75,7 @@ sight gives r = let w = r.world in record {
   has_entries = has_entries w.names;
   parents = parent_of w;
   changes = directory_change w;
+  limits = w.limits;
   object_count = length w.objects;
   next_number = w.next_number;
   next_tick = w.next_tick;

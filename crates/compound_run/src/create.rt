@@ -195,7 +195,7 @@ impl<A: Allocator + Copy> Realm<A> {
     ) -> Result<NewObject<A>, Status>
         requires there { IsSome (object self.now.tree.world directory) }
         requires bounded { IfSome wanted.list IsBounded }
-        requires short { length draft.text.now ≤ most_bytes draft.kind }
+        requires short { length draft.text.now ≤ most_bytes self.now.tree.world.limits draft.kind }
         ensures fits { IsFit (new_fits (wanted_view wanted) draft.entry.kind (list_at self.now.tree.world directory))
             result }
         ensures kind { IfOk result (λ new. new.kind ≡ draft.entry.kind) }
@@ -239,7 +239,7 @@ impl<A: Allocator + Copy> Realm<A> {
             wanted_view wanted.1 }
         requires bounded { IfSome wanted.1.list IsBounded }
         requires short { length args.now.name.bytes.now ≤ 255 }
-        requires fits { length wanted.0.text.now ≤ most_bytes wanted.0.kind }
+        requires fits { length wanted.0.text.now ≤ most_bytes self.old.tree.world.limits wanted.0.kind }
         requires free { child (whole (realm_of self.old)) directory.number args.now.name.bytes.now ≡ None }
         requires room { HasRoom step.context out.old }
         ensures { GivesOrDelays step.entry (making (create_args_value args.now) directory.number)

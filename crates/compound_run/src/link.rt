@@ -13,7 +13,7 @@ use crate::realm::{Realm, check};
 use crate::step::Step;
 use nfs_ops::{LinkArgs, LinkResult, Op, OpResult};
 use nfs_types::Status;
-use node_tree::{Kind, MAX_LINKS};
+use node_tree::Kind;
 use std::alloc::Allocator;
 use xdr_wire::Writer;
 
@@ -35,7 +35,7 @@ impl<A: Allocator + Copy> Realm<A> {
         requires plain { kind_of self.old.tree.world linked ≢ Some Kind.Directory }
         requires short { length name.now ≤ 255 }
         requires free { child (whole (realm_of self.old)) directory.number name.now ≡ None }
-        requires few { link_count self.old.tree.world.names linked < MAX_LINKS }
+        requires few { link_count self.old.tree.world.names linked < self.old.tree.world.limits.links }
         requires room { HasRoom step.context out.old }
         ensures { GivesOrDelays step.entry (naming name.now directory.number) (stage self.old out.old) result
             (stage self.new out.new) }
@@ -78,7 +78,8 @@ impl<A: Allocator + Copy> Realm<A> {
         if self.find(directory, name).is_some() {
             return Err(Status::Exist);
         }
-        if self.tree.links(linked) >= MAX_LINKS {
+        let most = self.tree.limits().links();
+        if self.tree.links(linked) >= most {
             return Err(Status::MLink);
         }
         let target = Directory {

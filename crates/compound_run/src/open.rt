@@ -186,9 +186,10 @@ impl<A: Allocator + Copy> Realm<A> {
     ) -> Result<NewObject<A>, Status>
         requires there { IsSome (object self.now.tree.world directory) }
         requires bounded { IfSome wanted.list IsBounded }
-        requires fits { setting.size_fits wanted.size ≡ true }
+        requires fits { setting.size_fits self.now.tree.world.limits wanted.size ≡ true }
         ensures fits { IsFit (new_fits (wanted_view wanted) Kind.File (list_at self.now.tree.world directory)) result }
-        ensures made { IfOk result (MakesFile caller.now (list_at self.now.tree.world directory) (wanted_view wanted)) }
+        ensures made { IfOk result (MakesFile caller.now self.now.tree.world.limits
+            (list_at self.now.tree.world directory) (wanted_view wanted)) }
     {
         let size = wanted.size.unwrap_or(0) as usize;
         let draft = Draft {
@@ -229,7 +230,7 @@ impl<A: Allocator + Copy> Realm<A> {
         if !is_own(&caller, &wanted) {
             return Err(Status::Perm);
         }
-        if !size_fits(wanted.size) {
+        if !size_fits(self.tree.limits(), wanted.size) {
             return Err(Status::FBig);
         }
         let at = self.tick(step.context.now).ok_or(Status::NoSpc)?;

@@ -21,7 +21,7 @@ use crate::limits::MAX_COUNT;
 use crate::opens::Open;
 use access_guard::GuardedTree;
 use nfs_types::{Moment, Status, check_name};
-use node_tree::{At, Kind, MAX_LINKS, Move, NewObject, Plan, TreeFault};
+use node_tree::{At, Kind, Move, NewObject, Plan, TreeFault};
 use session_slots::Clients;
 use std::alloc::{Allocator, Global};
 
@@ -102,7 +102,7 @@ impl<A: Allocator + Copy> Realm<A> {
         requires live { kind_of self.old.tree.world directory ≡ Some Kind.Directory }
         requires short { length name.now ≤ 255 }
         requires bounded { IsBounded new.list }
-        requires bytes { length new.bytes.items ≤ most_bytes new.kind }
+        requires bytes { length new.bytes.items ≤ most_bytes self.old.tree.world.limits new.kind }
         requires free { child (whole (realm_of self.old)) directory name.now ≡ None }
         ensures full { can_add (whole (realm_of self.old)) directory ≡ false → result ≡ Err Status.NoSpc }
         ensures space { can_add (whole (realm_of self.old)) directory ≡ true → IsOkUnless result Status.Delay }
@@ -121,7 +121,7 @@ impl<A: Allocator + Copy> Realm<A> {
     pub fn write_bytes(&mut self, file: u64, offset: u64, more: &[u8], at: At) -> Result<(), Status>
         requires tick { IsTick self.old.tree.world at.tick }
         requires file { kind_of self.old.tree.world file ≡ Some Kind.File }
-        requires fits { fits offset more.now ≡ true }
+        requires fits { fits self.old.tree.world.limits offset more.now ≡ true }
         ensures space { IsOkUnless result Status.Delay }
         ensures ok { OnOk result (self.new ≡
             with_world (with_write self.old.tree.world file offset more.now at) self.old) }
@@ -144,11 +144,11 @@ impl<A: Allocator + Copy> Realm<A> {
         requires plain { kind_of self.old.tree.world number ≢ Some Kind.Directory }
         requires short { length name.now ≤ 255 }
         requires free { child (whole (realm_of self.old)) directory name.now ≡ None }
-        requires few { link_count self.old.tree.world.names number < MAX_LINKS }
-        ensures full { may_name (names_at (whole (realm_of self.old)) directory) self.old.tree.world.next_cookie ≡
-            false → result ≡ Err Status.NoSpc }
-        ensures space { may_name (names_at (whole (realm_of self.old)) directory) self.old.tree.world.next_cookie ≡
-            true → IsOkUnless result Status.Delay }
+        requires few { link_count self.old.tree.world.names number < self.old.tree.world.limits.links }
+        ensures full { may_name self.old.tree.world.limits (names_at (whole (realm_of self.old)) directory)
+            self.old.tree.world.next_cookie ≡ false → result ≡ Err Status.NoSpc }
+        ensures space { may_name self.old.tree.world.limits (names_at (whole (realm_of self.old)) directory)
+            self.old.tree.world.next_cookie ≡ true → IsOkUnless result Status.Delay }
         ensures ok { OnOk result (self.new ≡ record self.old {
           tree = record self.old.tree {
             world = with_link self.old.tree.world directory name.now number at;

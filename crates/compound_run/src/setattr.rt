@@ -29,7 +29,7 @@ use crate::step::Step;
 use acl_shape::{Given, Permissions, changed_permissions};
 use nfs_ops::{Op, OpResult, SetAttrArgs, SetAttrResult};
 use nfs_types::{Attrs, Moment, StateId, Status};
-use node_tree::{At, Kind, MAX_BYTES};
+use node_tree::{At, Kind, Limits};
 use std::alloc::{AllocError, Allocator};
 use xdr_wire::Writer;
 
@@ -79,11 +79,11 @@ fn stamps<A: Allocator>(wanted: &Attrs<A>) -> u64
 }
 
 /// Whether a size is within the limit of a file.
-pub(crate) fn size_fits(size: Option<u64>) -> bool
-    ensures { result ≡ size_fits size }
+pub(crate) fn size_fits(limits: Limits, size: Option<u64>) -> bool
+    ensures { result ≡ size_fits limits size }
 {
     match size {
-        Some(size) => size <= MAX_BYTES,
+        Some(size) => size <= limits.bytes(),
         None => true,
     }
 }
@@ -190,7 +190,7 @@ impl<A: Allocator + Copy> Realm<A> {
     fn set_size(&mut self, number: u64, size: Option<u64>, at: At) -> Result<(), Status>
         requires tick { IsTick self.old.tree.world at.tick }
         requires file { IfSome size (λ size. kind_of self.old.tree.world number ≡ Some Kind.File) }
-        requires fits { size_fits size ≡ true }
+        requires fits { size_fits self.old.tree.world.limits size ≡ true }
         ensures space { IsOkUnless result Status.Delay }
         ensures ok { OnOk result (self.new ≡ with_world (sized number size at self.old.tree.world) self.old) }
         ensures tick { IsTick self.new.tree.world at.tick }
@@ -246,7 +246,7 @@ impl<A: Allocator + Copy> Realm<A> {
         requires tick { IsTick self.old.tree.world at.tick }
         requires there { IsSome (object self.old.tree.world number) }
         requires file { IfSome wanted.size (λ size. kind_of self.old.tree.world number ≡ Some Kind.File) }
-        requires fits { size_fits wanted.size ≡ true }
+        requires fits { size_fits self.old.tree.world.limits wanted.size ≡ true }
         requires bounded { IfSome wanted.list IsBounded }
         requires stamps { self.old.tree.world.next_stamp + stamps (wanted_view wanted) ≤ 2 ^ 63 }
         ensures fits { IsFit (set_fits (wanted_view wanted) (kind_at (sight_of self.old) number)
@@ -273,7 +273,7 @@ impl<A: Allocator + Copy> Realm<A> {
     fn set_any(&mut self, now: Moment, number: u64, wanted: Attrs<A>) -> Result<(), Status>
         requires there { IsSome (object self.old.tree.world number) }
         requires file { IfSome wanted.size (λ size. kind_of self.old.tree.world number ≡ Some Kind.File) }
-        requires fits { size_fits wanted.size ≡ true }
+        requires fits { size_fits self.old.tree.world.limits wanted.size ≡ true }
         requires bounded { IfSome wanted.list IsBounded }
         requires counts { can_count (wanted_view wanted) (sight_of self.old) ≡ true }
         ensures fits { IsFit (set_fits (wanted_view wanted) (kind_at (sight_of self.old) number)
@@ -309,12 +309,13 @@ impl<A: Allocator + Copy> Realm<A> {
         if self.tree.object(number).is_none() {
             return Err(Status::Stale);
         }
+        let limits = self.tree.limits();
         let wanted = self.wanted_on(number, args)?;
         self.check_size(step.context, number, wanted.size, &args.stateid)?;
         if !self.grants_sized(step, &Op::SetAttr(*args), wanted.size) {
             return Err(Status::Access);
         }
-        if !size_fits(wanted.size) {
+        if !size_fits(limits, wanted.size) {
             return Err(Status::FBig);
         }
         if !self.can_count(&wanted) {

@@ -11,16 +11,16 @@ use crate::stateids::Purpose;
 use crate::step::Step;
 use nfs_ops::{Op, OpResult, WriteArgs, WriteResult};
 use nfs_types::Status;
-use node_tree::{Kind, MAX_BYTES};
+use node_tree::{Kind, Limits};
 use std::alloc::Allocator;
 use xdr_wire::Writer;
 
 /// Whether bytes at an offset end within the limit of a file.
-fn fits(offset: u64, more: &[u8]) -> bool
-    ensures { result ≡ fits offset more.now }
+fn fits(limits: Limits, offset: u64, more: &[u8]) -> bool
+    ensures { result ≡ fits limits offset more.now }
 {
-    let len = more.len() as u64;
-    len == 0 || (offset <= MAX_BYTES && len <= MAX_BYTES - offset)
+    let (most, len) = (limits.bytes(), more.len() as u64);
+    len == 0 || (offset <= most && len <= most - offset)
 }
 
 impl<A: Allocator + Copy> Realm<A> {
@@ -43,12 +43,13 @@ impl<A: Allocator + Copy> Realm<A> {
             Kind::Link => return Err(Status::Symlink),
             Kind::File => {}
         }
+        let limits = self.tree.limits();
         self.check_stateid(step.context, number, &args.stateid, Purpose::ToWrite)?;
         if !self.grants_sized(step, &Op::Write(*args), None) {
             return Err(Status::Access);
         }
         let data = args.data.bytes;
-        if !fits(args.offset, data) {
+        if !fits(limits, args.offset, data) {
             return Err(Status::FBig);
         }
         if data.is_empty() {

@@ -672,7 +672,7 @@ module _ {A : Type 0} {n : ℕ} {o : Origin} {hub : Hub A} {places : List (Optio
 
   -- or it still waits
   pub waits_on : (hub' : Hub A) (book : Content) (result : Option Content) → left.book ≡ Some book → BookLoads book result hub hub' → AtStage (Listening n) o hub' places (record left { book = result }) before
-  waits_on hub' book None waits goes = loads hub' book waits goes
+  waits_on hub' book None waits (goes, given) = loads hub' book waits goes
   waits_on hub' book (Some rest) waits (same, stays) = record {
     acts = st.acts;
     machine = st.machine;
@@ -700,8 +700,8 @@ looking_of st asked none = record {
 -- one that has arrived is loaded at once, or waits
 pub after_steps : {A : Type 0} {n : ℕ} {o : Origin} {hub : Hub A} {places : List (Option (Peer A))} {left : Left} {before : Option (List Act)} → AtStage (Listening n) o hub places left before → (after : Option (List Act)) (hub' : Hub A) (book : Content) (result : Option Content) (well : Bool) → is_some result ≡ not well → left.book ≡ None → Adds before after (Brought book ∷ []) → BookLoads book result hub hub'
     → AtStage (looked_stage well n) o hub' places (record left { book = result }) after
-after_steps st after hub' book None true is none added goes = looking_of (loads (brings st after book none added) hub' book refl goes) tt refl
-after_steps st after hub' book None false is none added goes = absurd (cc)
+after_steps st after hub' book None true is none added (goes, given) = looking_of (loads (brings st after book none added) hub' book refl goes) tt refl
+after_steps st after hub' book None false is none added loads_is = absurd (cc)
 after_steps st after hub' book (Some rest) true is none added loads_is = absurd (cc)
 after_steps st after hub' book (Some rest) false is none added loads_is = waits_on (brings st after book none added) hub' book (Some rest) refl loads_is
 

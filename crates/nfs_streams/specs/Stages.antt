@@ -1,12 +1,13 @@
 -- The stages of serving, and the parts of serving as steps between them.
 use Rattle.std.specs.Prelude.{◌≡◌, ◌≢◌, ◌≤◌, ◌<◌, ◌+◌, ℕ, Bool, true, false, List, [], ◌∷◌, ◌++◌, length, Option}
-use Rattle.std.specs.Prelude.{Some, None, Result, Ok, Err, set}
+use Rattle.std.specs.Prelude.{Some, None, MatchOption, Result, Ok, Err, set}
 use Rattle.store_journal.specs.Disk.{Act as DiskAct}
 use Rattle.call_store.specs.declared.store.Store.{Store as CallStore}
 use Rattle.call_store.specs.Lasting.{IsLasting}
 use Rattle.call_store.specs.Serving.{Serving}
 use Rattle.who_book.specs.Content.{Content}
-use Rattle.compound_run.specs.State.{State as ServerState}
+use Rattle.access_guard.specs.Epochs.{next_epoch}
+use Rattle.compound_run.specs.State.{State as ServerState, with_book}
 use Rattle.nfs_hub.specs.Answer.{Served as ServedState}
 use Rattle.hub_laws.specs.Kept.{Logs}
 use Rattle.nfs_hub.specs.declared.hub.Hub.{Hub}
@@ -181,9 +182,15 @@ abbrev pub given_all_stage : Bool → ℕ → Stage
 given_all_stage true n = Trailing n
 given_all_stage false n = Stopped Keep n
 
+-- the book is the server's now, unless no epoch is left for it
+abbrev pub IsServers : {A : Type 0} → Content → Hub A → Hub A → Type 0
+IsServers book old new =
+    MatchOption (next_epoch old.service.state.settings.epoch) (Unit {0})
+    (λ epoch. new.service.state ≡ with_book book old.service.state)
+
 -- a book is loaded, or waits
 abbrev pub BookLoads : {A : Type 0} → Content → Option Content → Hub A → Hub A → Type 0
-BookLoads book None old new = Goes (Reload book) old new
+BookLoads book None old new = Goes (Reload book) old new × IsServers book old new
 BookLoads book (Some left) old new = (left ≡ book) × IsUnchanged old new
 
 -- The stage after an attempt to keep the trail. What was read may be given, or serving stops.

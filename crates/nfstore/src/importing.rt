@@ -7,7 +7,7 @@ use acl_shape::set_mode;
 use call_store::{MACHINE, Store, StoreFault};
 use compound_run::ClientState;
 use nfs_hub::Hub;
-use node_tree::{Kept, Moment, NewObject, RestoreFault, Restoring, Tree};
+use node_tree::{Kept, Limits, Moment, NewObject, RestoreFault, Restoring, Tree};
 use session_slots::RestoreFault as Unrestored;
 use std::alloc::Global;
 use std::fs;
@@ -129,7 +129,7 @@ fn take_names(
 fn tree_of(rt: &HostRuntime, alloc: Global, survey: &Survey<'_>) -> Result<Tree, Stopped> {
     let next = number_of(survey.items.len());
     let cookie = FIRST_COOKIE.saturating_add(survey.names.len() as u64);
-    let Some(begun) = Restoring::begin(alloc, next, next, next, cookie) else {
+    let Some(begun) = Restoring::begin(alloc, Limits::standard(), next, next, next, cookie) else {
         return Err(Stopped::from(Fault::Changed));
     };
     let objects = take_objects(rt, alloc, survey, begun)?;

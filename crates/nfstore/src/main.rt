@@ -1,10 +1,13 @@
-//! `nfstore`: prints the content of a server's store, exports it, closes it, or makes a new one.
+//! `nfstore`: prints the content of a server's store, checks it, copies it, exports it, closes it, or makes a new one.
 //!
 //! The status is 0; 2 if the words aren't understood, with `clap`'s text on standard error; and else 1, with what is
 //! wrong and where on standard error.
 #![tactic(auto)]
 
+mod backing_up;
+mod backup_words;
 mod calls;
+mod checking;
 mod closing;
 mod escaped;
 mod exporting;
@@ -15,21 +18,28 @@ mod looking;
 mod operations;
 mod options;
 mod paths;
+mod places;
 mod summary;
 mod survey;
+mod unlocked;
 mod walk;
 
 use anyhow::Result;
+use backing_up::back_up;
+use backup_words::{print_made, report_refused};
 use call_store::Looked;
 use calls::Broken;
+use checking::check;
+use clap::Error;
+use clap::error::ErrorKind;
 use exporting::write_tree;
 use fault::Stopped;
 use importing::{Unmade, import};
 use looking::look;
 use options::{Options, Task};
+use places::{Source, Target};
 use std::alloc::Global;
 use std::env;
-use std::fmt::Display;
 use std::hash::RandomState;
 use std::process::ExitCode;
 use store_words::Stop;
@@ -170,25 +180,67 @@ fn make(
     }
 }
 
-/// Prints `clap`'s text about the words on standard error. A fault has the program's name before it, and help is
-/// unchanged.
-fn report_words<R: Eprint, E: Display>(rt: &R, alloc: Global, error: &E) -> Result<()> {
-    let text = format!(in alloc; "{error}")?;
-    match text.as_str().strip_prefix("error: ") {
-        Some(fault) => eprint!(rt; "nfstore: {fault}")?,
-        None => eprint!(rt; "{text}")?,
+/// Reads a store whole, and prints what it has.
+fn print_check(
+    rt: &HostRuntime,
+    alloc: Global,
+    folder: &str,
+    hasher: RandomState,
+) -> Result<ExitCode> {
+    let source = Source::find(rt, alloc, folder)?;
+    let store = source.store.as_str();
+    match check(rt, alloc, store, hasher) {
+        Ok(Some(whole)) => {
+            println!(rt; "{store}: it is whole: {whole}")?;
+            Ok(ExitCode::SUCCESS)
+        }
+        Ok(None) => Ok(report_nothing(rt, store)),
+        Err(stop) => Ok(report_stop(rt, store, &stop)),
     }
-    Ok(())
+}
+
+/// Makes a whole copy of a home or a store.
+fn copy(
+    rt: &HostRuntime,
+    alloc: Global,
+    folder: &str,
+    hasher: RandomState,
+    directory: &str,
+) -> Result<ExitCode> {
+    let source = Source::find(rt, alloc, folder)?;
+    let target = Target::new(alloc, &source, directory)?;
+    match back_up(rt, alloc, &source, &target, hasher) {
+        Ok(made) => {
+            print_made(rt, &target, made)?;
+            Ok(ExitCode::SUCCESS)
+        }
+        Err(refused) => {
+            report_refused(rt, &source, &target, &refused);
+            Ok(ExitCode::FAILURE)
+        }
+    }
+}
+
+/// Prints `clap`'s text about the words. Help and the version go to standard output, with status 0. A fault goes to
+/// standard error with the program's name before it, with status 2.
+fn print_words<R: Print + Eprint>(rt: &R, alloc: Global, error: &Error) -> Result<ExitCode> {
+    if matches!(error.kind(), ErrorKind::DisplayHelp | ErrorKind::DisplayVersion) {
+        print!(rt; "{error}")?;
+        return Ok(ExitCode::SUCCESS);
+    }
+    let text = format!(in alloc; "{error}")?;
+    let _ = match text.as_str().strip_prefix("error: ") {
+        Some(fault) => eprint!(rt; "nfstore: {fault}"),
+        None => eprint!(rt; "{text}"),
+    };
+    Ok(ExitCode::from(2))
 }
 
 /// Runs the words of the command line.
 fn run_words(rt: &HostRuntime, alloc: Global, words: &[String]) -> Result<ExitCode> {
     let options = match Options::read(alloc, words) {
         Ok(options) => options,
-        Err(error) => {
-            let _ = report_words(rt, alloc, &error);
-            return Ok(ExitCode::from(2));
-        }
+        Err(error) => return print_words(rt, alloc, &error),
     };
     let hasher = RandomState::new(rt)?;
     let folder = options.folder;
@@ -205,6 +257,8 @@ fn run_words(rt: &HostRuntime, alloc: Global, words: &[String]) -> Result<ExitCo
         Task::Calls => Ok(print_calls(rt, alloc, folder, hasher)),
         Task::Close => Ok(close(rt, alloc, folder, hasher)),
         Task::Import(directory) => Ok(make(rt, alloc, folder, hasher, directory)),
+        Task::Check => print_check(rt, alloc, folder, hasher),
+        Task::Backup(directory) => copy(rt, alloc, folder, hasher, directory),
     }
 }
 

@@ -1,4 +1,5 @@
 //! The words of `nfstore`.
+use build_record::version;
 use clap::error::ErrorKind;
 use clap::{Arg, ArgAction, Command, Error, value_parser};
 use std::alloc::{AllocError, Global};
@@ -6,14 +7,17 @@ use std::alloc::{AllocError, Global};
 /// The text of help.
 const ABOUT: &str = "\
 Says what the store in a folder has, which 'nfsd --store FOLDER' keeps, and changes nothing; or,
-with '--import', makes a new one, and with '--close' writes a checkpoint.
+with '--import', makes a new one, with '--close' writes a checkpoint, with '--check' reads it whole,
+and with '--backup' makes a whole copy of it.
 
 Without an option it says a name and a value on each line: the format, the machine and the profile,
 the file that counts, its generation and frames, the records after its checkpoint and their entries,
 the bytes that a crash tore, the counters, the next numbers of clients, sessions and opens, and how
 many clients, sessions, opens, objects and names there are.
 
-A store that a server has is refused, and a server is refused while this has it.";
+A store that a server has is refused, and a server is refused while this has it. '--backup' alone
+takes no lock, and copies also what a server has and changes meanwhile. With '--check' and
+'--backup' FOLDER may be a home, which 'nfsd --home FOLDER' keeps: a folder with a folder 'store'.";
 
 /// A task for a store.
 #[derive(Clone, Copy, Debug)]
@@ -30,6 +34,10 @@ pub(crate) enum Task<'a> {
     Import(&'a str),
     /// A checkpoint is written, so that no entry is left after it.
     Close,
+    /// It is read whole.
+    Check,
+    /// A whole copy of it, or of its home, is made as this directory.
+    Backup(&'a str),
 }
 
 /// The words of `nfstore`, if they are valid.
@@ -55,15 +63,26 @@ const EXPORT: &str =
 const IMPORT: &str =
     "Makes a new store of this directory: its files, directories and symbolic links, with the lists of their modes";
 
+const CHECK: &str =
+    "Reads the store whole, replays its entries, and says in a line that it is whole and what it has, or what is \
+     damaged";
+
+const BACKUP: &str =
+    "Makes this directory, a whole copy of FOLDER as it is at a moment after this began, also while a server has it: a \
+     server can be started over the copy";
+
 fn command<'a>(alloc: Global) -> Result<Command<'a>, AllocError> {
     let command = Command::new(alloc, "nfstore")
         .about(ABOUT)
+        .version(version())
         .arg(folder(alloc))?
         .arg(flag(alloc, "tree", TREE))?
         .arg(flag(alloc, "calls", CALLS))?
         .arg(directory(alloc, "export", EXPORT))?
         .arg(directory(alloc, "import", IMPORT))?
-        .arg(flag(alloc, "close", CLOSE))?;
+        .arg(flag(alloc, "close", CLOSE))?
+        .arg(flag(alloc, "check", CHECK))?
+        .arg(directory(alloc, "backup", BACKUP))?;
     Ok(command)
 }
 
@@ -71,7 +90,7 @@ fn folder<'a>(alloc: Global) -> Arg<'a> {
     Arg::new(alloc, "FOLDER")
         .required(true)
         .action(ArgAction::Set)
-        .help("The folder of the store")
+        .help("The folder of the store; with '--check' and '--backup' it may be a home")
 }
 
 /// An option without a value.
@@ -121,6 +140,8 @@ impl<'a> Options<'a> {
             matches.get_str("export").map(Task::Export),
             matches.get_str("import").map(Task::Import),
             by_flag(matches.get_flag("close"), Task::Close),
+            by_flag(matches.get_flag("check"), Task::Check),
+            matches.get_str("backup").map(Task::Backup),
         ];
         match only(&asked) {
             Some(task) => Ok(Options {
@@ -129,7 +150,8 @@ impl<'a> Options<'a> {
             }),
             None => {
                 let text =
-                    "of '--tree', '--calls', '--export <DIR>', '--import <DIR>' and '--close' only one is taken";
+                    "of '--tree', '--calls', '--export <DIR>', '--import <DIR>', '--close', '--check' and \
+                    '--backup <DIR>' only one is taken";
                 Err(command(alloc)?.error(ErrorKind::ArgumentConflict, text)?)
             }
         }

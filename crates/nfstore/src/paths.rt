@@ -1,6 +1,6 @@
 //! The paths of objects in a tree that changes.
 use crate::escaped::write_name;
-use node_tree::{MAX_OBJECTS, Tree};
+use node_tree::Tree;
 use std::alloc::{AllocError, Global};
 use std::collections::BTreeMap;
 use std::io;
@@ -79,7 +79,7 @@ impl Paths {
         self.follow(tree)?;
         let mut way = Vec::new(self.alloc);
         let mut here = number;
-        for _step in 0..=MAX_OBJECTS {
+        for _step in 0..=tree.limits().objects() {
             if here == tree.root() {
                 return Ok(Some(way));
             }

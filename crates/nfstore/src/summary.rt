@@ -17,7 +17,7 @@ const FORMAT: u64 = 3;
 const PROFILE: u64 = 0;
 
 /// How many objects a tree has.
-fn objects(tree: &Tree) -> u64 {
+pub(crate) fn count_objects(tree: &Tree) -> u64 {
     let mut count = 0u64;
     let mut at = 0;
     for _step in 0..u64::MAX {
@@ -45,7 +45,7 @@ fn names(tree: &Tree) -> u64 {
 }
 
 /// How many entries records have.
-fn entries(records: &[&[u8]]) -> u64 {
+pub(crate) fn count_entries_of(records: &[&[u8]]) -> u64 {
     let mut count = 0u64;
     for record in records {
         count = count.saturating_add(count_entries(record).unwrap_or(0) as u64);
@@ -91,7 +91,7 @@ fn write_file<W: Write>(
     writeln!(out, "begun {}", current.begun)?;
     writeln!(out, "frames {}", frames.frames)?;
     writeln!(out, "records {}", chosen.records.len())?;
-    writeln!(out, "entries {}", entries(&chosen.records))?;
+    writeln!(out, "entries {}", count_entries_of(&chosen.records))?;
     writeln!(out, "torn {}", torn(&looked.file, frames))
 }
 
@@ -110,7 +110,7 @@ fn write_server<W: Write>(out: &mut W, server: &Server) -> io::Result<()> {
     writeln!(out, "clients {clients}")?;
     writeln!(out, "sessions {sessions}")?;
     writeln!(out, "opens {}", server.opens().len())?;
-    writeln!(out, "objects {}", objects(tree))?;
+    writeln!(out, "objects {}", count_objects(tree))?;
     writeln!(out, "names {}", names(tree))
 }
 

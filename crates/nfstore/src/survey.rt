@@ -1,7 +1,7 @@
 //! Surveys a directory of this system, and reports what a tree can't have.
 use crate::fault::{Fault, Stopped};
 use acl_list::Kind;
-use node_tree::{MAX_BYTES, MAX_LINKS, MAX_NAME, MAX_NAMES, MAX_OBJECTS, MAX_TEXT};
+use node_tree::{Limits, MAX_NAME, MAX_TEXT};
 use std::alloc::Global;
 use std::collections::BTreeMap;
 use std::fs::Metadata;
@@ -58,7 +58,7 @@ fn reason(kind: Kind, metadata: &Metadata, name: &str) -> Option<&'static str> {
         return Some("its name has more than 255 bytes");
     }
     match kind {
-        Kind::File if metadata.len() > MAX_BYTES => Some("it has more than 1048576 bytes"),
+        Kind::File if metadata.len() > Limits::standard().bytes() => Some("it has more than 1048576 bytes"),
         Kind::Link if metadata.len() > MAX_TEXT => Some("its text has more than 1024 bytes"),
         _ => None,
     }
@@ -103,7 +103,7 @@ impl Survey<'_> {
         let place = *self.places.get(&(metadata.dev(), metadata.ino()))?;
         let item = self.items.get_mut(place)?;
         item.links = item.links.saturating_add(1);
-        if item.links > MAX_LINKS {
+        if item.links > Limits::standard().links() {
             self.refuse(path, "its file has more than 1000 names");
         }
         Some(place)
@@ -152,7 +152,7 @@ impl Survey<'_> {
             Ok(names) => names,
             Err(fault) => return Err(Stopped::at(Some(above), fault)),
         };
-        if names.len() > MAX_NAMES {
+        if names.len() > Limits::standard().names() {
             self.refuse(above.as_str(), "it has more than 4096 names");
         }
         for name in names {
@@ -165,10 +165,10 @@ impl Survey<'_> {
 
     /// Adds the content of all directories.
     fn list_all(&mut self) -> Result<(), Stopped> {
-        for directory in 0..MAX_OBJECTS {
+        for directory in 0..Limits::standard().objects() {
             self.list(directory)?;
         }
-        if self.items.len() > MAX_OBJECTS {
+        if self.items.len() > Limits::standard().objects() {
             let path = match self.items.first() {
                 Some(top) => String::from_str(self.alloc, top.path.as_str())?,
                 None => String::new(self.alloc),

@@ -1,3 +1,4 @@
 pub mod Reading
 pub mod Choosing
 pub mod Fates
+pub mod Growing

@@ -2,7 +2,7 @@
 use crate::fault::Fault;
 use std::alloc::{AllocError, Global};
 use std::fmt::{Display, Formatter};
-use std::fs::File;
+use std::fs::{File, Metadata};
 use std::rt::Files;
 use std::{fmt, fs};
 
@@ -55,6 +55,15 @@ impl<'a, R: Files<File = File>> Home<'a, R> {
     pub(crate) fn open(&self, part: Part) -> Result<File, Fault> {
         let path = self.path_of(part)?;
         open_regular(self.rt, path.as_str())
+    }
+
+    /// What the system keeps of a file.
+    pub(crate) fn metadata(&self, part: Part) -> Result<Metadata, Fault> {
+        let path = self.path_of(part)?;
+        match fs::metadata(self.rt, path.as_str()) {
+            Ok(metadata) => Ok(metadata),
+            Err(error) => Err(Fault::from(error)),
+        }
     }
 
     /// Opens a file to be read, if it exists.

@@ -1,7 +1,8 @@
 //! `nfstrail`: prints the trail of a home for people.
 //!
 //! The status is 0; it is 2 if the words aren't understood, with a text on standard error. Else it is 1, with what is
-//! wrong and where on standard error. Nothing else is written.
+//! wrong and where on standard error. Nothing else is written. With `--follow` it prints on as the server appends, and
+//! ends with 0 once standard output has no reader.
 #![tactic(auto)]
 
 mod asking;
@@ -10,11 +11,15 @@ mod escaped;
 mod fate;
 mod fault;
 mod fields;
+mod following;
+mod growing;
 mod home;
+mod known;
 mod moment;
 mod names;
 mod notice;
 mod options;
+mod outlet;
 mod places;
 mod printing;
 mod reading;
@@ -23,78 +28,23 @@ mod store_now;
 mod words;
 
 use asking::{Refusal, choice_of};
+use clap::Error;
+use clap::error::ErrorKind as WordsKind;
 use fault::Fault;
+use following::{Stop, follow};
 use home::{Home, Part};
-use names::{Names, read_names};
+use known::{Known, know};
 use options::Options;
-use places::Places;
 use printing::{Broken, Printing, print_lines};
 use std::alloc::Global;
 use std::fs::File;
 use std::hash::RandomState;
-use std::io::{BufReader, BufWriter};
+use std::io::{BufReader, BufWriter, ErrorKind};
+use std::net::Net;
 use std::process::ExitCode;
-use std::rt::Files;
+use std::rt::{Clock, Files};
 use std::{env, io};
-use store_now::{Unknown, read_server};
 use words::Meanings;
-
-/// The book and the tree of a home, and whether both are known completely.
-#[derive(Drop)]
-struct Known {
-    names: Names,
-    places: Option<Places>,
-    is_whole: bool,
-}
-
-/// The names of a home. A fault of its book is reported.
-fn known_names<R: Files<File = File> + Eprint>(home: &Home<'_, R>) -> Names {
-    match read_names(home) {
-        Ok(names) => names,
-        Err(fault) => {
-            let (rt, folder, book) = (home.rt, home.folder, Part::Book);
-            let _ = eprintln!(rt; "nfstrail: {folder}/{book}: {fault}; users are numbers here");
-            Names::Unknown
-        }
-    }
-}
-
-/// The places of a home's tree.
-fn places_of<R: Files<File = File>>(
-    home: &Home<'_, R>,
-    hasher: RandomState,
-) -> Result<Option<Places>, Unknown> {
-    match read_server(home, hasher) {
-        Ok(Some(server)) => match Places::new(home.alloc, server) {
-            Ok(places) => Ok(Some(places)),
-            Err(_) => Err(Unknown::Memory),
-        },
-        Ok(None) => Ok(None),
-        Err(unknown) => Err(unknown),
-    }
-}
-
-/// Reads the book and the tree of a home. On standard error it reports which isn't known.
-fn know<R: Files<File = File> + Eprint>(home: &Home<'_, R>, hasher: RandomState) -> Known {
-    let names = known_names(home);
-    let has_names = !matches!(names, Names::Unknown);
-    match places_of(home, hasher) {
-        Ok(places) => Known {
-            names,
-            places,
-            is_whole: has_names,
-        },
-        Err(unknown) => {
-            let (rt, folder) = (home.rt, home.folder);
-            let _ = eprintln!(rt; "nfstrail: {folder}/{unknown}; objects are numbers here");
-            Known {
-                names,
-                places: None,
-                is_whole: false,
-            }
-        }
-    }
-}
 
 /// Reports why a file of the home can't be read.
 fn report_fault<R: Eprint>(home: &Home<'_, R>, part: Part, fault: &Fault) {
@@ -121,6 +71,7 @@ fn report_broken<R: Eprint>(home: &Home<'_, R>, broken: &Broken) {
     let (rt, folder, part) = (home.rt, home.folder, Part::Trail);
     let _ = match broken {
         Broken::Reading(error) => eprintln!(rt; "nfstrail: {folder}/{part}: {error}"),
+        Broken::Opening(fault) => eprintln!(rt; "nfstrail: {folder}/{part}: {fault}"),
         Broken::Writing(error) => eprintln!(rt; "nfstrail: standard output: {error}"),
     };
 }
@@ -169,6 +120,26 @@ fn print_asked<R: Files<File = File> + Print + Eprint>(
     }
 }
 
+/// Prints the lines of a trail that match the words, and those that are appended later.
+fn follow_asked<R: Files<File = File> + Net + Clock + Print + Eprint>(
+    home: &Home<'_, R>,
+    options: &Options<'_>,
+    hasher: RandomState,
+    trail: File,
+) -> ExitCode {
+    match follow(home, options, hasher, trail) {
+        Ok(()) => ExitCode::SUCCESS,
+        Err(Stop::Broken(Broken::Writing(error))) if error.kind() == ErrorKind::BrokenPipe => {
+            ExitCode::SUCCESS
+        }
+        Err(Stop::Broken(broken)) => {
+            report_broken(home, &broken);
+            ExitCode::FAILURE
+        }
+        Err(Stop::Refused(refusal)) => report_refusal(home.rt, &refusal),
+    }
+}
+
 /// Whether a home has an earlier form of store.
 fn has_earlier<R: Files<File = File>>(home: &Home<'_, R>) -> bool {
     matches!(home.find(Part::Key), Ok(Some(_)))
@@ -191,20 +162,37 @@ fn trail_of<R: Files<File = File> + Eprint>(home: &Home<'_, R>) -> Option<File> 
     }
 }
 
+/// Prints help or the version on standard output.
+fn print_asked_words<R: Print + Eprint>(rt: &R, text: &Error) -> ExitCode {
+    match print!(rt; "{text}") {
+        Ok(()) => ExitCode::SUCCESS,
+        Err(error) => {
+            let _ = eprintln!(rt; "nfstrail: standard output: {error}");
+            ExitCode::FAILURE
+        }
+    }
+}
+
+/// Prints `clap`'s text about the words. Help and the version go to standard output, with status 0. A fault goes to
+/// standard error with the program's name before it, with status 2.
+fn print_words<R: Print + Eprint>(rt: &R, alloc: Global, error: &Error) -> ExitCode {
+    if matches!(error.kind(), WordsKind::DisplayHelp | WordsKind::DisplayVersion) {
+        return print_asked_words(rt, error);
+    }
+    if let Ok(text) = format!(in alloc; "{error}") {
+        let _ = match text.as_str().strip_prefix("error: ") {
+            Some(fault) => eprint!(rt; "nfstrail: {fault}"),
+            None => eprint!(rt; "{text}"),
+        };
+    }
+    ExitCode::from(2)
+}
+
 /// Runs the words of the command line.
 fn run_words(rt: &HostRuntime, alloc: Global, words: &[String], hasher: RandomState) -> ExitCode {
     let options = match Options::read(alloc, words) {
         Ok(options) => options,
-        Err(error) => {
-            // help is printed unchanged, and a fault has the program's name before it
-            if let Ok(text) = format!(in alloc; "{error}") {
-                let _ = match text.as_str().strip_prefix("error: ") {
-                    Some(fault) => eprint!(rt; "nfstrail: {fault}"),
-                    None => eprint!(rt; "{text}"),
-                };
-            }
-            return ExitCode::from(2);
-        }
+        Err(error) => return print_words(rt, alloc, &error),
     };
     let home = Home {
         rt,
@@ -212,6 +200,7 @@ fn run_words(rt: &HostRuntime, alloc: Global, words: &[String], hasher: RandomSt
         folder: options.folder,
     };
     match trail_of(&home) {
+        Some(trail) if options.follow => follow_asked(&home, &options, hasher, trail),
         Some(trail) => print_asked(&home, &options, &know(&home, hasher), trail),
         None => ExitCode::FAILURE,
     }

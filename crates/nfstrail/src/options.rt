@@ -1,4 +1,5 @@
 //! The words of `nfstrail`.
+use build_record::version;
 use clap::{Arg, ArgAction, Command, Error, value_parser};
 use std::alloc::{AllocError, Global};
 
@@ -8,8 +9,11 @@ Prints the trail of a home, which 'nfsd --home FOLDER' keeps, for people: users 
 book, objects by their paths in the store as it is now, rights by their names, and why. It writes
 nothing, and takes no lock: the server may run.
 
+With --follow it doesn't end there: it prints each further line that the server adds, until it is
+stopped, or nobody reads its output. The store is read again for an object that isn't known yet.
+
 A line that can't be read is printed as it is, after 'not understood: ', whatever is asked for; a
-last line without its end after 'not ended: '.
+last line without its end after 'not ended: ', with --follow only if its file is put away.
 
     nfstrail office --user carol --since 2026-11-26";
 
@@ -28,6 +32,8 @@ pub(crate) struct Options<'a> {
     pub(crate) op: Option<&'a str>,
     /// Whether lines are printed unchanged.
     pub(crate) raw: bool,
+    /// Whether lines are printed that the server adds later.
+    pub(crate) follow: bool,
 }
 
 const USER: &str = "Only lines of this user, by its name in the book or its number";
@@ -42,15 +48,19 @@ const OP: &str = "Only lines of this operation, by its name, as WRITE";
 
 const RAW: &str = "Prints the chosen lines as they stand in the file";
 
+const FOLLOW: &str = "Prints each line that the server adds, too, until it is stopped";
+
 fn command<'a>(alloc: Global) -> Result<Command<'a>, AllocError> {
     let command = Command::new(alloc, "nfstrail")
         .about(ABOUT)
+        .version(version())
         .arg(folder(alloc))?
         .arg(valued(alloc, "user", "NAME|UID", USER))?
         .arg(valued(alloc, "path", "PATH", PATH))?
         .arg(valued(alloc, "since", "MOMENT", SINCE))?
         .arg(valued(alloc, "op", "NAME", OP))?
-        .arg(raw(alloc))?;
+        .arg(flag(alloc, "raw", RAW))?
+        .arg(flag(alloc, "follow", FOLLOW))?;
     Ok(command)
 }
 
@@ -61,12 +71,13 @@ fn folder<'a>(alloc: Global) -> Arg<'a> {
         .help("The home")
 }
 
-fn raw<'a>(alloc: Global) -> Arg<'a> {
-    Arg::new(alloc, "raw")
-        .long("raw")
+/// An option without a value.
+fn flag<'a>(alloc: Global, name: &'a str, help: &'a str) -> Arg<'a> {
+    Arg::new(alloc, name)
+        .long(name)
         .value_parser(value_parser!(bool))
         .action(ArgAction::SetTrue)
-        .help(RAW)
+        .help(help)
 }
 
 /// An option with a value.
@@ -89,6 +100,7 @@ impl<'a> Options<'a> {
             since: matches.get_str("since"),
             op: matches.get_str("op"),
             raw: matches.get_flag("raw"),
+            follow: matches.get_flag("follow"),
         })
     }
 }

@@ -2,7 +2,7 @@
 use crate::escaped::write_name;
 use acl_list::Kind;
 use nfs_hub::Restart;
-use node_tree::{MAX_OBJECTS, Tree};
+use node_tree::Tree;
 use std::alloc::{AllocError, Global};
 use std::collections::{BTreeMap, BTreeSet};
 use std::io;
@@ -133,7 +133,7 @@ impl Places {
     fn way_up(&self, alloc: Global, number: u64) -> Result<Option<Vec<u64>>, AllocError> {
         let mut way = Vec::new(alloc);
         let mut here = number;
-        for _step in 0..=MAX_OBJECTS {
+        for _step in 0..=self.tree().limits().objects() {
             if here == self.tree().root() {
                 return Ok(Some(way));
             }

@@ -1,11 +1,12 @@
 //! Printing the lines of the trail.
-ghost use Rattle.std.specs.Prelude.{◌∷◌, [], ◌++◌, OnOk};
+ghost use Rattle.std.specs.Prelude.{◌∷◌, [], ◌++◌, OnOk, codes};
 ghost use Rattle.std.specs.Bool.{OnTrue};
 ghost use Rattle.std.specs.Io.KnownBytes.{Appends};
 ghost use Rattle.nfstrail.specs.Fates.{IsPrinted, marked, torn};
 
 use crate::choice::Choice;
 use crate::fate::{Fate, fate_of};
+use crate::fault::Fault;
 use crate::notice::Stamped;
 use crate::words::Meanings;
 use std::alloc::Global;
@@ -78,11 +79,20 @@ impl<'a> Printing<'a> {
     }
 
     /// Writes a line, if it is to be printed.
-    fn print_line<W: Write>(&self, out: &mut W, line: &[u8]) -> io::Result<()> {
+    pub(crate) fn print_line<W: Write>(&self, out: &mut W, line: &[u8]) -> io::Result<()> {
         match line.strip_suffix(b"\n".as_slice()) {
             Some(text) => self.print_ended(out, text),
             None => write_torn(out, self.raw, line),
         }
+    }
+
+    /// Writes the bytes after the last newline of a file that isn't read any further: after words, or unchanged. Other
+    /// lines follow, so they have a newline either way.
+    pub(crate) fn print_unended<W: Write>(&self, out: &mut W, text: &[u8]) -> io::Result<()>
+        ensures { OnOk result (Appends (W.contents out.old) (W.contents out.new)
+            (marked self.now.raw (codes "not ended: ") text.now ++ 10 ∷ [])) }
+    {
+        write_marked(out, self.raw, "not ended: ", text)
     }
 }
 
@@ -91,6 +101,8 @@ impl<'a> Printing<'a> {
 pub(crate) enum Broken {
     /// The trail can't be read any more.
     Reading(io::Error),
+    /// The file that replaced the trail can't be opened.
+    Opening(Fault),
     /// Nothing more can be written.
     Writing(io::Error),
 }
@@ -101,6 +113,14 @@ fn next_line(reader: &mut BufReader<File>, line: &mut Vec<u8>) -> Result<bool, B
     match reader.read_until(b'\n', line) {
         Ok(count) => Ok(count > 0),
         Err(error) => Err(Broken::Reading(error)),
+    }
+}
+
+/// Writes what is buffered.
+pub(crate) fn flush<W: Write>(out: &mut W) -> Result<(), Broken> {
+    match out.flush() {
+        Ok(()) => Ok(()),
+        Err(error) => Err(Broken::Writing(error)),
     }
 }
 
@@ -120,8 +140,5 @@ pub(crate) fn print_lines<W: Write>(
             return Err(Broken::Writing(error));
         }
     }
-    match out.flush() {
-        Ok(()) => Ok(()),
-        Err(error) => Err(Broken::Writing(error)),
-    }
+    flush(out)
 }

@@ -8,7 +8,7 @@ use Rattle.std.specs.Option.{option_map}
 use Rattle.std.proofs.lemmas.Bool.Decides.{Decides-eqb, Decides-ltb}
 use Rattle.acl_list.specs.declared.entry.Kind.TheVariants.{Directory}
 use Rattle.node_tree.specs.declared.at.At.{At}
-use Rattle.node_tree.specs.Limits.{MAX_NAME, MAX_NAMES, MAX_OBJECTS, MAX_LINKS}
+use Rattle.node_tree.specs.Limits.{MAX_NAME}
 use Rattle.node_tree.specs.World.{World, Object, object, kind_of, child_named, name_count, link_count}
 use Rattle.node_tree.specs.Changes.{changed, touched, retold, with_new, with_link}
 use Rattle.node_tree.specs.Refusals.{has_left, has_room, has_object_room, may_link, may_name, may_add, add_refusal, link_refusal}
@@ -45,8 +45,8 @@ fresh_number w sound k h = there (object w k) refl h
     there (Some o) is h same = let b : k < w.next_number = number-below 1 w.next_number w.objects k o sound.numbered is in omega arith
 
 pub IsSound-with_new : (w : World) → IsSound w → (directory : ℕ) (name : List ℕ) (o : Object) (at : At) → IsTick w at.tick
-    → kind_of w directory ≡ Some Directory → child_named w directory name ≡ None → length name ≤ MAX_NAME → IsFit (at.tick + 1) o → o.stamp ≡ w.next_stamp
-    → name_count w.names directory < MAX_NAMES → length w.objects < MAX_OBJECTS → w.next_number < 2 ^ 63 → w.next_stamp < 2 ^ 63 → w.next_cookie < 2 ^ 63
+    → kind_of w directory ≡ Some Directory → child_named w directory name ≡ None → length name ≤ MAX_NAME → IsFit w.limits (at.tick + 1) o → o.stamp ≡ w.next_stamp
+    → name_count w.names directory < w.limits.names → length w.objects < w.limits.objects → w.next_number < 2 ^ 63 → w.next_stamp < 2 ^ 63 → w.next_cookie < 2 ^ 63
     → IsSound (with_new w directory name o at)
 IsSound-with_new w sound directory name o at tick live none short fit stamped room few number stamp cookie =
     let due : at.tick < at.tick + 1 = omega arith in
@@ -61,7 +61,8 @@ IsSound-with_new w sound directory name o at tick live none short fit stamped ro
       listed = Rises-push (λ n. n.cookie) 3 w.next_cookie w.names _ refl sound.listed;
       few = held.few;
       fit = held.fit;
-      limited = IsLimited-push w.names _ sound.limited room (let goal : link_count w.names w.next_number < MAX_LINKS = omega arith in goal) short;
+      limited = IsLimited-push w.names _ sound.limited room (let goal : link_count w.names w.next_number < w.limits.links = omega (arith, no_links, sound.allowed.links) in goal) short;
+      allowed = sound.allowed;
       counted = record {
         numbers = (let goal : w.next_number + 1 ≤ 2 ^ 63 = omega (arith, number) in goal);
         ticks = (let goal : at.tick + 1 ≤ 2 ^ 63 = omega (arith, tick.left) in goal);
@@ -90,7 +91,7 @@ read_linked read directory number at es touching retelling k =
 
 pub IsSound-with_link : (w : World) → IsSound w → (directory : ℕ) (name : List ℕ) (number : ℕ) (at : At) → IsTick w at.tick
     → kind_of w directory ≡ Some Directory → IsSome (object w number) → kind_of w number ≢ Some Directory → child_named w directory name ≡ None → length name ≤ MAX_NAME
-    → name_count w.names directory < MAX_NAMES → link_count w.names number < MAX_LINKS → w.next_cookie < 2 ^ 63
+    → name_count w.names directory < w.limits.names → link_count w.names number < w.limits.links → w.next_cookie < 2 ^ 63
     → IsSound (with_link w directory name number at)
 IsSound-with_link w sound directory name number at tick live there plain none short room links cookie =
     let due : at.tick < at.tick + 1 = omega arith in
@@ -106,6 +107,7 @@ IsSound-with_link w sound directory name number at tick live there plain none sh
       few = held.few;
       fit = held.fit;
       limited = IsLimited-push w.names _ sound.limited room links short;
+      allowed = sound.allowed;
       counted = record {
         numbers = sound.counted.numbers;
         ticks = (let goal : at.tick + 1 ≤ 2 ^ 63 = omega (arith, tick.left) in goal);
@@ -144,20 +146,20 @@ passed false h = cc
 
 pub record MayAdd (w : World) (directory : ℕ) (name : List ℕ) : Type 0 where
   pub none : child_named w directory name ≡ None
-  pub room : name_count w.names directory < MAX_NAMES
-  pub few : length w.objects < MAX_OBJECTS
+  pub room : name_count w.names directory < w.limits.names
+  pub few : length w.objects < w.limits.objects
   pub number : w.next_number < 2 ^ 63
   pub stamp : w.next_stamp < 2 ^ 63
   pub cookie : w.next_cookie < 2 ^ 63
 
 pub unrefused_add : (w : World) (directory : ℕ) (name : List ℕ) → None ≡ add_refusal w directory name → MayAdd w directory name
 unrefused_add w directory name none =
-    let may = may_add (name_count w.names directory) (length w.objects) w.next_number w.next_stamp w.next_cookie in
+    let may = may_add w.limits (name_count w.names directory) (length w.objects) w.next_number w.next_stamp w.next_cookie in
     elim (is_some (child_named w directory name)) as (λ b. is_some (child_named w directory name) ≡ b → None ≡ cond b (Some Exist) (cond may None (Some NoSpc)) → MayAdd w directory name) [
       | true ↦ λ _ h. cc
       | false ↦ λ removed h.
-          let a1 = has_room (name_count w.names directory) in
-          let a2 = has_object_room (length w.objects) in
+          let a1 = has_room w.limits (name_count w.names directory) in
+          let a2 = has_object_room w.limits (length w.objects) in
           let a3 = has_left w.next_number in
           let a4 = has_left w.next_stamp in
           let b5 = both (a1 && a2 && a3 && a4) (has_left w.next_cookie) (passed may h) in
@@ -166,8 +168,8 @@ unrefused_add w directory name none =
           let b2 = both a1 a2 b3.0 in
           record {
             none = absent (child_named w directory name) removed;
-            room = below (name_count w.names directory) MAX_NAMES b2.0;
-            few = below (length w.objects) MAX_OBJECTS b2.1;
+            room = below (name_count w.names directory) w.limits.names b2.0;
+            few = below (length w.objects) w.limits.objects b2.1;
             number = below w.next_number (2 ^ 63) b3.1;
             stamp = below w.next_stamp (2 ^ 63) b4.1;
             cookie = below w.next_cookie (2 ^ 63) b5.1;
@@ -176,18 +178,18 @@ unrefused_add w directory name none =
 
 pub record MayLink (w : World) (directory : ℕ) (name : List ℕ) (number : ℕ) : Type 0 where
   pub none : child_named w directory name ≡ None
-  pub links : link_count w.names number < MAX_LINKS
-  pub room : name_count w.names directory < MAX_NAMES
+  pub links : link_count w.names number < w.limits.links
+  pub room : name_count w.names directory < w.limits.names
   pub cookie : w.next_cookie < 2 ^ 63
 
 pub unrefused_link : (w : World) (directory : ℕ) (name : List ℕ) (number : ℕ) → None ≡ link_refusal w directory name number → MayLink w directory name number
 unrefused_link w directory name number none =
-    let may = may_name (name_count w.names directory) w.next_cookie in
-    elim (is_some (child_named w directory name)) as (λ b. is_some (child_named w directory name) ≡ b → None ≡ cond b (Some Exist) (cond (not (may_link (link_count w.names number))) (Some MLink) (cond may None (Some NoSpc))) → MayLink w directory name number) [
+    let may = may_name w.limits (name_count w.names directory) w.next_cookie in
+    elim (is_some (child_named w directory name)) as (λ b. is_some (child_named w directory name) ≡ b → None ≡ cond b (Some Exist) (cond (not (may_link w.limits (link_count w.names number))) (Some MLink) (cond may None (Some NoSpc))) → MayLink w directory name number) [
       | true ↦ λ _ h. cc
-      | false ↦ λ removed. elim (may_link (link_count w.names number)) as (λ b. may_link (link_count w.names number) ≡ b → None ≡ cond (not b) (Some MLink) (cond may None (Some NoSpc)) → MayLink w directory name number) [
+      | false ↦ λ removed. elim (may_link w.limits (link_count w.names number)) as (λ b. may_link w.limits (link_count w.names number) ≡ b → None ≡ cond (not b) (Some MLink) (cond may None (Some NoSpc)) → MayLink w directory name number) [
         | false ↦ λ _ h. cc
-        | true ↦ λ links h. let b = both (has_room (name_count w.names directory)) (has_left w.next_cookie) (passed may h) in
-            record { none = absent (child_named w directory name) removed; links = below (link_count w.names number) MAX_LINKS links; room = below (name_count w.names directory) MAX_NAMES b.0; cookie = below w.next_cookie (2 ^ 63) b.1 }
+        | true ↦ λ links h. let b = both (has_room w.limits (name_count w.names directory)) (has_left w.next_cookie) (passed may h) in
+            record { none = absent (child_named w directory name) removed; links = below (link_count w.names number) w.limits.links links; room = below (name_count w.names directory) w.limits.names b.0; cookie = below w.next_cookie (2 ^ 63) b.1 }
       ] refl
     ] refl none

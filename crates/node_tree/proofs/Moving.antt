@@ -11,7 +11,7 @@ use Rattle.acl_list.specs.declared.entry.Kind.{Kind}
 use Rattle.acl_list.specs.declared.entry.Kind.TheVariants.{Directory}
 use Rattle.acl_shape.specs.Inherited.{is_directory}
 use Rattle.node_tree.specs.declared.at.At.{At}
-use Rattle.node_tree.specs.Limits.{ROOT, MAX_NAME, MAX_NAMES, MAX_LINKS}
+use Rattle.node_tree.specs.Limits.{ROOT, MAX_NAME, Limits}
 use Rattle.node_tree.specs.World.{World, Object, Name, object, kind_of, is_named, has_name, has_entries, child_named, is_one, is_directory_at, parent_of, name_count, link_count}
 use Rattle.node_tree.specs.Ways.{is_within}
 use Rattle.node_tree.specs.Changes.{changed, touched, retold, released, other_names, given_name, with_move}
@@ -162,7 +162,7 @@ moved_some : {X : Type 0} (names : List Name) (target : Option ℕ) (old : ℕ �
 moved_some names None old k x is = is
 moved_some names (Some t) old k x is = after_some (has_name names t) old t k x is
 
-IsHeld-left : (names : List Name) (target : Option ℕ) (at : At) (es : List (ℕ × Object)) (n t : ℕ) → at.tick < t → IsHeld es n t → IsHeld (left_of names target at es) n t
+IsHeld-left : {l : Limits} (names : List Name) (target : Option ℕ) (at : At) (es : List (ℕ × Object)) (n t : ℕ) → at.tick < t → IsHeld l es n t → IsHeld l (left_of names target at es) n t
 IsHeld-left names None at es n t due held = held
 IsHeld-left names (Some target) at es n t due held = IsHeld-released names target at es n t due held
 
@@ -184,7 +184,7 @@ parents_of w k is = ap (λ b. cond b (option_map (λ (n : Name). n.directory) (f
 pub data Room (w : World) (from to : ℕ) (target : Option ℕ) : Type 0 where
   same : from ≡ to → Room w from to target
   replaced : IsSome target → Room w from to target
-  wide : name_count w.names to < MAX_NAMES → Room w from to target
+  wide : name_count w.names to < w.limits.names → Room w from to target
 
 pub IsSound-with_move : (w : World) → IsSound w → (from : ℕ) (old : List ℕ) (to : ℕ) (new : List ℕ) (child : ℕ) (target : Option ℕ) (at : At) → IsTick w at.tick
     → kind_of w to ≡ Some Directory → child_named w from old ≡ Some child → child_named w to new ≡ target
@@ -204,7 +204,7 @@ IsSound-with_move w sound from old to new child target at tick live named taken 
     let first_out : not (is_named from old goes_first.name) ≡ false = ap not goes_first.passes in
     let fewer_links : link_count (other_names from old w.names) child < link_count w.names child = count_by-filter_out (λ n. n.child == child) (λ n. not (is_named from old n)) w.names goes_first.name goes_first.present ((Decides-eqb goes_first.name.child child).1 goes_first.child_is) first_out in
     let links : link_count names child ≤ link_count (other_names from old w.names) child = count_by-filter (λ n. n.child == child) (λ n. not (is_named to new n)) (other_names from old w.names) in
-    let most : link_count w.names child ≤ MAX_LINKS = sound.limited.links child in
+    let most : link_count w.names child ≤ w.limits.links = sound.limited.links child in
     record {
       rooted = subst (λ k. IsRooted k (with_move w from old (given_name w to new child) target at).names) (sym kinds)
           (IsRooted-moved (kind_of w) alive w.names names child to w.next_cookie new (parent_of w) w.next_number sound.rooted moves_is (parents_of w)
@@ -214,7 +214,8 @@ IsSound-with_move w sound from old to new child target at tick live named taken 
       listed = Rises-push (λ n. n.cookie) 3 w.next_cookie names _ refl (Rises-filter (λ n. n.cookie) _ 3 w.next_cookie _ (Rises-filter (λ n. n.cookie) _ 3 w.next_cookie w.names sound.listed));
       few = held.few;
       fit = held.fit;
-      limited = IsLimited-push names _ (IsLimited-filter _ _ (IsLimited-filter _ w.names sound.limited)) (space room) (let goal : link_count names child < MAX_LINKS = omega arith in goal) short;
+      limited = IsLimited-push names _ (IsLimited-filter _ _ (IsLimited-filter _ w.names sound.limited)) (space room) (let goal : link_count names child < w.limits.links = omega (arith, fewer_links, links, most) in goal) short;
+      allowed = sound.allowed;
       counted = record {
         numbers = sound.counted.numbers;
         ticks = (let goal : at.tick + 1 ≤ 2 ^ 63 = omega (arith, tick.left) in goal);
@@ -232,10 +233,10 @@ IsSound-with_move w sound from old to new child target at tick live named taken 
     first_le : name_count (other_names from old w.names) to ≤ name_count w.names to
     first_le = name_count-filter (λ n. not (is_named from old n)) w.names to
 
-    all_le : name_count w.names to ≤ MAX_NAMES
+    all_le : name_count w.names to ≤ w.limits.names
     all_le = sound.limited.directories to
 
-    space : Room w from to target → name_count (other_names to new (other_names from old w.names)) to < MAX_NAMES
+    space : Room w from to target → name_count (other_names to new (other_names from old w.names)) to < w.limits.names
     space (same at) =
         let it = goes (kind_of w) w.names sound.rooted from old child old_child in
         let out : not (is_named from old it.name) ≡ false = ap not it.passes in
@@ -244,7 +245,7 @@ IsSound-with_move w sound from old to new child target at tick live named taken 
     space (wide below) = omega (arith, names_le, first_le, below)
     space (replaced there) = by_target target taken apart there
       where
-        by_target : (target : Option ℕ) → child_named w to new ≡ target → IfSome target (λ t. child ≢ t) → IsSome target → name_count (other_names to new (other_names from old w.names)) to < MAX_NAMES
+        by_target : (target : Option ℕ) → child_named w to new ≡ target → IfSome target (λ t. child ≢ t) → IsSome target → name_count (other_names to new (other_names from old w.names)) to < w.limits.names
         by_target None taken apart there = let no : is_some {T = ℕ} None ≡ true = there in cc
         by_target (Some t) taken apart there =
             let it = goes (kind_of w) w.names sound.rooted to new t (child_sought w.names to new ∙ taken) in
@@ -281,16 +282,16 @@ last : (a b : Bool) → (a && b) ≡ true → b ≡ true
 last true b h = h
 last false b h = cc
 
-roomy : (w : World) (from to : ℕ) → ((from == to) || has_room (name_count w.names to)) ≡ true → Room w from to None
-roomy w from to is = elim (from == to) as (λ b. (from == to) ≡ b → (b || has_room (name_count w.names to)) ≡ true → Room w from to None) [
+roomy : (w : World) (from to : ℕ) → ((from == to) || has_room w.limits (name_count w.names to)) ≡ true → Room w from to None
+roomy w from to is = elim (from == to) as (λ b. (from == to) ≡ b → (b || has_room w.limits (name_count w.names to)) ≡ true → Room w from to None) [
   | true ↦ λ at _. same ((Decides-eqb from to).0 at)
-  | false ↦ λ _ h. wide ((Decides-ltb (name_count w.names to) MAX_NAMES).0 h)
+  | false ↦ λ _ h. wide ((Decides-ltb (name_count w.names to) w.limits.names).0 h)
 ] refl is
 
-moves_in : (w : World) (from to : ℕ) (target : Option ℕ) → may_move (name_count w.names to) w.next_cookie from to target ≡ true → Room w from to target × (w.next_cookie < 2 ^ 63)
+moves_in : (w : World) (from to : ℕ) (target : Option ℕ) → may_move w.limits (name_count w.names to) w.next_cookie from to target ≡ true → Room w from to target × (w.next_cookie < 2 ^ 63)
 moves_in w from to None may = (
-  roomy w from to (prefix ((from == to) || has_room (name_count w.names to)) (has_left w.next_cookie) may),
-  left_below w.next_cookie (last ((from == to) || has_room (name_count w.names to)) (has_left w.next_cookie) may),
+  roomy w from to (prefix ((from == to) || has_room w.limits (name_count w.names to)) (has_left w.next_cookie) may),
+  left_below w.next_cookie (last ((from == to) || has_room w.limits (name_count w.names to)) (has_left w.next_cookie) may),
 )
   where
     prefix : (a b : Bool) → (a && b) ≡ true → a ≡ true
@@ -308,7 +309,7 @@ emptied w sound child (Some target) may = λ n present at.
     ] may
 
 pub unrefused_move : (w : World) → IsSound w → (from to child : ℕ) (target : Option ℕ) → is_below (kind_of w) (parent_of w) w.next_number child to ≡ false
-    → may_replace (kind_of w) (has_entries w.names) child target ≡ true → may_move (name_count w.names to) w.next_cookie from to target ≡ true → MayMove w from to child target
+    → may_replace (kind_of w) (has_entries w.names) child target ≡ true → may_move w.limits (name_count w.names to) w.next_cookie from to target ≡ true → MayMove w from to child target
 unrefused_move w sound from to child target below replaces moves =
     let m = moves_in w from to target moves in
     record { clear = cleared w child to below; empty = emptied w sound child target replaces; room = m.0; cookie = m.1 }
@@ -326,7 +327,7 @@ target_apart child (Some t) apart = λ same. apart (ap Some (sym same))
 pub IsSound-unrefused_move : (w : World) → IsSound w → (from : ℕ) (old : List ℕ) (to : ℕ) (new : List ℕ) (child : ℕ) (target : Option ℕ) (at : At) → IsTick w at.tick
     → kind_of w to ≡ Some Directory → length new ≤ MAX_NAME → child_named w from old ≡ Some child → child_named w to new ≡ target → (target ≡ Some child → ⊥)
     → is_below (kind_of w) (parent_of w) w.next_number child to ≡ false → may_replace (kind_of w) (has_entries w.names) child target ≡ true
-    → may_move (name_count w.names to) w.next_cookie from to target ≡ true → IsSound (with_move w from old (given_name w to new child) target at)
+    → may_move w.limits (name_count w.names to) w.next_cookie from to target ≡ true → IsSound (with_move w from old (given_name w to new child) target at)
 IsSound-unrefused_move w sound from old to new child target at tick live short named taken apart below replaces moves =
     let may = unrefused_move w sound from to child target below replaces moves in
     IsSound-with_move w sound from old to new child target at tick live named taken (target_apart child target apart) may.empty may.clear short may.room may.cookie

@@ -7,7 +7,7 @@ use Rattle.std.specs.Cmp.Lexicographic.{pointwise, bytes_decides}
 use Rattle.std.proofs.Math.Logic.{⊎_elim}
 use Rattle.std.proofs.lemmas.Bool.Decides.{Decides-eqb}
 use Rattle.std.proofs.lemmas.List.Sums.{sum_by-cons, length-filter}
-use Rattle.node_tree.specs.Limits.{MAX_NAME, MAX_NAMES, MAX_LINKS}
+use Rattle.node_tree.specs.Limits.{MAX_NAME, Limits}
 use Rattle.node_tree.specs.World.{Name, is_named, names_in, child_in, name_count, link_count}
 use Rattle.node_tree.specs.Sound.{IsIn, IsLimited}
 
@@ -193,10 +193,10 @@ name_count-filter_out p names directory n present here out =
 
 -- ---- the limits
 
-pub IsLimited-filter : (p : Name → Bool) (names : List Name) → IsLimited names → IsLimited (filter p names)
-IsLimited-filter p names limited = record {
-  directories = λ k. let a : name_count (filter p names) k ≤ name_count names k = name_count-filter p names k in let b : name_count names k ≤ MAX_NAMES = limited.directories k in let c : name_count (filter p names) k ≤ MAX_NAMES = omega arith in c;
-  links = λ k. let a : link_count (filter p names) k ≤ link_count names k = count_by-filter (λ n. n.child == k) p names in let b : link_count names k ≤ MAX_LINKS = limited.links k in let c : link_count (filter p names) k ≤ MAX_LINKS = omega arith in c;
+pub IsLimited-filter : {l : Limits} (p : Name → Bool) (names : List Name) → IsLimited l names → IsLimited l (filter p names)
+IsLimited-filter {l} p names limited = record {
+  directories = λ k. let a : name_count (filter p names) k ≤ name_count names k = name_count-filter p names k in let b : name_count names k ≤ l.names = limited.directories k in let c : name_count (filter p names) k ≤ l.names = omega arith in c;
+  links = λ k. let a : link_count (filter p names) k ≤ link_count names k = count_by-filter (λ n. n.child == k) p names in let b : link_count names k ≤ l.links = limited.links k in let c : link_count (filter p names) k ≤ l.links = omega arith in c;
   short = λ n present. limited.short n (from_filter p n names present).was_present;
 }
 
@@ -209,16 +209,16 @@ one_more q names n k most before room =
     ] refl more
 
 -- one more name in a directory that has room
-name_more : (names : List Name) (n : Name) (k : ℕ) → name_count names k ≤ MAX_NAMES → name_count names n.directory < MAX_NAMES → name_count (names ++ n ∷ []) k ≤ MAX_NAMES
-name_more names n k before room =
-    let counted : count_by (λ n. n.directory == k) names ≤ MAX_NAMES = omega (arith, names_counted names k, before) in
-    let below : count_by (λ m. m.directory == n.directory) names < MAX_NAMES = omega (arith, names_counted names n.directory, room) in
-    let more : count_by (λ n. n.directory == k) (names ++ n ∷ []) ≤ MAX_NAMES = one_more (λ k n. n.directory == k) names n k MAX_NAMES counted (λ is. subst (λ k. count_by (λ n. n.directory == k) names < MAX_NAMES) ((Decides-eqb n.directory k).0 is) below) in
+name_more : (names : List Name) (n : Name) (k most : ℕ) → name_count names k ≤ most → name_count names n.directory < most → name_count (names ++ n ∷ []) k ≤ most
+name_more names n k most before room =
+    let counted : count_by (λ n. n.directory == k) names ≤ most = omega (arith, names_counted names k, before) in
+    let below : count_by (λ m. m.directory == n.directory) names < most = omega (arith, names_counted names n.directory, room) in
+    let more : count_by (λ n. n.directory == k) (names ++ n ∷ []) ≤ most = one_more (λ k n. n.directory == k) names n k most counted (λ is. subst (λ k. count_by (λ n. n.directory == k) names < most) ((Decides-eqb n.directory k).0 is) below) in
     omega (arith, names_counted (names ++ n ∷ []) k, more)
 
-pub IsLimited-push : (names : List Name) (n : Name) → IsLimited names → name_count names n.directory < MAX_NAMES → link_count names n.child < MAX_LINKS → length n.name ≤ MAX_NAME → IsLimited (names ++ n ∷ [])
-IsLimited-push names n limited room links short = record {
-  directories = λ k. name_more names n k (limited.directories k) room;
-  links = λ k. one_more (λ k n. n.child == k) names n k MAX_LINKS (limited.links k) (λ is. subst (λ k. link_count names k < MAX_LINKS) ((Decides-eqb n.child k).0 is) links);
+pub IsLimited-push : {l : Limits} (names : List Name) (n : Name) → IsLimited l names → name_count names n.directory < l.names → link_count names n.child < l.links → length n.name ≤ MAX_NAME → IsLimited l (names ++ n ∷ [])
+IsLimited-push {l} names n limited room links short = record {
+  directories = λ k. name_more names n k l.names (limited.directories k) room;
+  links = λ k. one_more (λ k n. n.child == k) names n k l.links (limited.links k) (λ is. subst (λ k. link_count names k < l.links) ((Decides-eqb n.child k).0 is) links);
   short = λ m present. ⊎_elim (λ old. limited.short m old) (λ same. subst (λ (m : Name). length m.name ≤ MAX_NAME) (sym same) short) (from_push m n names present);
 }

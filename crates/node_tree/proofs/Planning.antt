@@ -49,7 +49,7 @@ module _ (w : World) (m : Moving) (planned : IsMove w m) where
       ap (λ o. option_or o (cond (is_same w m.from m.old m.to m.new) None (space_refusal w m.from m.to (child_named w m.to m.new)))) unrefused_plan
       ∙ ap (λ b. cond b None (space_refusal w m.from m.to (child_named w m.to m.new))) apart_is ∙ ap (space_refusal w m.from m.to) planned.target
 
-  module _ (sound : IsSound w) (space : may_move (name_count w.names m.to) w.next_cookie m.from m.to m.target ≡ true) where
+  module _ (sound : IsSound w) (space : may_move w.limits (name_count w.names m.to) w.next_cookie m.from m.to m.target ≡ true) where
     pub cookie_left : w.next_cookie < 2 ^ 63
     cookie_left = (unrefused_move w sound m.from m.to m.child m.target planned.above planned.replaces space).cookie
 

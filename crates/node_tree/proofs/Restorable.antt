@@ -17,7 +17,7 @@ use Rattle.acl_list.specs.declared.entry.Kind.TheVariants.{File, Directory, Link
 use Rattle.acl_shape.specs.Inherited.{is_directory}
 use Rattle.acl_shape.specs.Bounds.{fits}
 use Rattle.acl_shape.proofs.Parts.{IsBounded-fits}
-use Rattle.node_tree.specs.Limits.{ROOT, MAX_NAME, MAX_NAMES, MAX_OBJECTS, MAX_LINKS}
+use Rattle.node_tree.specs.Limits.{ROOT, MAX_NAME, Limits, IsAllowed}
 use Rattle.node_tree.specs.World.{World, Object, Name, object, kind_of, child_named, is_directory_at, is_named, has_name, name_count, link_count, parent_of}
 use Rattle.node_tree.specs.Refusals.{has_room, may_link}
 use Rattle.node_tree.specs.Sound.{IsIn, Climbs, IsStamped, IsFit, IsSound, Rises, stamp_of, most_bytes}
@@ -135,27 +135,27 @@ numbers_more (e ∷ es) number o = ap (λ l. e.0 ∷ l) (numbers_more es number 
 pub record MayPut (b : Begun) (number : ℕ) (o : Object) : Type 0 where
   pub after : b.number ≤ number
   pub before : number < b.world.next_number
-  pub room : length b.world.objects < MAX_OBJECTS
-  pub fit : IsFit b.world.next_tick o
+  pub room : length b.world.objects < b.world.limits.objects
+  pub fit : IsFit b.world.limits b.world.next_tick o
   pub stamp : o.stamp < b.world.next_stamp
   pub absent : has_stamp b.world.objects o.stamp ≡ false
 
 pub may_put : (b : Begun) (number : ℕ) (o : Object) → object_fits b number o ≡ true → MayPut b number o
 may_put b number o h =
     let w = b.world in
-    let places = nat_le b.number number && nat_lt number w.next_number && nat_lt (length w.objects) MAX_OBJECTS in
-    let all = and_parts places (is_fit w.next_tick w.next_stamp o && not (has_stamp w.objects o.stamp)) h in
-    let p1 = and_parts (nat_le b.number number && nat_lt number w.next_number) (nat_lt (length w.objects) MAX_OBJECTS) all.0 in
+    let places = nat_le b.number number && nat_lt number w.next_number && nat_lt (length w.objects) w.limits.objects in
+    let all = and_parts places (is_fit w.limits w.next_tick w.next_stamp o && not (has_stamp w.objects o.stamp)) h in
+    let p1 = and_parts (nat_le b.number number && nat_lt number w.next_number) (nat_lt (length w.objects) w.limits.objects) all.0 in
     let p2 = and_parts (nat_le b.number number) (nat_lt number w.next_number) p1.0 in
-    let q1 = and_parts (is_fit w.next_tick w.next_stamp o) (not (has_stamp w.objects o.stamp)) all.1 in
-    let q2 = and_parts (nat_le (length o.bytes) (most_bytes o.kind) && fits o.list && nat_lt o.change w.next_tick) (nat_lt o.stamp w.next_stamp) q1.0 in
-    let q3 = and_parts (nat_le (length o.bytes) (most_bytes o.kind) && fits o.list) (nat_lt o.change w.next_tick) q2.0 in
-    let q4 = and_parts (nat_le (length o.bytes) (most_bytes o.kind)) (fits o.list) q3.0 in
+    let q1 = and_parts (is_fit w.limits w.next_tick w.next_stamp o) (not (has_stamp w.objects o.stamp)) all.1 in
+    let q2 = and_parts (nat_le (length o.bytes) (most_bytes w.limits o.kind) && fits o.list && nat_lt o.change w.next_tick) (nat_lt o.stamp w.next_stamp) q1.0 in
+    let q3 = and_parts (nat_le (length o.bytes) (most_bytes w.limits o.kind) && fits o.list) (nat_lt o.change w.next_tick) q2.0 in
+    let q4 = and_parts (nat_le (length o.bytes) (most_bytes w.limits o.kind)) (fits o.list) q3.0 in
     record {
       after = at_most b.number number p2.0;
       before = (Decides-ltb number w.next_number).0 p2.1;
-      room = (Decides-ltb (length w.objects) MAX_OBJECTS).0 p1.1;
-      fit = record { list = IsBounded-fits o.list q4.1; bytes = at_most (length o.bytes) (most_bytes o.kind) q4.0; change = (Decides-ltb o.change w.next_tick).0 q3.1 };
+      room = (Decides-ltb (length w.objects) w.limits.objects).0 p1.1;
+      fit = record { list = IsBounded-fits o.list q4.1; bytes = at_most (length o.bytes) (most_bytes w.limits o.kind) q4.0; change = (Decides-ltb o.change w.next_tick).0 q3.1 };
       stamp = (Decides-ltb o.stamp w.next_stamp).0 q2.1;
       absent = flipped_back (has_stamp w.objects o.stamp) q1.1;
     }
@@ -173,16 +173,17 @@ IsBegun-object w number cookie numbers stamps begun k o may more more_stamps num
       listed = begun.listed;
       numbers_left = let b : k < w.next_number = may.before in let goal : k + 1 ≤ w.next_number = omega arith in goal;
       cookies_left = begun.cookies_left;
-      few = let l : length (w.objects ++ (k, o) ∷ []) ≡ length w.objects + 1 = length-append w.objects ((k, o) ∷ []) in let r : length w.objects < MAX_OBJECTS = may.room in let goal : length (w.objects ++ (k, o) ∷ []) ≤ MAX_OBJECTS = omega arith in goal;
+      few = let l : length (w.objects ++ (k, o) ∷ []) ≡ length w.objects + 1 = length-append w.objects ((k, o) ∷ []) in let r : length w.objects < w.limits.objects = may.room in let goal : length (w.objects ++ (k, o) ∷ []) ≤ w.limits.objects = omega arith in goal;
       fit = λ q p is. there (is_at (nat_cmp q) k) (lookup (is_at (nat_cmp q)) w.objects) q p refl (sym (seen w.objects k o rises q) ∙ is);
       limited = begun.limited;
       counted = record { numbers = begun.counted.numbers; ticks = begun.counted.ticks; stamps = begun.counted.stamps; cookies = begun.counted.cookies };
+      allowed = begun.allowed;
       numbers_are = numbers_are ∙ ap (λ l. l ++ k ∷ []) begun.numbers_are ∙ sym (numbers_more w.objects k o);
       stamps_are = λ s. stamps_are s ∙ ap (λ b. (s == o.stamp) || b) (begun.stamps_are s) ∙ sym (stamps_more w.objects k o s);
     }
   where
-    there : (b : Bool) (found : Option Object) (q : ℕ) (p : Object) → lookup (is_at (nat_cmp q)) w.objects ≡ found → cond b (Some o) found ≡ Some p → IsFit w.next_tick p
-    there true found q p was_present is = let same : o ≡ p = cc in subst (IsFit w.next_tick) same may.fit
+    there : (b : Bool) (found : Option Object) (q : ℕ) (p : Object) → lookup (is_at (nat_cmp q)) w.objects ≡ found → cond b (Some o) found ≡ Some p → IsFit w.limits w.next_tick p
+    there true found q p was_present is = let same : o ≡ p = cc in subst (IsFit w.limits w.next_tick) same may.fit
     there false found q p was_present is = begun.fit q p (was_present ∙ is)
 
 -- ---- one more name
@@ -226,49 +227,49 @@ pub record MayName (b : Begun) (n : Name) : Type 0 where
   pub below : n.child ≢ ROOT
   pub there : IsSome (kind_of b.world n.child)
   pub once : kind_of b.world n.child ≡ Some Directory → (m : Name) → IsIn m b.world.names → m.child ≡ n.child → ⊥
-  pub links : link_count b.world.names n.child < MAX_LINKS
+  pub links : link_count b.world.names n.child < b.world.limits.links
   pub live : kind_of b.world n.directory ≡ Some Directory
-  pub room : name_count b.world.names n.directory < MAX_NAMES
+  pub room : name_count b.world.names n.directory < b.world.limits.names
   pub none : child_named b.world n.directory n.name ≡ None
 
 record MayChild (w : World) (child : ℕ) : Type 0 where
   pub there : IsSome (kind_of w child)
   pub once : kind_of w child ≡ Some Directory → (m : Name) → IsIn m w.names → m.child ≡ child → ⊥
-  pub links : link_count w.names child < MAX_LINKS
+  pub links : link_count w.names child < w.limits.links
 
-may_child : (w : World) (child : ℕ) → child_fits w child ≡ true → MayChild w child
-may_child w child h =
-    elim (is_directory_at w child) as (λ b. is_directory_at w child ≡ b → cond b (not (has_name w.names child)) (is_some (object w child) && may_link (link_count w.names child)) ≡ true → MayChild w child) [
+may_child : (w : World) → 1 < w.limits.links → (child : ℕ) → child_fits w child ≡ true → MayChild w child
+may_child w more child h =
+    elim (is_directory_at w child) as (λ b. is_directory_at w child ≡ b → cond b (not (has_name w.names child)) (is_some (object w child) && may_link w.limits (link_count w.names child)) ≡ true → MayChild w child) [
       | true ↦ λ is free.
           let none = λ (m : Name) (i : IsIn m w.names) (at : m.child ≡ child). none_passes (λ n. n.child == child) w.names (flipped_back (has_name w.names child) free) m i ((Decides-eqb m.child child).1 at) in
           let zero_links : link_count w.names child ≡ 0 = count_by-none (λ n. n.child == child) w.names (λ m i p. none m i ((Decides-eqb m.child child).0 p)) in
-          record { there = ap is_some (of_kind (kind_of w child) is); once = λ _. none; links = let goal : link_count w.names child < MAX_LINKS = omega arith in goal }
+          record { there = ap is_some (of_kind (kind_of w child) is); once = λ _. none; links = let goal : link_count w.names child < w.limits.links = omega (arith, zero_links, more) in goal }
       | false ↦ λ is fits.
-          let both = and_parts (is_some (object w child)) (may_link (link_count w.names child)) fits in
+          let both = and_parts (is_some (object w child)) (may_link w.limits (link_count w.names child)) fits in
           record {
             there = some_kind (object w child) both.0;
             once = λ dir. absurd (unlike is dir);
-            links = (Decides-ltb (link_count w.names child) MAX_LINKS).0 both.1;
+            links = (Decides-ltb (link_count w.names child) w.limits.links).0 both.1;
           }
     ] refl h
   where
     unlike : is_directory_at w child ≡ false → kind_of w child ≡ Some Directory → ⊥
     unlike is dir = let t : is_directory_at w child ≡ true = ap (λ (o : Option Kind). option_map_or is_directory o false) dir in cc
 
-pub may_name : (b : Begun) (n : Name) → name_fits b n ≡ true → MayName b n
-may_name b n h =
+pub may_name : (b : Begun) → 1 < b.world.limits.links → (n : Name) → name_fits b n ≡ true → MayName b n
+may_name b more n h =
     let w = b.world in
     let place = nat_le b.cookie n.cookie && nat_lt n.cookie w.next_cookie && nat_le (length n.name) MAX_NAME in
     let child = not (n.child == ROOT) && child_fits w n.child in
-    let directory = is_directory_at w n.directory && has_room (name_count w.names n.directory) && not (is_some (child_named w n.directory n.name)) in
+    let directory = is_directory_at w n.directory && has_room w.limits (name_count w.names n.directory) && not (is_some (child_named w n.directory n.name)) in
     let all = and_parts (place && child) directory h in
     let prefix = and_parts place child all.0 in
     let p1 = and_parts (nat_le b.cookie n.cookie && nat_lt n.cookie w.next_cookie) (nat_le (length n.name) MAX_NAME) prefix.0 in
     let p2 = and_parts (nat_le b.cookie n.cookie) (nat_lt n.cookie w.next_cookie) p1.0 in
     let c = and_parts (not (n.child == ROOT)) (child_fits w n.child) prefix.1 in
-    let d1 = and_parts (is_directory_at w n.directory && has_room (name_count w.names n.directory)) (not (is_some (child_named w n.directory n.name))) all.1 in
-    let d2 = and_parts (is_directory_at w n.directory) (has_room (name_count w.names n.directory)) d1.0 in
-    let may = may_child w n.child c.1 in
+    let d1 = and_parts (is_directory_at w n.directory && has_room w.limits (name_count w.names n.directory)) (not (is_some (child_named w n.directory n.name))) all.1 in
+    let d2 = and_parts (is_directory_at w n.directory) (has_room w.limits (name_count w.names n.directory)) d1.0 in
+    let may = may_child w more n.child c.1 in
     record {
       after = at_most b.cookie n.cookie p2.0;
       before = (Decides-ltb n.cookie w.next_cookie).0 p2.1;
@@ -278,7 +279,7 @@ may_name b n h =
       once = may.once;
       links = may.links;
       live = of_kind (kind_of w n.directory) d2.0;
-      room = (Decides-ltb (name_count w.names n.directory) MAX_NAMES).0 d2.1;
+      room = (Decides-ltb (name_count w.names n.directory) w.limits.names).0 d2.1;
       none = absent (child_named w n.directory n.name) d1.1;
     }
 
@@ -295,26 +296,28 @@ IsBegun-name w number cookie numbers stamps begun n may = record {
   fit = begun.fit;
   limited = IsLimited-push w.names n begun.limited may.room may.links may.short;
   counted = record { numbers = begun.counted.numbers; ticks = begun.counted.ticks; stamps = begun.counted.stamps; cookies = begun.counted.cookies };
+  allowed = begun.allowed;
   numbers_are = begun.numbers_are;
   stamps_are = begun.stamps_are;
 }
 
 -- ---- the beginning
 
-pub IsBegun-none : (next_number next_tick next_stamp next_cookie : ℕ) → ROOT ≤ next_number → 3 ≤ next_cookie → next_number ≤ 2 ^ 63 → next_tick ≤ 2 ^ 63 → next_stamp ≤ 2 ^ 63 → next_cookie ≤ 2 ^ 63
+pub IsBegun-none : (l : Limits) → IsAllowed l → (next_number next_tick next_stamp next_cookie : ℕ) → ROOT ≤ next_number → 3 ≤ next_cookie → next_number ≤ 2 ^ 63 → next_tick ≤ 2 ^ 63 → next_stamp ≤ 2 ^ 63 → next_cookie ≤ 2 ^ 63
     → (numbers stamps : List ℕ) → numbers ≡ [] → stamps ≡ []
-    → IsBegun (record { objects = []; names = []; next_number = next_number; next_tick = next_tick; next_stamp = next_stamp; next_cookie = next_cookie }) ROOT 3 numbers stamps
-IsBegun-none next_number next_tick next_stamp next_cookie numbers_left cookies_left a b c d numbers stamps numbers_are stamps_are = record {
+    → IsBegun (record { limits = l; objects = []; names = []; next_number = next_number; next_tick = next_tick; next_stamp = next_stamp; next_cookie = next_cookie }) ROOT 3 numbers stamps
+IsBegun-none l allowed next_number next_tick next_stamp next_cookie numbers_left cookies_left a b c d numbers stamps numbers_are stamps_are = record {
   hung = record { root_has_no_name = λ n h. absurd h; ends = λ n h. absurd h; one_child = λ m n h. absurd h; one_parent = λ m n h. absurd h };
   stamped = record { apart = λ j k s h. cc; below = λ k s h. cc };
   numbered = (let goal : 1 ≤ 1 = omega arith in goal);
   listed = (let goal : 3 ≤ 3 = omega arith in goal);
   numbers_left = numbers_left;
   cookies_left = cookies_left;
-  few = (let goal : 0 ≤ 16384 = omega arith in goal);
+  few = (let goal : 0 ≤ l.objects = omega arith in goal);
   fit = λ k o h. cc;
-  limited = record { directories = λ k. (let goal : 0 ≤ 4096 = omega arith in goal); links = λ k. (let goal : 0 ≤ 1000 = omega arith in goal); short = λ n h. absurd h };
+  limited = record { directories = λ k. (let goal : 0 ≤ l.names = omega arith in goal); links = λ k. (let goal : 0 ≤ l.links = omega arith in goal); short = λ n h. absurd h };
   counted = record { numbers = a; ticks = b; stamps = c; cookies = d };
+  allowed = allowed;
   numbers_are = numbers_are;
   stamps_are = λ s. ap (list_any (is_at (nat_cmp s))) stamps_are;
 }
@@ -391,6 +394,7 @@ IsSound-whole w number cookie numbers stamps begun root all = record {
   fit = begun.fit;
   limited = begun.limited;
   counted = begun.counted;
+  allowed = begun.allowed;
 }
   where
     there : (k : ℕ) (o : Option Object) → object w k ≡ o → IsSome (option_map (λ (o : Object). o.kind) o) → k ≢ ROOT → (n : Name) × IsIn n w.names × (n.child ≡ k)

@@ -6,6 +6,7 @@ use Rattle.acl_list.specs.declared.entry.Kind.{Kind}
 use Rattle.acl_list.specs.declared.entry.Kind.TheVariants.{File, Directory}
 use Rattle.acl_shape.specs.Bounds.{IsBounded}
 use Rattle.acl_shape.specs.Mode.{set_mode}
+use Rattle.node_tree.specs.Limits.{IsAllowed, standard}
 use Rattle.node_tree.specs.World.{World, Object, kind_of}
 use Rattle.node_tree.specs.Changes.{changed, alone, root_of, epoch, with_new}
 use Rattle.node_tree.specs.Sample.{sample}
@@ -36,7 +37,11 @@ IsSound-with_change w number tick sound due =
       fit = held.fit;
       limited = sound.limited;
       counted = record { numbers = sound.counted.numbers; ticks = sound.counted.ticks; stamps = sound.counted.stamps; cookies = sound.counted.cookies };
+      allowed = sound.allowed;
     }
+
+pub allowed : IsAllowed standard
+allowed = record { profile = refl; root = lit≤ tt; objects = lit< tt; names = lit< tt; links = lit< tt; few_links = lit< tt; bytes = lit< tt }
 
 -- the sample with any access control lists, so that none is computed
 module _ (of_root of_notes of_pub : List Entry) (root_bounded : IsBounded of_root) (notes_bounded : IsBounded of_notes) (pub_bounded : IsBounded of_pub) where
@@ -44,15 +49,15 @@ module _ (of_root of_notes of_pub : List Entry) (root_bounded : IsBounded of_roo
   thing number kind bytes owner group list = record { kind = kind; bytes = bytes; owner = owner; group = group; list = list; high = 0; change = number; time_modify = epoch; time_metadata = epoch; stamp = number }
 
   abbrev first : World
-  first = with_new (alone (root_of 0 0 of_root 0)) 1 (codes "notes") (thing 2 File (codes "hi") 1001 100 of_notes) (record { tick = 2; moment = epoch })
+  first = with_new (alone standard (root_of 0 0 of_root 0)) 1 (codes "notes") (thing 2 File (codes "hi") 1001 100 of_notes) (record { tick = 2; moment = epoch })
 
   abbrev second : World
   second = with_new first 1 (codes "pub") (thing 3 Directory [] 0 0 of_pub) (record { tick = 3; moment = epoch })
 
   is_sound : IsSound (with_change second 1 1)
   is_sound =
-      let root = IsSound-alone (root_of 0 0 of_root 0) refl refl root_bounded refl refl in
-      let one = IsSound-with_new (alone (root_of 0 0 of_root 0)) root 1 (codes "notes") (thing 2 File (codes "hi") 1001 100 of_notes) (record { tick = 2; moment = epoch }) (record { due = lit≤ tt; fresh = lit≤ tt; left = lit< tt }) refl refl (lit≤ tt)
+      let root = IsSound-alone standard allowed (root_of 0 0 of_root 0) refl refl root_bounded refl refl in
+      let one = IsSound-with_new (alone standard (root_of 0 0 of_root 0)) root 1 (codes "notes") (thing 2 File (codes "hi") 1001 100 of_notes) (record { tick = 2; moment = epoch }) (record { due = lit≤ tt; fresh = lit≤ tt; left = lit< tt }) refl refl (lit≤ tt)
       (record { list = notes_bounded; bytes = lit≤ tt; change = lit< tt }) refl (lit< tt) (lit< tt) (lit< tt) (lit< tt) (lit< tt) in
       let two = IsSound-with_new first one 1 (codes "pub") (thing 3 Directory [] 0 0 of_pub) (record { tick = 3; moment = epoch }) (record { due = lit≤ tt; fresh = lit≤ tt; left = lit< tt }) refl refl (lit≤ tt)
       (record { list = pub_bounded; bytes = lit≤ tt; change = lit< tt }) refl (lit< tt) (lit< tt) (lit< tt) (lit< tt) (lit< tt) in

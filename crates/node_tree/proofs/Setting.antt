@@ -18,7 +18,7 @@ use Rattle.node_tree.proofs.Holding.{IsHeld, IsHeld-later, IsHeld-changed}
 use Rattle.node_tree.proofs.Stamps.{IsStamped-restamped}
 use mathlib.Core.Path.{fun_ext}
 
-pub held_in : (w : World) → IsSound w → IsHeld w.objects w.next_number w.next_tick
+pub held_in : (w : World) → IsSound w → IsHeld w.limits w.objects w.next_number w.next_tick
 held_in w sound = record { numbered = sound.numbered; few = sound.few; fit = sound.fit }
 
 -- ---- bytes
@@ -27,7 +27,7 @@ held_in w sound = record { numbered = sound.numbered; few = sound.few; fit = sou
 abbrev with_new_bytes : World → ℕ → (List ℕ → List ℕ) → At → World
 with_new_bytes w file bytes at = record w { objects = changed file (λ o. touched at (record o { bytes = bytes o.bytes })) w.objects; next_tick = at.tick + 1 }
 
-IsSound-with_new_bytes : (w : World) (file : ℕ) (bytes : List ℕ → List ℕ) (at : At) → IsSound w → IsTick w at.tick → kind_of w file ≡ Some File → ((old : List ℕ) → length old ≤ 1048576 → length (bytes old) ≤ 1048576)
+IsSound-with_new_bytes : (w : World) (file : ℕ) (bytes : List ℕ → List ℕ) (at : At) → IsSound w → IsTick w at.tick → kind_of w file ≡ Some File → ((old : List ℕ) → length old ≤ w.limits.bytes → length (bytes old) ≤ w.limits.bytes)
     → IsSound (with_new_bytes w file bytes at)
 IsSound-with_new_bytes w file bytes at sound tick is_file fits =
     let f = λ (o : Object). touched at (record o { bytes = bytes o.bytes }) in
@@ -37,7 +37,7 @@ IsSound-with_new_bytes w file bytes at sound tick is_file fits =
     (λ o is fit. record {
       list = fit.list;
       bytes = let kind : o.kind ≡ File = is_kind o (sym (ap (option_map (λ (o : Object). o.kind)) is) ∙ is_file) in
-          subst (λ k. length (bytes o.bytes) ≤ most_bytes k) (sym kind) (fits o.bytes (subst (λ k. length o.bytes ≤ most_bytes k) kind fit.bytes));
+          subst (λ k. length (bytes o.bytes) ≤ most_bytes w.limits k) (sym kind) (fits o.bytes (subst (λ k. length o.bytes ≤ most_bytes w.limits k) kind fit.bytes));
       change = let goal : at.tick < at.tick + 1 = omega arith in goal;
     })
     (IsHeld-later w.objects w.next_number w.next_tick (at.tick + 1) tick.fresh (held_in w sound)) in
@@ -50,6 +50,7 @@ IsSound-with_new_bytes w file bytes at sound tick is_file fits =
       fit = held.fit;
       limited = sound.limited;
       counted = record { numbers = sound.counted.numbers; ticks = (let goal : at.tick + 1 ≤ 2 ^ 63 = omega (arith, tick.left) in goal); stamps = sound.counted.stamps; cookies = sound.counted.cookies };
+      allowed = sound.allowed;
     }
   where
     is_kind : (o : Object) → Some o.kind ≡ Some File → o.kind ≡ File
@@ -64,7 +65,7 @@ KeepsJudged-with_new_bytes w file bytes at = record {
 length-written : (bytes : List ℕ) (offset : ℕ) (more : List ℕ) → length (written bytes offset more) ≡ max (length bytes) (offset + length more)
 length-written bytes offset more = grind (arith, common_steps, length-range_with_len)
 
-pub IsSound-with_bytes : (w : World) (file offset : ℕ) (more : List ℕ) (at : At) → IsSound w → IsTick w at.tick → kind_of w file ≡ Some File → offset + length more ≤ 1048576 → IsSound (with_bytes w file offset more at)
+pub IsSound-with_bytes : (w : World) (file offset : ℕ) (more : List ℕ) (at : At) → IsSound w → IsTick w at.tick → kind_of w file ≡ Some File → offset + length more ≤ w.limits.bytes → IsSound (with_bytes w file offset more at)
 IsSound-with_bytes w file offset more at sound tick is_file short = IsSound-with_new_bytes w file (λ old. written old offset more) at sound tick is_file
     (λ old fits. rw (length-written old offset more) (omega (arith, fits, short)))
 
@@ -72,19 +73,19 @@ pub KeepsJudged-with_bytes : (w : World) (file offset : ℕ) (more : List ℕ) (
 KeepsJudged-with_bytes w file offset more at = KeepsJudged-with_new_bytes w file (λ old. written old offset more) at
 
 -- a file is never too long
-pub short_file : (w : World) → IsSound w → (file : ℕ) → kind_of w file ≡ Some File → length (bytes_of w file) ≤ 1048576
+pub short_file : (w : World) → IsSound w → (file : ℕ) → kind_of w file ≡ Some File → length (bytes_of w file) ≤ w.limits.bytes
 short_file w sound file is_file = there (object w file) refl is_file
   where
-    there : (o : Option Object) → object w file ≡ o → option_map (λ (o : Object). o.kind) o ≡ Some File → length (option_map_or (λ (o : Object). o.bytes) o []) ≤ 1048576
+    there : (o : Option Object) → object w file ≡ o → option_map (λ (o : Object). o.kind) o ≡ Some File → length (option_map_or (λ (o : Object). o.bytes) o []) ≤ w.limits.bytes
     there None at is = cc
-    there (Some o) at is = let kind : o.kind ≡ File = cc in subst (λ k. length o.bytes ≤ most_bytes k) kind (sound.fit file o at).bytes
+    there (Some o) at is = let kind : o.kind ≡ File = cc in subst (λ k. length o.bytes ≤ most_bytes w.limits k) kind (sound.fit file o at).bytes
 
 length-resized : (bytes : List ℕ) (size : ℕ) → length (resized bytes size) ≡ size
 length-resized bytes size = grind (arith, common_steps)
 
-pub IsSound-with_size : (w : World) (file size : ℕ) (at : At) → IsSound w → IsTick w at.tick → kind_of w file ≡ Some File → size ≤ 1048576 → IsSound (with_size w file size at)
+pub IsSound-with_size : (w : World) (file size : ℕ) (at : At) → IsSound w → IsTick w at.tick → kind_of w file ≡ Some File → size ≤ w.limits.bytes → IsSound (with_size w file size at)
 IsSound-with_size w file size at sound tick is_file short = IsSound-with_new_bytes w file (λ old. resized old size) at sound tick is_file
-    (λ old fits. subst (λ n. n ≤ 1048576) (sym (length-resized old size)) short)
+    (λ old fits. subst (λ n. n ≤ w.limits.bytes) (sym (length-resized old size)) short)
 
 pub KeepsJudged-with_size : (w : World) (file size : ℕ) (at : At) → KeepsJudged w (with_size w file size at)
 KeepsJudged-with_size w file size at = KeepsJudged-with_new_bytes w file (λ old. resized old size) at
@@ -96,7 +97,7 @@ abbrev with_new_stamp : World → ℕ → (Object → Object) → At → World
 with_new_stamp w number f at = record w { objects = changed number f w.objects; next_tick = at.tick + 1; next_stamp = w.next_stamp + 1 }
 
 IsSound-with_new_stamp : (w : World) (number : ℕ) (f : Object → Object) (at : At) → IsSound w → IsTick w at.tick → w.next_stamp < 2 ^ 63
-    → ((o : Object) → (f o).kind ≡ o.kind) → ((o : Object) → (f o).stamp ≡ w.next_stamp) → ((o : Object) → IsFit (at.tick + 1) o → IsFit (at.tick + 1) (f o))
+    → ((o : Object) → (f o).kind ≡ o.kind) → ((o : Object) → (f o).stamp ≡ w.next_stamp) → ((o : Object) → IsFit w.limits (at.tick + 1) o → IsFit w.limits (at.tick + 1) (f o))
     → IsSound (with_new_stamp w number f at)
 IsSound-with_new_stamp w number f at sound tick left kind stamp fits =
     let kinds : kind_of (with_new_stamp w number f at) ≡ kind_of w = fun_ext (option_map-changed (λ o. o.kind) number f w.objects kind) in
@@ -114,6 +115,7 @@ IsSound-with_new_stamp w number f at sound tick left kind stamp fits =
       fit = held.fit;
       limited = sound.limited;
       counted = record { numbers = sound.counted.numbers; ticks = (let goal : at.tick + 1 ≤ 2 ^ 63 = omega (arith, tick.left) in goal); stamps = (let goal : w.next_stamp + 1 ≤ 2 ^ 63 = omega (arith, left) in goal); cookies = sound.counted.cookies };
+      allowed = sound.allowed;
     }
 
 KeepsJudged-with_new_stamp : (w : World) (number : ℕ) (f : Object → Object) (at : At) → ((o : Object) → (f o).stamp ≡ w.next_stamp) → KeepsJudged w (with_new_stamp w number f at)

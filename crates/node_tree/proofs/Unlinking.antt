@@ -159,6 +159,7 @@ IsSound-without_name w sound directory name child at tick reads empty =
       fit = held.fit;
       limited = IsLimited-filter _ w.names sound.limited;
       counted = record { numbers = sound.counted.numbers; ticks = (let goal : at.tick + 1 ≤ 2 ^ 63 = omega (arith, tick.left) in goal); stamps = sound.counted.stamps; cookies = sound.counted.cookies };
+      allowed = sound.allowed;
     }
 
 pub KeepsJudged-without_name : (w : World) (directory : ℕ) (name : List ℕ) (child : ℕ) (at : At) → KeepsJudged w (without_name w directory name child at)

@@ -14,6 +14,7 @@ use Rattle.acl_list.specs.declared.entry.Kind.TheVariants.{Directory}
 use Rattle.nfs_types.specs.declared.moment.Moment.{Moment}
 use Rattle.node_tree.specs.declared.at.At.{At}
 use Rattle.node_tree.specs.declared.node.NewObject.{NewObject}
+use Rattle.node_tree.specs.Limits.{Limits}
 use Rattle.node_tree.specs.World.{World, Object, Name, child_named, is_one, is_named, has_name}
 
 -- ---- objects
@@ -75,8 +76,9 @@ abbrev pub root_of : ℕ → ℕ → List Entry → ℕ → Object
 root_of owner group list high = new_object Directory [] owner group list high (record { stamp = 1; at = from_start 1 })
 
 -- a root alone
-abbrev pub alone : Object → World
-alone root = record {
+abbrev pub alone : Limits → Object → World
+alone limits root = record {
+  limits = limits;
   objects = (1, root) ∷ [];
   names = [];
   next_number = 2;

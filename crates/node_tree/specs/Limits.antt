@@ -1,13 +1,9 @@
 -- The limits of a tree.
-use Rattle.std.specs.Prelude.{ℕ}
+use Rattle.std.specs.Prelude.{◌≡◌, ℕ, ◌<◌, ◌≤◌, ◌^◌}
 
 -- the object number of the root
 abbrev pub ROOT : ℕ
 ROOT = 1
-
--- the most bytes of a file
-abbrev pub MAX_BYTES : ℕ
-MAX_BYTES = 1048576
 
 -- the most bytes of a symbolic link's text
 abbrev pub MAX_TEXT : ℕ
@@ -17,14 +13,27 @@ MAX_TEXT = 1024
 abbrev pub MAX_NAME : ℕ
 MAX_NAME = 255
 
--- the most names in a directory
-abbrev pub MAX_NAMES : ℕ
-MAX_NAMES = 4096
+-- the limits that a profile sets
+pub record Limits : Type 0 where
+  -- the most objects in a tree
+  pub objects : ℕ
+  -- the most names in a directory
+  pub names : ℕ
+  -- the most names of an object that isn't a directory
+  pub links : ℕ
+  -- the most bytes of a file
+  pub bytes : ℕ
 
--- the most objects in a tree
-abbrev pub MAX_OBJECTS : ℕ
-MAX_OBJECTS = 16384
+-- the limits of the standard profile
+abbrev pub standard : Limits
+standard = record { objects = 16384; names = 4096; links = 1000; bytes = 1048576 }
 
--- the most names of an object that isn't a directory
-abbrev pub MAX_LINKS : ℕ
-MAX_LINKS = 1000
+-- The limits of a profile. There is room for the root, and no count of bytes wraps.
+pub record IsAllowed (l : Limits) : Type 0 where
+  pub profile : l ≡ standard
+  pub root : 1 ≤ l.objects
+  pub objects : l.objects < 2 ^ 32
+  pub names : l.names < 2 ^ 32
+  pub links : 1 < l.links
+  pub few_links : l.links < 2 ^ 32
+  pub bytes : l.bytes < 2 ^ 62

@@ -6,7 +6,7 @@ use Rattle.std.specs.Option.{option_map_or, option_or}
 use Rattle.acl_list.specs.declared.entry.Kind.{Kind}
 use Rattle.node_tree.specs.declared.fault.TreeFault.{TreeFault}
 use Rattle.node_tree.specs.declared.fault.TreeFault.TheVariants.{Exist, NoEnt, NotEmpty, Inval, FBig, MLink, NoSpc}
-use Rattle.node_tree.specs.Limits.{MAX_BYTES, MAX_NAMES, MAX_OBJECTS, MAX_LINKS}
+use Rattle.node_tree.specs.Limits.{Limits}
 use Rattle.node_tree.specs.World.{World, child_named, is_one, kind_of, name_count, link_count, has_entries, parent_of}
 use Rattle.node_tree.specs.World.{is_directory_in}
 use Rattle.node_tree.specs.Ways.{is_met}
@@ -18,25 +18,25 @@ abbrev pub has_left : ℕ → Bool
 has_left next = nat_lt next (2 ^ 63)
 
 -- whether a directory with `names` names has room for one more
-abbrev pub has_room : ℕ → Bool
-has_room names = nat_lt names MAX_NAMES
+abbrev pub has_room : Limits → ℕ → Bool
+has_room l names = nat_lt names l.names
 
 -- whether there is room for one more object beside `objects` others
-abbrev pub has_object_room : ℕ → Bool
-has_object_room objects = nat_lt objects MAX_OBJECTS
+abbrev pub has_object_room : Limits → ℕ → Bool
+has_object_room l objects = nat_lt objects l.objects
 
 -- whether an object with `links` names may have one more
-abbrev pub may_link : ℕ → Bool
-may_link links = nat_lt links MAX_LINKS
+abbrev pub may_link : Limits → ℕ → Bool
+may_link l links = nat_lt links l.links
 
 -- whether a directory with `names` names may have one more
-abbrev pub may_name : (names next_cookie : ℕ) → Bool
-may_name names next_cookie = has_room names && has_left next_cookie
+abbrev pub may_name : Limits → (names next_cookie : ℕ) → Bool
+may_name l names next_cookie = has_room l names && has_left next_cookie
 
 -- whether a directory with `names` names may have a new object under one more name, beside `objects` other objects
-abbrev pub may_add : (names objects next_number next_stamp next_cookie : ℕ) → Bool
-may_add names objects next_number next_stamp next_cookie =
-    has_room names && has_object_room objects && has_left next_number && has_left next_stamp && has_left next_cookie
+abbrev pub may_add : Limits → (names objects next_number next_stamp next_cookie : ℕ) → Bool
+may_add l names objects next_number next_stamp next_cookie =
+    has_room l names && has_object_room l objects && has_left next_number && has_left next_stamp && has_left next_cookie
 
 -- ---- moves
 
@@ -55,9 +55,9 @@ may_replace kinds has_entries child (Some target) =
 
 -- Whether there is space for a child's new name in a directory with `names` names; the target may be absent. A
 -- directory that loses a name by the move is never too full.
-abbrev pub may_move : (names next_cookie from to : ℕ) → Option ℕ → Bool
-may_move names next_cookie from to None = ((from == to) || has_room names) && has_left next_cookie
-may_move names next_cookie from to (Some target) = has_left next_cookie
+abbrev pub may_move : Limits → (names next_cookie from to : ℕ) → Option ℕ → Bool
+may_move l names next_cookie from to None = ((from == to) || has_room l names) && has_left next_cookie
+may_move l names next_cookie from to (Some target) = has_left next_cookie
 
 -- ---- refusals
 
@@ -65,15 +65,16 @@ may_move names next_cookie from to (Some target) = has_left next_cookie
 abbrev pub add_refusal : World → ℕ → List ℕ → Option TreeFault
 add_refusal w directory name =
     if is_some (child_named w directory name) then Some Exist
-    else if may_add (name_count w.names directory) (length w.objects) w.next_number w.next_stamp w.next_cookie then None
+    else if may_add w.limits (name_count w.names directory) (length w.objects) w.next_number w.next_stamp w.next_cookie
+    then None
     else Some NoSpc
 
 -- LINK
 abbrev pub link_refusal : World → ℕ → List ℕ → ℕ → Option TreeFault
 link_refusal w directory name number =
     if is_some (child_named w directory name) then Some Exist
-    else if not (may_link (link_count w.names number)) then Some MLink
-    else if may_name (name_count w.names directory) w.next_cookie then None
+    else if not (may_link w.limits (link_count w.names number)) then Some MLink
+    else if may_name w.limits (name_count w.names directory) w.next_cookie then None
     else Some NoSpc
 
 -- REMOVE
@@ -102,7 +103,7 @@ plan_refusal w from old to new =
 -- the refusal of a child's new name for space
 abbrev pub space_refusal : World → (from to : ℕ) → Option ℕ → Option TreeFault
 space_refusal w from to target =
-    if may_move (name_count w.names to) w.next_cookie from to target then None else Some NoSpc
+    if may_move w.limits (name_count w.names to) w.next_cookie from to target then None else Some NoSpc
 
 -- RENAME: between two names of one object it takes no space
 abbrev pub rename_refusal : World → ℕ → List ℕ → ℕ → List ℕ → Option TreeFault
@@ -111,10 +112,10 @@ rename_refusal w from old to new =
     (if is_same w from old to new then None else space_refusal w from to (child_named w to new))
 
 -- WRITE
-abbrev pub write_refusal : ℕ → List ℕ → Option TreeFault
-write_refusal offset more =
-    if nat_lt 0 (length more) && nat_lt MAX_BYTES (offset + length more) then Some FBig else None
+abbrev pub write_refusal : Limits → ℕ → List ℕ → Option TreeFault
+write_refusal l offset more =
+    if nat_lt 0 (length more) && nat_lt l.bytes (offset + length more) then Some FBig else None
 
 -- a size is set (SETATTR, OPEN)
-abbrev pub resize_refusal : ℕ → Option TreeFault
-resize_refusal size = if nat_lt MAX_BYTES size then Some FBig else None
+abbrev pub resize_refusal : Limits → ℕ → Option TreeFault
+resize_refusal l size = if nat_lt l.bytes size then Some FBig else None

@@ -11,7 +11,7 @@ use Rattle.acl_list.specs.declared.entry.Kind.TheVariants.{Directory}
 use Rattle.acl_shape.specs.Bounds.{fits}
 use Rattle.node_tree.specs.declared.node.NewObject.{NewObject}
 use Rattle.node_tree.specs.declared.node.Kept.{Kept}
-use Rattle.node_tree.specs.Limits.{ROOT, MAX_NAME, MAX_OBJECTS}
+use Rattle.node_tree.specs.Limits.{ROOT, MAX_NAME, Limits, IsAllowed}
 use Rattle.node_tree.specs.World.{World, Object, Name, object, kind_of, child_named, is_directory_at, has_name}
 use Rattle.node_tree.specs.World.{name_count, link_count, parent_of}
 use Rattle.node_tree.specs.Refusals.{has_room, may_link}
@@ -41,9 +41,10 @@ kept_object new kept = record {
 -- ---- steps
 
 -- no objects and no names
-abbrev pub begun : (next_number next_tick next_stamp next_cookie : ℕ) → Begun
-begun next_number next_tick next_stamp next_cookie = record {
+abbrev pub begun : Limits → (next_number next_tick next_stamp next_cookie : ℕ) → Begun
+begun limits next_number next_tick next_stamp next_cookie = record {
   world = record {
+    limits = limits;
     objects = [];
     names = [];
     next_number = next_number;
@@ -80,28 +81,28 @@ abbrev pub has_stamp : List (ℕ × Object) → ℕ → Bool
 has_stamp objects stamp = list_any (λ e. stamp == e.1.stamp) objects
 
 -- whether the object is within its limits
-abbrev pub is_fit : (next_tick next_stamp : ℕ) → Object → Bool
-is_fit next_tick next_stamp o =
-    nat_le (length o.bytes) (most_bytes o.kind) && fits o.list && nat_lt o.change next_tick && nat_lt o.stamp next_stamp
+abbrev pub is_fit : Limits → (next_tick next_stamp : ℕ) → Object → Bool
+is_fit l next_tick next_stamp o =
+    nat_le (length o.bytes) (most_bytes l o.kind) && fits o.list && nat_lt o.change next_tick && nat_lt o.stamp next_stamp
 
 -- whether an object may come next
 abbrev pub object_fits : Begun → ℕ → Object → Bool
 object_fits b number o =
-    (nat_le b.number number && nat_lt number b.world.next_number && nat_lt (length b.world.objects) MAX_OBJECTS)
-    && (is_fit b.world.next_tick b.world.next_stamp o && not (has_stamp b.world.objects o.stamp))
+    (nat_le b.number number && nat_lt number b.world.next_number && nat_lt (length b.world.objects) b.world.limits.objects)
+    && (is_fit b.world.limits b.world.next_tick b.world.next_stamp o && not (has_stamp b.world.objects o.stamp))
 
 -- whether the object may have one more name: a directory only one
 abbrev pub child_fits : World → ℕ → Bool
 child_fits w child =
     if is_directory_at w child then not (has_name w.names child) else is_some (object w child)
-    && may_link (link_count w.names child)
+    && may_link w.limits (link_count w.names child)
 
 -- whether a name may come next
 abbrev pub name_fits : Begun → Name → Bool
 name_fits b n =
     (nat_le b.cookie n.cookie && nat_lt n.cookie b.world.next_cookie && nat_le (length n.name) MAX_NAME)
     && (not (n.child == ROOT) && child_fits b.world n.child)
-    && (is_directory_at b.world n.directory && has_room (name_count b.world.names n.directory)
+    && (is_directory_at b.world n.directory && has_room b.world.limits (name_count b.world.names n.directory)
     && not (is_some (child_named b.world n.directory n.name)))
 
 -- whether the way up reaches the root in fewer than this number of steps
@@ -137,9 +138,10 @@ pub record IsBegun (w : World) (number cookie : ℕ) (numbers stamps : List ℕ)
   pub listed : Rises (λ n. n.cookie) 3 w.names cookie
   pub numbers_left : number ≤ w.next_number
   pub cookies_left : cookie ≤ w.next_cookie
-  pub few : length w.objects ≤ MAX_OBJECTS
-  pub fit : (number : ℕ) (o : Object) → object w number ≡ Some o → IsFit w.next_tick o
-  pub limited : IsLimited w.names
+  pub few : length w.objects ≤ w.limits.objects
+  pub fit : (number : ℕ) (o : Object) → object w number ≡ Some o → IsFit w.limits w.next_tick o
+  pub limited : IsLimited w.limits w.names
   pub counted : IsCounted w
+  pub allowed : IsAllowed w.limits
   pub numbers_are : numbers ≡ map (λ e. e.0) w.objects
   pub stamps_are : (s : ℕ) → list_any (is_at (nat_cmp s)) stamps ≡ has_stamp w.objects s

@@ -3,7 +3,7 @@ use Rattle.std.specs.Prelude.{ℕ, List, [], ◌∷◌, codes}
 use Rattle.acl_list.specs.declared.entry.Kind.{Kind}
 use Rattle.acl_list.specs.declared.entry.Kind.TheVariants.{File, Directory}
 use Rattle.acl_shape.specs.Mode.{set_mode}
-use Rattle.node_tree.specs.Limits.{ROOT}
+use Rattle.node_tree.specs.Limits.{ROOT, standard}
 use Rattle.node_tree.specs.World.{World, Object}
 use Rattle.node_tree.specs.Changes.{new_object, from_start}
 
@@ -15,6 +15,7 @@ sample_object number kind bytes owner group mode =
 -- modes 0755, 0640 and 0777
 abbrev pub sample : World
 sample = record {
+  limits = standard;
   objects =
       (1, sample_object 1 Directory [] 0 0 0x1ed) ∷ (2, sample_object 2 File (codes "hi") 1001 100 0x1a0)
       ∷ (3, sample_object 3 Directory [] 0 0 0x1ff) ∷ [];

@@ -5,7 +5,7 @@ use Rattle.std.specs.Option.{option_map}
 use Rattle.acl_list.specs.declared.entry.Kind.{Kind}
 use Rattle.acl_list.specs.declared.entry.Kind.TheVariants.{File, Directory, Link}
 use Rattle.acl_shape.specs.Bounds.{IsBounded}
-use Rattle.node_tree.specs.Limits.{ROOT, MAX_BYTES, MAX_TEXT, MAX_NAME, MAX_NAMES, MAX_OBJECTS, MAX_LINKS}
+use Rattle.node_tree.specs.Limits.{ROOT, MAX_TEXT, MAX_NAME, Limits, IsAllowed}
 use Rattle.node_tree.specs.World.{World, Object, Name, object, kind_of, name_count, link_count}
 
 -- the name is one of these
@@ -44,21 +44,21 @@ Rises key low [] high = low ≤ high
 Rises key low (x ∷ xs) high = (low ≤ key x) × Rises key (key x + 1) xs high
 
 -- the most bytes of an object
-abbrev pub most_bytes : Kind → ℕ
-most_bytes File = MAX_BYTES
-most_bytes Directory = 0
-most_bytes Link = MAX_TEXT
+abbrev pub most_bytes : Limits → Kind → ℕ
+most_bytes l File = l.bytes
+most_bytes l Directory = 0
+most_bytes l Link = MAX_TEXT
 
 -- the object is within the limits, and was changed before the next tick
-pub record IsFit (next_tick : ℕ) (o : Object) : Type 0 where
+pub record IsFit (l : Limits) (next_tick : ℕ) (o : Object) : Type 0 where
   pub list : IsBounded o.list
-  pub bytes : length o.bytes ≤ most_bytes o.kind
+  pub bytes : length o.bytes ≤ most_bytes l o.kind
   pub change : o.change < next_tick
 
 -- no directory has too many names, no object has too many, and no name is too long
-pub record IsLimited (names : List Name) : Type 0 where
-  pub directories : (number : ℕ) → name_count names number ≤ MAX_NAMES
-  pub links : (number : ℕ) → link_count names number ≤ MAX_LINKS
+pub record IsLimited (l : Limits) (names : List Name) : Type 0 where
+  pub directories : (number : ℕ) → name_count names number ≤ l.names
+  pub links : (number : ℕ) → link_count names number ≤ l.links
   pub short : (n : Name) → IsIn n names → length n.name ≤ MAX_NAME
 
 -- no counter is above 2 ^ 63
@@ -73,10 +73,11 @@ pub record IsSound (w : World) : Type 0 where
   pub stamped : IsStamped (stamp_of w) w.next_stamp
   pub numbered : Rises (λ e. e.0) ROOT w.objects w.next_number
   pub listed : Rises (λ n. n.cookie) 3 w.names w.next_cookie
-  pub few : length w.objects ≤ MAX_OBJECTS
-  pub fit : (number : ℕ) (o : Object) → object w number ≡ Some o → IsFit w.next_tick o
-  pub limited : IsLimited w.names
+  pub few : length w.objects ≤ w.limits.objects
+  pub fit : (number : ℕ) (o : Object) → object w number ≡ Some o → IsFit w.limits w.next_tick o
+  pub limited : IsLimited w.limits w.names
   pub counted : IsCounted w
+  pub allowed : IsAllowed w.limits
 
 -- The tick of an operation: the next one before its first change, and the last one taken in each further change.
 pub record IsTick (w : World) (tick : ℕ) : Type 0 where

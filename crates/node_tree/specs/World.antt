@@ -13,6 +13,7 @@ use Rattle.acl_list.specs.declared.entry.Kind.{Kind}
 use Rattle.acl_list.specs.declared.entry.Kind.TheVariants as kinds
 use Rattle.acl_shape.specs.Inherited.{is_directory}
 use Rattle.nfs_types.specs.declared.moment.Moment.{Moment}
+use Rattle.node_tree.specs.Limits.{Limits}
 
 pub record Object : Type 0 where
   pub kind : Kind
@@ -37,8 +38,9 @@ pub record Name : Type 0 where
   pub name : List ℕ
   pub child : ℕ
 
--- objects by rising number, and names by rising cookie
+-- objects by rising number, names by rising cookie, and the limits, which never change
 pub record World : Type 0 where
+  pub limits : Limits
   pub objects : List (ℕ × Object)
   pub names : List Name
   pub next_number : ℕ

@@ -36,7 +36,7 @@ impl<A: Allocator> Block<A> {
 
     /// Writes the part of the data that is in the block. The block begins at `first`, and the data at `offset`.
     pub fn write(&mut self, first: usize, offset: usize, more: &[u8])
-        requires few { offset + length more.now < 2 ^ 32 }
+        requires few { offset + length more.now < 2 ^ 63 }
         requires reaches { first < offset + length more.now }
         requires before { offset < first + 4096 }
         ensures { (k : ℕ) → k < 4096 → slice_index self.new k ≡
@@ -124,7 +124,7 @@ fn part(bytes: &[u8], start: usize, end: usize) -> &[u8]
 /// Writes the part of the data that is in a block. The block begins at `first`, and the data at `offset`.
 fn write_part(bytes: &mut [u8], first: usize, offset: usize, more: &[u8])
     requires whole { length bytes.old ≡ 4096 }
-    requires few { offset + length more.now < 2 ^ 32 }
+    requires few { offset + length more.now < 2 ^ 63 }
     requires reaches { first < offset + length more.now }
     requires before { offset < first + 4096 }
     ensures len { length bytes.new ≡ length bytes.old }

@@ -112,7 +112,7 @@ fn write_block<A: Allocator>(
     offset: usize,
     more: &[u8],
 )
-    requires few { offset + length more.now < 2 ^ 32 }
+    requires few { offset + length more.now < 2 ^ 63 }
     requires reaches { number * 4096 < offset + length more.now }
     requires before { offset < number * 4096 + 4096 }
     requires there { is_held blocks.old.entries number ≡ true }
@@ -134,7 +134,7 @@ fn write_blocks<A: Allocator>(
     from: usize,
     to: usize,
 )
-    requires few { offset + length more.now < 2 ^ 32 }
+    requires few { offset + length more.now < 2 ^ 63 }
     requires from { from ≡ offset / 4096 }
     requires to { to ≡ (offset + length more.now - 1) / 4096 + 1 }
     requires some { 0 < length more.now }
@@ -227,7 +227,7 @@ impl<A: Allocator + Copy> Blocks<A> {
 
     /// A file of these bytes. `Err`: an allocation fails.
     pub fn from_slice(alloc: A, bytes: &[u8]) -> Result<Self, AllocError>
-        requires { length bytes.now < 2 ^ 32 }
+        requires { length bytes.now < 2 ^ 63 }
         ensures { IfOk result (λ blocks. blocks ≡ bytes.now) }
     {
         let mut blocks = Blocks::new(alloc);
@@ -237,7 +237,7 @@ impl<A: Allocator + Copy> Blocks<A> {
 
     /// Writes data at an offset, and zeros between the end and it. `Err`: an allocation fails, and nothing has changed.
     pub fn write(&mut self, alloc: A, offset: usize, more: &[u8]) -> Result<(), AllocError>
-        requires { offset + length more.now < 2 ^ 32 }
+        requires { offset + length more.now < 2 ^ 63 }
         ensures ok { OnOk result (self.new ≡ written self.old offset more.now) }
         ensures err { OnErr result (self.new ≡ self.old) }
     {

@@ -1,9 +1,8 @@
 //! The content of an object.
 ghost use Rattle.std.specs.Prelude.{◌≡◌, ◌+◌, ◌<◌, ◌≤◌, ◌^◌, ◌++◌, length, take, drop, OnOk, OnErr, IfOk};
 ghost use Rattle.acl_list.specs.declared.entry.Kind.TheVariants as kinds;
-ghost use Rattle.node_tree.specs.Sound.{most_bytes};
 ghost use Rattle.node_tree.specs.Changes.{written, resized};
-ghost use Rattle.node_tree.specs.Contents.{kind_held, bytes_held};
+ghost use Rattle.node_tree.specs.Contents.{kind_held, bytes_held, most_held};
 
 use crate::blocks::Blocks;
 use acl_list::Kind;
@@ -84,7 +83,7 @@ impl<A: Allocator> Contents<A> {
 impl<A: Allocator + Copy> Contents<A> {
     /// The content of a new object of this type. `Err`: an allocation for the bytes of a file fails.
     pub fn made(alloc: A, kind: Kind, bytes: Vec<u8, A>) -> Result<Self, AllocError>
-        requires { length bytes.items ≤ most_bytes kind }
+        requires { length bytes.items ≤ most_held kind }
         ensures kind { IfOk result (λ contents. kind_held contents ≡ kind) }
         ensures bytes { IfOk result (λ contents. bytes_held contents ≡ bytes.items) }
     {
@@ -98,7 +97,7 @@ impl<A: Allocator + Copy> Contents<A> {
     /// Writes data into a file at an offset, and zeros between the end and it. `Err`: an allocation fails, and nothing
     /// has changed.
     pub fn write(&mut self, alloc: A, offset: usize, more: &[u8]) -> Result<(), AllocError>
-        requires few { offset + length more.now < 2 ^ 32 }
+        requires few { offset + length more.now < 2 ^ 63 }
         requires file { kind_held self.old ≡ kinds.File }
         ensures kind { kind_held self.new ≡ kinds.File }
         ensures ok { OnOk result (bytes_held self.new ≡ written (bytes_held self.old) offset more.now) }

@@ -78,7 +78,7 @@ pub fn write<A: Allocator + Copy>(
     more: &[u8],
     at: At,
 ) -> Result<(), AllocError>
-    requires few { offset + length more.now < 2 ^ 32 }
+    requires few { offset + length more.now < 2 ^ 63 }
     requires file { option_map (λ o. o.kind) (lookup (is_at (nat_cmp number)) objects.old) ≡ Some Kind.File }
     ensures ok { OnOk result (objects.new ≡
         changed number (λ o. touched at (record o { bytes = written o.bytes offset more.now })) objects.old) }

@@ -2,8 +2,8 @@
 ghost use Rattle.std.specs.Prelude.{◌≡◌, ◌+◌, ◌<◌, ◌≤◌, ◌^◌, ◌++◌, length, take, drop, OnOk, OnErr, IfOk};
 ghost use Rattle.acl_list.specs.declared.entry.Kind.TheVariants as kinds;
 ghost use Rattle.acl_shape.specs.Inherited.{is_directory};
-ghost use Rattle.node_tree.specs.Sound.{most_bytes};
 ghost use Rattle.node_tree.specs.Restored.{kept_object};
+ghost use Rattle.node_tree.specs.Contents.{most_held};
 ghost use Rattle.node_tree.specs.Changes.{made, touched, retold, written, resized};
 
 use crate::at::At;
@@ -213,7 +213,7 @@ impl<A: Allocator> Node<A> {
 impl<A: Allocator + Copy> Node<A> {
     /// A new object. `Err`: an allocation for the bytes of a file fails.
     pub(crate) fn made(alloc: A, new: NewObject<A>, stamp: u64, at: At) -> Result<Self, AllocError>
-        requires { length new.bytes.items ≤ most_bytes new.kind }
+        requires { length new.bytes.items ≤ most_held new.kind }
         ensures { IfOk result (λ node. node ≡ made new stamp at) }
     {
         Ok(Node {
@@ -231,7 +231,7 @@ impl<A: Allocator + Copy> Node<A> {
 
     /// An object from a checkpoint. `Err`: an allocation for the bytes of a file fails.
     pub(crate) fn kept(alloc: A, new: NewObject<A>, kept: Kept) -> Result<Self, AllocError>
-        requires { length new.bytes.items ≤ most_bytes new.kind }
+        requires { length new.bytes.items ≤ most_held new.kind }
         ensures { IfOk result (λ node. node ≡ kept_object new kept) }
     {
         Ok(Node {
@@ -256,7 +256,7 @@ impl<A: Allocator + Copy> Node<A> {
         more: &[u8],
         at: At,
     ) -> Result<(), AllocError>
-        requires few { offset + length more.now < 2 ^ 32 }
+        requires few { offset + length more.now < 2 ^ 63 }
         requires file { self.old.kind ≡ kinds.File }
         ensures ok { OnOk result (self.new ≡
             touched at (record self.old { bytes = written self.old.bytes offset more.now })) }

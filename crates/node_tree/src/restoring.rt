@@ -9,7 +9,7 @@ ghost use Rattle.node_tree.specs.Restored.{Begun, begun, kept_object, with_objec
 ghost use Rattle.node_tree.specs.Restored.{object_fits, name_fits, is_whole};
 ghost use Rattle.node_tree.specs.declared.restoring.RestoreFault.TheVariants.{Memory};
 
-use crate::limits::{MAX_NAME, MAX_OBJECTS, ROOT, most_bytes};
+use crate::limits::{Limits, MAX_NAME, ROOT};
 use crate::node::{Kept, NewObject};
 use crate::store::{END, Store};
 use crate::tree::Tree;
@@ -91,26 +91,33 @@ fn list_fits<A: Allocator>(list: &AclList<A>) -> bool
 }
 
 /// Whether an object is within its limits.
-fn is_fit<A: Allocator>(next_tick: u64, next_stamp: u64, new: &NewObject<A>, kept: &Kept) -> bool
-    ensures { result ≡ is_fit next_tick next_stamp (kept_object new.now kept.now) }
+fn is_fit<A: Allocator>(
+    limits: Limits,
+    next_tick: u64,
+    next_stamp: u64,
+    new: &NewObject<A>,
+    kept: &Kept,
+) -> bool
+    ensures { result ≡ is_fit limits next_tick next_stamp (kept_object new.now kept.now) }
 {
-    new.bytes.len() as u64 <= most_bytes(new.kind)
+    new.bytes.len() as u64 <= limits.most_bytes(new.kind)
         && list_fits(&new.list)
         && kept.change < next_tick
         && kept.stamp < next_stamp
 }
 
 impl<A: Allocator + Copy> Restoring<A> {
-    /// Begins with the counters. `None`: no tree has these counters.
+    /// Begins with the limits and the counters. `None`: no tree has these counters.
     pub fn begin(
         alloc: A,
+        limits: Limits,
         next_number: u64,
         next_tick: u64,
         next_stamp: u64,
         next_cookie: u64,
     ) -> Option<Self>
         ensures fit { is_some result ≡ counters_fit next_number next_tick next_stamp next_cookie }
-        ensures value { IfSome result (λ r. r ≡ begun next_number next_tick next_stamp next_cookie) }
+        ensures value { IfSome result (λ r. r ≡ begun limits next_number next_tick next_stamp next_cookie) }
     {
         if !(ROOT <= next_number
             && 3 <= next_cookie
@@ -121,8 +128,16 @@ impl<A: Allocator + Copy> Restoring<A> {
         {
             return None;
         }
+        let _room_for_the_root = limits.objects;
         Some(Restoring {
-            store: Store::empty(alloc, next_number, next_tick, next_stamp, next_cookie),
+            store: Store::empty(
+                alloc,
+                limits,
+                next_number,
+                next_tick,
+                next_stamp,
+                next_cookie,
+            ),
             numbers: Vec::new(alloc),
             stamps: BTreeSet::new(alloc),
             number: ROOT,
@@ -135,8 +150,13 @@ impl<A: Allocator + Copy> Restoring<A> {
         ensures { result ≡ object_fits self.now number (kept_object new.now kept.now) }
     {
         (self.number <= number && number < self.store.next_number() && self.store.has_object_room())
-            && (is_fit(self.store.next_tick(), self.store.next_stamp(), new, kept)
-                && !self.stamps.contains(&kept.stamp))
+            && (is_fit(
+                self.store.limits(),
+                self.store.next_tick(),
+                self.store.next_stamp(),
+                new,
+                kept,
+            ) && !self.stamps.contains(&kept.stamp))
     }
 
     /// Adds an object. Its number is above those before it. `Unsound`: no tree has it together with the parts before

@@ -3,7 +3,7 @@ ghost use Rattle.std.specs.Prelude.{◌≡◌, IfOk, [], codes};
 ghost use Rattle.node_tree.specs.Sample.{sample, sample_object};
 
 use crate::at::from_start;
-use crate::limits::ROOT;
+use crate::limits::{Limits, ROOT};
 use crate::name_table::NameTable;
 use crate::node::{NewObject, Node};
 use crate::node_table::NodeTable;
@@ -61,6 +61,13 @@ impl<A: Allocator + Copy> Store<A> {
         objects.insert(ROOT, directory(alloc, ROOT, 0o755)?)?;
         objects.insert(2, file(alloc)?)?;
         objects.insert(3, directory(alloc, 3, 0o777)?)?;
-        Ok(Store::from_start(alloc, objects, names(alloc)?, 4, 5))
+        Ok(Store::from_start(
+            alloc,
+            Limits::standard(),
+            objects,
+            names(alloc)?,
+            4,
+            5,
+        ))
     }
 }

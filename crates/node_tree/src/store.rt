@@ -10,10 +10,11 @@ ghost use Rattle.std.specs.List.{list_all};
 ghost use Rattle.node_tree.specs.Restored.{kept_object, put_object, put_name, child_fits, climbs_to_root, is_placed};
 ghost use Rattle.node_tree.specs.Parts.{number_after, any_after};
 ghost use Rattle.node_tree.specs.Ways.{is_within};
+ghost use Rattle.node_tree.specs.Contents.{most_held};
 ghost use Rattle.node_tree.specs.Changes.{alone, made, changed, touched, retold, without, released, other_names};
 ghost use Rattle.node_tree.specs.Changes.{written, resized, given_name, with_new, with_link, without_name, with_move};
 ghost use Rattle.node_tree.specs.Changes.{with_bytes, with_size, with_list, with_owner};
-ghost use Rattle.node_tree.specs.Sound.{most_bytes, Rises};
+ghost use Rattle.node_tree.specs.Sound.{Rises};
 ghost use Rattle.node_tree.specs.Refusals.{add_refusal, link_refusal, has_left, has_room, has_object_room, may_link};
 ghost use Rattle.node_tree.specs.Refusals.{may_name, may_add, is_below, may_replace, may_move};
 
@@ -22,7 +23,7 @@ use crate::edits;
 use crate::edits::{move_child, release, retell, touch};
 use crate::entry::DirEntry;
 use crate::fault::TreeFault;
-use crate::limits::{MAX_LINKS, MAX_NAMES, MAX_OBJECTS, ROOT};
+use crate::limits::{Limits, ROOT};
 use crate::name_table::NameTable;
 use crate::node::{Kept, NewObject, Node};
 use crate::node_table::NodeTable;
@@ -37,6 +38,7 @@ pub const END: u64 = 1 << 63;
 #[derive(Debug, Drop)]
 pub struct Store<A: Allocator = Global> {
     alloc: A,
+    limits: Limits,
     objects: NodeTable<A>,
     names: NameTable<A>,
     next_number: u64,
@@ -51,6 +53,7 @@ impl<A: Allocator> Model for Store<A> {
     ghost Value = { World };
 
     ghost view = { λ s. record {
+      limits = s.limits;
       objects = s.objects;
       names = s.names;
       next_number = s.next_number;
@@ -62,6 +65,13 @@ impl<A: Allocator> Model for Store<A> {
 
 // Look-ups.
 impl<A: Allocator + Copy> Store<A> {
+    /// The limits.
+    pub fn limits(&self) -> Limits
+        ensures { result ≡ self.now.limits }
+    {
+        self.limits
+    }
+
     /// The object of a number.
     pub fn object(&self, number: u64) -> Option<&Node<A>>
         ensures { option_copied result ≡ object self.now number }
@@ -168,23 +178,23 @@ impl<A: Allocator + Copy> Store<A> {
 impl<A: Allocator + Copy> Store<A> {
     /// Whether a directory has room for one more name.
     pub fn has_room(&self, directory: u64) -> bool
-        ensures { result ≡ has_room (name_count self.now.names directory) }
+        ensures { result ≡ has_room self.now.limits (name_count self.now.names directory) }
     {
-        self.name_count(directory) < MAX_NAMES
+        self.name_count(directory) < self.limits.names()
     }
 
     /// Whether an object may have one more name.
     pub fn may_link(&self, number: u64) -> bool
-        ensures { result ≡ may_link (link_count self.now.names number) }
+        ensures { result ≡ may_link self.now.limits (link_count self.now.names number) }
     {
-        self.link_count(number) < MAX_LINKS
+        self.link_count(number) < self.limits.links()
     }
 
     /// Whether there is room for one more object.
     pub fn has_object_room(&self) -> bool
-        ensures { result ≡ has_object_room (length self.now.objects) }
+        ensures { result ≡ has_object_room self.now.limits (length self.now.objects) }
     {
-        self.objects.len() < MAX_OBJECTS
+        self.objects.len() < self.limits.objects()
     }
 
     /// Whether the counters have a number, a stamp and a cookie left for one more object.
@@ -204,15 +214,15 @@ impl<A: Allocator + Copy> Store<A> {
 
     /// Whether a directory may have one more name.
     pub fn may_name(&self, directory: u64) -> bool
-        ensures { result ≡ may_name (name_count self.now.names directory) self.now.next_cookie }
+        ensures { result ≡ may_name self.now.limits (name_count self.now.names directory) self.now.next_cookie }
     {
         self.has_room(directory) && self.has_cookie()
     }
 
     /// Whether a directory may have a new object under one more name.
     pub fn may_add(&self, directory: u64) -> bool
-        ensures { result ≡ may_add (name_count self.now.names directory) (length self.now.objects) self.now.next_number
-            self.now.next_stamp self.now.next_cookie }
+        ensures { result ≡ may_add self.now.limits (name_count self.now.names directory) (length self.now.objects)
+            self.now.next_number self.now.next_stamp self.now.next_cookie }
     {
         self.has_room(directory) && self.has_object_room() && self.has_counters()
     }
@@ -286,7 +296,7 @@ impl<A: Allocator + Copy> Store<A> {
 
     /// Whether there is space for a child's new name; its target may be absent.
     pub fn may_move(&self, from: u64, to: u64, target: Option<u64>) -> bool
-        ensures { result ≡ may_move (name_count self.now.names to) self.now.next_cookie from to target }
+        ensures { result ≡ may_move self.now.limits (name_count self.now.names to) self.now.next_cookie from to target }
     {
         match target {
             Some(_) => self.has_cookie(),
@@ -298,23 +308,25 @@ impl<A: Allocator + Copy> Store<A> {
 // Changes.
 impl<A: Allocator + Copy> Store<A> {
     /// A root alone.
-    pub fn new(alloc: A, root: Node<A>) -> Result<Self, AllocError>
-        ensures { IfOk result (λ store. store ≡ alone root) }
+    pub fn new(alloc: A, limits: Limits, root: Node<A>) -> Result<Self, AllocError>
+        ensures { IfOk result (λ store. store ≡ alone limits root) }
     {
         let mut objects = NodeTable::new(alloc);
         objects.insert(ROOT, root)?;
-        Ok(Store::from_start(alloc, objects, NameTable::new(alloc), 2, 3))
+        Ok(Store::from_start(alloc, limits, objects, NameTable::new(alloc), 2, 3))
     }
 
     /// The initial objects. Numbers, ticks and stamps continue from one number.
     pub fn from_start(
         alloc: A,
+        limits: Limits,
         objects: NodeTable<A>,
         names: NameTable<A>,
         next: u64,
         next_cookie: u64,
     ) -> Self
         ensures { result ≡ record {
+          limits = limits;
           objects = objects;
           names = names;
           next_number = next;
@@ -325,6 +337,7 @@ impl<A: Allocator + Copy> Store<A> {
     {
         Store {
             alloc,
+            limits,
             objects,
             names,
             next_number: next,
@@ -346,7 +359,7 @@ impl<A: Allocator + Copy> Store<A> {
         requires numbers { self.old.next_number < 2 ^ 63 }
         requires stamps { self.old.next_stamp < 2 ^ 63 }
         requires cookies { self.old.next_cookie < 2 ^ 63 }
-        requires bytes { length new.bytes.items ≤ most_bytes new.kind }
+        requires bytes { length new.bytes.items ≤ most_held new.kind }
         requires absent { child_named self.old directory name.now ≡ None }
         requires listed { Rises (λ n. n.cookie) 3 self.old.names self.old.next_cookie }
         requires numbered { Rises (λ e. e.0) 1 self.old.objects self.old.next_number }
@@ -459,7 +472,7 @@ impl<A: Allocator + Copy> Store<A> {
     /// Writes bytes into a file, and zeros between its end and them.
     pub fn write(&mut self, file: u64, offset: usize, more: &[u8], at: At) -> Result<(), AllocError>
         requires ticks { at.tick < 2 ^ 63 }
-        requires few { offset + length more.now < 2 ^ 32 }
+        requires few { offset + length more.now < 2 ^ 63 }
         requires file { kind_of self.old file ≡ Some Kind.File }
         ensures ok { OnOk result (self.new ≡ with_bytes self.old file offset more.now at) }
         ensures err { OnErr result (self.new ≡ self.old) }
@@ -507,12 +520,14 @@ impl<A: Allocator + Copy> Store<A> {
     /// No objects and no names.
     pub fn empty(
         alloc: A,
+        limits: Limits,
         next_number: u64,
         next_tick: u64,
         next_stamp: u64,
         next_cookie: u64,
     ) -> Self
         ensures { result ≡ record {
+          limits = limits;
           objects = [];
           names = [];
           next_number = next_number;
@@ -523,6 +538,7 @@ impl<A: Allocator + Copy> Store<A> {
     {
         Store {
             alloc,
+            limits,
             objects: NodeTable::new(alloc),
             names: NameTable::new(alloc),
             next_number,
@@ -553,7 +569,7 @@ impl<A: Allocator + Copy> Store<A> {
         new: NewObject<A>,
         kept: Kept,
     ) -> Result<(), AllocError>
-        requires bytes { length new.bytes.items ≤ most_bytes new.kind }
+        requires bytes { length new.bytes.items ≤ most_held new.kind }
         requires last { Rises (λ e. e.0) 1 self.old.objects number }
         ensures { OnOk result (self.new ≡ put_object self.old number (kept_object new kept)) }
     {

@@ -3,7 +3,7 @@ ghost use Rattle.std.specs.Prelude.{◌≡◌, ◌≢◌, ◌<◌, ◌≤◌, �
 ghost use Rattle.std.specs.Prelude.{OnErr, IfOk, IsOk, IsOkUnless, IfSome, IsSome, Some, true, false};
 ghost use Rattle.std.specs.Option.{option_copied};
 ghost use Rattle.acl_shape.specs.Bounds.{IsBounded};
-ghost use Rattle.node_tree.specs.Limits.{ROOT, MAX_NAME, MAX_LINKS};
+ghost use Rattle.node_tree.specs.Limits.{ROOT, MAX_NAME};
 ghost use Rattle.node_tree.specs.World.{FindsAgain, object, kind_of, bytes_of, bytes_at, child_named, name_after};
 ghost use Rattle.node_tree.specs.World.{has_entries, link_count, parent_of};
 ghost use Rattle.node_tree.specs.Changes.{alone, root_of, made, with_new, with_link, unlinked, renamed, with_write};
@@ -19,7 +19,7 @@ ghost use Rattle.node_tree.specs.Sound.{IsSound, IsTick, IsNextName, most_bytes}
 use crate::at::{At, from_start};
 use crate::entry::DirEntry;
 use crate::fault::TreeFault;
-use crate::limits::{MAX_BYTES, ROOT};
+use crate::limits::{Limits, ROOT};
 use crate::moved::{Move, Plan, is_one};
 use crate::node::{NewObject, Node};
 use crate::store::Store;
@@ -47,6 +47,13 @@ impl<A: Allocator> Model for Tree<A> {
 
 // Look-ups. None allocates memory.
 impl<A: Allocator + Copy> Tree<A> {
+    /// The limits, which never change.
+    pub fn limits(&self) -> Limits
+        ensures { result ≡ self.now.limits }
+    {
+        self.store.limits()
+    }
+
     /// The number of the root.
     pub fn root(&self) -> u64
         ensures number { result ≡ ROOT }
@@ -83,7 +90,7 @@ impl<A: Allocator + Copy> Tree<A> {
     /// The number of names of an object: 0 of the root, 1 of each other directory.
     pub fn links(&self, number: u64) -> usize
         ensures value { result ≡ link_count self.now.names number }
-        ensures few { result ≤ MAX_LINKS }
+        ensures few { result < 2 ^ 32 }
     {
         self.store.link_count(number)
     }
@@ -226,18 +233,20 @@ impl<A: Allocator> Tree<A> {
 
 // Changes. Each allocates first, and a refusal leaves everything unchanged.
 impl<A: Allocator + Copy> Tree<A> {
-    /// A root alone, with an ACL within the bounds of [`acl_shape::is_bounded`]. Its times are the epoch. `Err`: an
+    /// A root alone, under these limits, with an ACL within the bounds of [`acl_shape::is_bounded`]. Its times are the epoch. `Err`: an
     /// allocation fails.
     pub fn new(
         alloc: A,
+        limits: Limits,
         owner: u32,
         group: u32,
         list: AclList<A>,
         high: u32,
     ) -> Result<Self, AllocError>
         requires { IsBounded list }
-        ensures { IfOk result (λ tree. tree ≡ alone (root_of owner group list high)) }
+        ensures { IfOk result (λ tree. tree ≡ alone limits (root_of owner group list high)) }
     {
+        let _room_for_the_root = limits.objects;
         let root = NewObject {
             kind: Kind::Directory,
             bytes: Vec::new(alloc),
@@ -247,11 +256,11 @@ impl<A: Allocator + Copy> Tree<A> {
             high,
         };
         Ok(Tree {
-            store: Store::new(alloc, Node::made(alloc, root, 1, from_start(1))?)?,
+            store: Store::new(alloc, limits, Node::made(alloc, root, 1, from_start(1))?)?,
         })
     }
 
-    /// The sample tree: in the root a file `notes` and a directory `pub`, each with the ACL of its mode. Its times are
+    /// The sample tree, under the limits of the standard profile: in the root a file `notes` and a directory `pub`, each with the ACL of its mode. Its times are
     /// the epoch. `Err`: an allocation fails.
     pub fn sample(alloc: A) -> Result<Self, AllocError>
         ensures { IfOk result (λ tree. tree ≡ sample) }
@@ -266,8 +275,8 @@ impl<A: Allocator + Copy> Tree<A> {
     /// sections 18.4 and 18.16). It takes a number, a stamp and a cookie. The directory's times are set.
     ///
     /// Refused for the first of these reasons. The name is taken, [`TreeFault::Exist`]. The directory has
-    /// [`crate::MAX_NAMES`] names, there are [`crate::MAX_OBJECTS`] objects, or a number, stamp or cookie would be
-    /// 2^63, [`TreeFault::NoSpc`]. An allocation fails, [`TreeFault::Memory`].
+    /// [`Limits::names`] names, there are [`Limits::objects`] objects, or a number, stamp or cookie would be 2^63,
+    /// [`TreeFault::NoSpc`]. An allocation fails, [`TreeFault::Memory`].
     pub fn add(
         &mut self,
         directory: u64,
@@ -279,7 +288,7 @@ impl<A: Allocator + Copy> Tree<A> {
         requires live { kind_of self.old directory ≡ Some Kind.Directory }
         requires short { length name.now ≤ MAX_NAME }
         requires bounded { IsBounded new.list }
-        requires bytes { length new.bytes.items ≤ most_bytes new.kind }
+        requires bytes { length new.bytes.items ≤ most_bytes self.old.limits new.kind }
         ensures refused { MatchOption (add_refusal self.old directory name.now) (IsOkUnless result TreeFault.Memory)
             (λ fault. result ≡ Err fault) }
         ensures number { IfOk result (λ number. number ≡ self.old.next_number) }
@@ -298,7 +307,7 @@ impl<A: Allocator + Copy> Tree<A> {
     /// a cookie. The directory's times are set, and the object's `time_metadata`.
     ///
     /// Refused for the first of these reasons. The name is taken, [`TreeFault::Exist`]. The object has
-    /// [`crate::MAX_LINKS`] names, [`TreeFault::MLink`]. The directory has [`crate::MAX_NAMES`] names, or the cookie
+    /// [`Limits::links`] names, [`TreeFault::MLink`]. The directory has [`Limits::names`] names, or the cookie
     /// would be 2^63, [`TreeFault::NoSpc`]. An allocation fails, [`TreeFault::Memory`].
     pub fn link(
         &mut self,
@@ -385,7 +394,7 @@ impl<A: Allocator + Copy> Tree<A> {
     /// Carries out the move that [`Tree::plan_rename`] returned, in a world in which its facts still hold.
     ///
     /// Refused for the first of these reasons. The new name has no target and is in another directory, which has
-    /// [`crate::MAX_NAMES`] names, or the cookie would be 2^63, [`TreeFault::NoSpc`]. An allocation fails,
+    /// [`Limits::names`] names, or the cookie would be 2^63, [`TreeFault::NoSpc`]. An allocation fails,
     /// [`TreeFault::Memory`].
     pub fn carry_out(&mut self, moved: Move<'_>, at: At) -> Result<(), TreeFault>
         requires tick { IsTick self.old at.tick }
@@ -415,11 +424,11 @@ impl<A: Allocator + Copy> Tree<A> {
     /// Writes data into a file, and zeros between its end and the offset (WRITE: RFC 8881, section 18.32). The file's
     /// times are set. Writing no data changes nothing, at any offset, and allocates no memory.
     ///
-    /// Refused: the data would end above [`crate::MAX_BYTES`], [`TreeFault::FBig`]; [`TreeFault::Memory`].
+    /// Refused: the data would end above [`Limits::bytes`], [`TreeFault::FBig`]; [`TreeFault::Memory`].
     pub fn write(&mut self, file: u64, offset: u64, more: &[u8], at: At) -> Result<(), TreeFault>
         requires tick { IsTick self.old at.tick }
         requires file { kind_of self.old file ≡ Some Kind.File }
-        ensures refused { MatchOption (write_refusal offset more.now) (IsOkUnless result TreeFault.Memory)
+        ensures refused { MatchOption (write_refusal self.old.limits offset more.now) (IsOkUnless result TreeFault.Memory)
             (λ fault. result ≡ Err fault) }
         ensures nothing { more.now ≡ [] → IsOk result }
         ensures ok { OnOk result (self.new ≡ with_write self.old file offset more.now at) }
@@ -429,7 +438,8 @@ impl<A: Allocator + Copy> Tree<A> {
         if more.is_empty() {
             return Ok(());
         }
-        if offset > MAX_BYTES || more.len() as u64 > MAX_BYTES - offset {
+        let most = self.store.limits().bytes();
+        if offset > most || more.len() as u64 > most - offset {
             return Err(TreeFault::FBig);
         }
         self.store.write(file, offset as usize, more, at)?;
@@ -439,19 +449,18 @@ impl<A: Allocator + Copy> Tree<A> {
     /// Sets the size of a file, also to its own size: it is truncated, or zeros are appended (SETATTR, OPEN: RFC 8881,
     /// section 18.30). The file's times are set. It allocates memory only if the file grows.
     ///
-    /// Refused: the size is above [`crate::MAX_BYTES`], [`TreeFault::FBig`]; [`TreeFault::Memory`].
+    /// Refused: the size is above [`Limits::bytes`], [`TreeFault::FBig`]; [`TreeFault::Memory`].
     pub fn resize(&mut self, file: u64, size: u64, at: At) -> Result<(), TreeFault>
         requires tick { IsTick self.old at.tick }
         requires file { kind_of self.old file ≡ Some Kind.File }
-        ensures refused { MatchOption (resize_refusal size) (IsOkUnless result TreeFault.Memory)
+        ensures refused { MatchOption (resize_refusal self.old.limits size) (IsOkUnless result TreeFault.Memory)
             (λ fault. result ≡ Err fault) }
         ensures shrinks { size ≤ length (bytes_of self.old file) → IsOk result }
         ensures ok { OnOk result (self.new ≡ with_size self.old file size at) }
         ensures err { OnErr result (self.new ≡ self.old) }
         ensures judged { KeepsJudged self.old self.new }
     {
-        let _tree = &self.store;
-        if size > MAX_BYTES {
+        if size > self.store.limits().bytes() {
             return Err(TreeFault::FBig);
         }
         self.store.resize(file, size as usize, at);

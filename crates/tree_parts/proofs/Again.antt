@@ -17,7 +17,7 @@ use Rattle.acl_list.specs.declared.entry.Kind.TheVariants.{File, Directory, Link
 use Rattle.acl_shape.specs.Inherited.{is_directory}
 use Rattle.acl_shape.specs.Bounds.{fits, keeps}
 use Rattle.xdr_wire.specs.Xdr.{Value}
-use Rattle.node_tree.specs.Limits.{ROOT, MAX_NAME, MAX_NAMES, MAX_OBJECTS, MAX_LINKS}
+use Rattle.node_tree.specs.Limits.{ROOT, MAX_NAME, Limits, standard}
 use Rattle.node_tree.specs.World.{World, Object, Name, object, kind_of, child_named, is_directory_at, is_named, has_name, name_count, link_count, parent_of}
 use Rattle.node_tree.specs.Refusals.{has_room, may_link}
 use Rattle.node_tree.specs.Sound.{IsIn, Climbs, IsRooted, IsSound, Rises, most_bytes}
@@ -166,7 +166,7 @@ module _ (w : World) (sound : IsSound w) where
   -- the world after some of the objects and names
   abbrev so_far : List (ℕ × Object) → List Name → ℕ → ℕ → Begun
   so_far objects names number cookie = record {
-    world = record { objects = objects; names = names; next_number = w.next_number; next_tick = w.next_tick; next_stamp = w.next_stamp; next_cookie = w.next_cookie };
+    world = record { limits = w.limits; objects = objects; names = names; next_number = w.next_number; next_tick = w.next_tick; next_stamp = w.next_stamp; next_cookie = w.next_cookie };
     number = number;
     cookie = cookie;
   }
@@ -198,16 +198,16 @@ module _ (w : World) (sound : IsSound w) where
       let top : e.0 + 1 ≤ w.next_number = rises_from (λ (e : ℕ × Object). e.0) (e.0 + 1) w.next_number es rises.1 in
       let all : length (before ++ e ∷ es) ≡ length before + length (e ∷ es) = length-append before (e ∷ es) in
       let whole : length (before ++ e ∷ es) ≡ length w.objects = ap length is in
-      let few : length w.objects ≤ 16384 = sound.few in
+      let few : length w.objects ≤ w.limits.objects = sound.few in
       let late : length (e ∷ es) ≡ suc (length es) = refl in
-      and_from (nat_le number e.0 && nat_lt e.0 w.next_number && nat_lt (length before) MAX_OBJECTS) (is_fit w.next_tick w.next_stamp o && not (has_stamp before o.stamp))
-      (and_from (nat_le number e.0 && nat_lt e.0 w.next_number) (nat_lt (length before) MAX_OBJECTS)
+      and_from (nat_le number e.0 && nat_lt e.0 w.next_number && nat_lt (length before) w.limits.objects) (is_fit w.limits w.next_tick w.next_stamp o && not (has_stamp before o.stamp))
+      (and_from (nat_le number e.0 && nat_lt e.0 w.next_number) (nat_lt (length before) w.limits.objects)
       (and_from (nat_le number e.0) (nat_lt e.0 w.next_number) (le-leb number e.0 rises.0) (lt-ltb e.0 w.next_number (omega (arith, top))))
-      (lt-ltb (length before) MAX_OBJECTS (omega (arith, all, whole, few, late))))
-      (and_from (is_fit w.next_tick w.next_stamp o) (not (has_stamp before o.stamp))
-      (and_from (nat_le (length o.bytes) (most_bytes o.kind) && fits o.list && nat_lt o.change w.next_tick) (nat_lt o.stamp w.next_stamp)
-      (and_from (nat_le (length o.bytes) (most_bytes o.kind) && fits o.list) (nat_lt o.change w.next_tick)
-      (and_from (nat_le (length o.bytes) (most_bytes o.kind)) (fits o.list) (le-leb (length o.bytes) (most_bytes o.kind) fit.bytes)
+      (lt-ltb (length before) w.limits.objects (omega (arith, all, whole, few, late))))
+      (and_from (is_fit w.limits w.next_tick w.next_stamp o) (not (has_stamp before o.stamp))
+      (and_from (nat_le (length o.bytes) (most_bytes w.limits o.kind) && fits o.list && nat_lt o.change w.next_tick) (nat_lt o.stamp w.next_stamp)
+      (and_from (nat_le (length o.bytes) (most_bytes w.limits o.kind) && fits o.list) (nat_lt o.change w.next_tick)
+      (and_from (nat_le (length o.bytes) (most_bytes w.limits o.kind)) (fits o.list) (le-leb (length o.bytes) (most_bytes w.limits o.kind) fit.bytes)
       (and_from (nat_le (length o.list) 64) (nat_le (count_by keeps o.list) 59) (le-leb (length o.list) 64 fit.list.all) (le-leb (count_by keeps o.list) 59 fit.list.kept)))
       (lt-ltb o.change w.next_tick fit.change))
       (lt-ltb o.stamp w.next_stamp (sound.stamped.below e.0 o.stamp (ap (option_map (λ (o : Object). o.stamp)) (present before e es is)))))
@@ -231,29 +231,29 @@ module _ (w : World) (sound : IsSound w) where
         let at : m.cookie ≡ n.cookie = ap (λ (n : Name). n.cookie) same in
         omega (arith, less, at)
 
-    one_more_link : link_count before n.child < MAX_LINKS
+    one_more_link : link_count before n.child < w.limits.links
     one_more_link =
         let less : link_count before n.child < link_count (before ++ n ∷ ns) n.child = fewer_in_prefix (λ m. m.child == n.child) before n ns ((Decides-eqb n.child n.child).1 refl) in
         let all : link_count (before ++ n ∷ ns) n.child ≡ link_count w.names n.child = ap (λ (l : List Name). link_count l n.child) is in
-        let most : link_count w.names n.child ≤ 1000 = sound.limited.links n.child in
-        let goal : link_count before n.child < 1000 = omega (arith, less, all, most) in goal
+        let most : link_count w.names n.child ≤ w.limits.links = sound.limited.links n.child in
+        let goal : link_count before n.child < w.limits.links = omega (arith, less, all, most) in goal
 
-    one_more_name : name_count before n.directory < MAX_NAMES
+    one_more_name : name_count before n.directory < w.limits.names
     one_more_name =
         let less : count_by (λ m. m.directory == n.directory) before < count_by (λ m. m.directory == n.directory) (before ++ n ∷ ns) = fewer_in_prefix (λ m. m.directory == n.directory) before n ns ((Decides-eqb n.directory n.directory).1 refl) in
         let all : count_by (λ m. m.directory == n.directory) (before ++ n ∷ ns) ≡ count_by (λ m. m.directory == n.directory) w.names = ap (λ (l : List Name). count_by (λ m. m.directory == n.directory) l) is in
         let a : name_count before n.directory ≡ count_by (λ m. m.directory == n.directory) before = names_counted before n.directory in
         let b : name_count w.names n.directory ≡ count_by (λ m. m.directory == n.directory) w.names = names_counted w.names n.directory in
-        let most : name_count w.names n.directory ≤ 4096 = sound.limited.directories n.directory in
-        let goal : name_count before n.directory < 4096 = omega (arith, less, all, a, b, most) in goal
+        let most : name_count w.names n.directory ≤ w.limits.names = sound.limited.directories n.directory in
+        let goal : name_count before n.directory < w.limits.names = omega (arith, less, all, a, b, most) in goal
 
     child_next : (number cookie : ℕ) → child_fits (so_far w.objects before number cookie).world n.child ≡ true
     child_next number cookie =
-        elim (is_directory_at w n.child) as (λ b. is_directory_at w n.child ≡ b → cond b (not (has_name before n.child)) (is_some (object w n.child) && may_link (link_count before n.child)) ≡ true) [
+        elim (is_directory_at w n.child) as (λ b. is_directory_at w n.child ≡ b → cond b (not (has_name before n.child)) (is_some (object w n.child) && may_link w.limits (link_count before n.child)) ≡ true) [
           | true ↦ λ dir. not_from_false (has_name before n.child) (false_from_ne_true (has_name before n.child) (λ h.
               let r = any_passes (λ m. m.child == n.child) before h in
               another r.name r.present (sound.rooted.one_parent r.name n (earlier r.name r.present) here ((Decides-eqb r.name.child n.child).0 r.passes) (of_kind (kind_of w n.child) dir))))
-          | false ↦ λ _. and_from (is_some (object w n.child)) (may_link (link_count before n.child)) (some_object (object w n.child) (sound.rooted.ends n here).1) (lt-ltb (link_count before n.child) MAX_LINKS one_more_link)
+          | false ↦ λ _. and_from (is_some (object w n.child)) (may_link w.limits (link_count before n.child)) (some_object (object w n.child) (sound.rooted.ends n here).1) (lt-ltb (link_count before n.child) w.limits.links one_more_link)
         ] refl
 
     none_named : not (is_some (child_named (so_far w.objects before 0 0).world n.directory n.name)) ≡ true
@@ -266,7 +266,7 @@ module _ (w : World) (sound : IsSound w) where
         let b = (so_far w.objects before number cookie).world in
         let top : n.cookie + 1 ≤ w.next_cookie = rises_from (λ (n : Name). n.cookie) (n.cookie + 1) w.next_cookie ns rises.1 in
         and_from ((nat_le cookie n.cookie && nat_lt n.cookie w.next_cookie && nat_le (length n.name) MAX_NAME) && (not (n.child == ROOT) && child_fits b n.child))
-        (is_directory_at b n.directory && has_room (name_count before n.directory) && not (is_some (child_named b n.directory n.name)))
+        (is_directory_at b n.directory && has_room w.limits (name_count before n.directory) && not (is_some (child_named b n.directory n.name)))
         (and_from (nat_le cookie n.cookie && nat_lt n.cookie w.next_cookie && nat_le (length n.name) MAX_NAME) (not (n.child == ROOT) && child_fits b n.child)
         (and_from (nat_le cookie n.cookie && nat_lt n.cookie w.next_cookie) (nat_le (length n.name) MAX_NAME)
         (and_from (nat_le cookie n.cookie) (nat_lt n.cookie w.next_cookie) (le-leb cookie n.cookie rises.0) (lt-ltb n.cookie w.next_cookie (omega (arith, top))))
@@ -274,8 +274,8 @@ module _ (w : World) (sound : IsSound w) where
         (and_from (not (n.child == ROOT)) (child_fits b n.child)
         (not_from_false (n.child == ROOT) (false_from_ne_true (n.child == ROOT) (λ h. sound.rooted.root_has_no_name n here ((Decides-eqb n.child ROOT).0 h))))
         (child_next number cookie)))
-        (and_from (is_directory_at b n.directory && has_room (name_count before n.directory)) (not (is_some (child_named b n.directory n.name)))
-        (and_from (is_directory_at b n.directory) (has_room (name_count before n.directory)) (directory_at w n.directory (sound.rooted.ends n here).0) (lt-ltb (name_count before n.directory) MAX_NAMES one_more_name))
+        (and_from (is_directory_at b n.directory && has_room w.limits (name_count before n.directory)) (not (is_some (child_named b n.directory n.name)))
+        (and_from (is_directory_at b n.directory) (has_room w.limits (name_count before n.directory)) (directory_at w n.directory (sound.rooted.ends n here).0) (lt-ltb (name_count before n.directory) w.limits.names one_more_name))
         none_named)
 
   -- ---- all parts
@@ -363,7 +363,7 @@ module _ (w : World) (sound : IsSound w) where
       sound.counted.numbers sound.counted.ticks sound.counted.stamps sound.counted.cookies) in
       record {
         begun = r.begun;
-        taken = (begun w.next_number w.next_tick w.next_stamp w.next_cookie, (fit, refl), r.taken);
+        taken = (begun w.limits w.next_number w.next_tick w.next_stamp w.next_cookie, (fit, ap (λ (l : Limits). begun l w.next_number w.next_tick w.next_stamp w.next_cookie) sound.allowed.profile), r.taken);
         same = r.world;
         whole = ap is_whole r.world ∙ whole;
       }

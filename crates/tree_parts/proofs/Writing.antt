@@ -7,6 +7,7 @@ use Rattle.acl_list.specs.declared.entry.Kind.TheVariants as kinds
 use Rattle.acl_list.specs.declared.entry.Entry.{Entry}
 use Rattle.nfs_types.specs.declared.moment.Moment.{Moment}
 use Rattle.node_tree.specs.World.{World, Object, Name, object, bytes_of}
+use Rattle.node_tree.specs.Limits.{Limits, IsAllowed, standard}
 use Rattle.node_tree.specs.Sound.{IsSound, most_bytes}
 use Rattle.node_tree.specs.Restored.{Begun, with_object, with_name, object_fits, name_fits}
 use Rattle.node_tree.specs.declared.restoring.RestoreFault.{RestoreFault}
@@ -16,10 +17,13 @@ use Rattle.xdr_wire.specs.Xdr.{Value}
 use Rattle.tree_parts.specs.Parts.{object_value, name_value}
 use Rattle.tree_parts.specs.Taken.{Takes}
 
-most : (k : Kind) → most_bytes k ≤ 1048576
-most kinds.File = let goal : 1048576 ≤ 1048576 = omega arith in goal
-most kinds.Directory = let goal : 0 ≤ 1048576 = omega arith in goal
-most kinds.Link = let goal : 1024 ≤ 1048576 = omega arith in goal
+most_standard : (k : Kind) → most_bytes standard k ≤ 1048576
+most_standard kinds.File = let goal : 1048576 ≤ 1048576 = omega arith in goal
+most_standard kinds.Directory = let goal : 0 ≤ 1048576 = omega arith in goal
+most_standard kinds.Link = let goal : 1024 ≤ 1048576 = omega arith in goal
+
+most : (l : Limits) → IsAllowed l → (k : Kind) → most_bytes l k ≤ 1048576
+most l allowed k = subst (λ (l : Limits). most_bytes l k ≤ 1048576) (sym allowed.profile) (most_standard k)
 
 -- the bytes of an object
 bytes_are : (w : World) (number : ℕ) (o : Object) → Some o ≡ object w number → bytes_of w number ≡ o.bytes
@@ -27,8 +31,8 @@ bytes_are w number o is = ap (λ (x : Option Object). option_map_or (λ (o : Obj
 
 pub few_bytes : (w : World) → IsSound w → (number : ℕ) (o : Object) (bytes : List ℕ) → Some o ≡ object w number → bytes ≡ bytes_of w number → length bytes ≤ 1048576
 few_bytes w sound number o bytes is same =
-    let fit : length o.bytes ≤ most_bytes o.kind = (sound.fit number o (sym is)).bytes in
-    let le : most_bytes o.kind ≤ 1048576 = most o.kind in
+    let fit : length o.bytes ≤ most_bytes w.limits o.kind = (sound.fit number o (sym is)).bytes in
+    let le : most_bytes w.limits o.kind ≤ 1048576 = most w.limits sound.allowed o.kind in
     let all : length bytes ≡ length o.bytes = ap length (same ∙ bytes_are w number o is) in
     omega (arith, fit, le, all)
 

@@ -2,13 +2,14 @@
 use Rattle.std.specs.Prelude.{ℕ, ◌≡◌, true, List, [], ◌∷◌, Option, Some, None}
 use Rattle.std.proofs.Common.{inl, inr}
 use Rattle.xdr_wire.specs.Xdr.{Value}
+use Rattle.node_tree.specs.Limits.{standard}
 use Rattle.node_tree.specs.World.{Object, Name}
 use Rattle.node_tree.specs.Restored.{Begun, begun, counters_fit, with_object, with_name, object_fits, name_fits}
 use Rattle.tree_parts.specs.Parts.{part, object_value, name_value}
 
 -- a part that was taken, by the states before it and after it: counters come first, and only once
 abbrev pub Takes : Option Begun → Value part → Begun → Type 0
-Takes None (inl v) new = (counters_fit v.0 v.1.0 v.1.1.0 v.1.1.1 ≡ true) × (new ≡ begun v.0 v.1.0 v.1.1.0 v.1.1.1)
+Takes None (inl v) new = (counters_fit v.0 v.1.0 v.1.1.0 v.1.1.1 ≡ true) × (new ≡ begun standard v.0 v.1.0 v.1.1.0 v.1.1.1)
 Takes None (inr v) new = ⊥
 Takes (Some old) (inl v) new = ⊥
 Takes (Some old) (inr (inl v)) new =

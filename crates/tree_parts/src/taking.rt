@@ -12,7 +12,7 @@ ghost use Rattle.tree_parts.specs.Taken.{Takes};
 use crate::forms::{EntryForm, KindForm};
 use crate::part::{WrittenList, WrittenMoment, WrittenObject, WrittenPart};
 use acl_list::AclList;
-use node_tree::{Kept, Moment, NewObject, RestoreFault, Restoring};
+use node_tree::{Kept, Limits, Moment, NewObject, RestoreFault, Restoring};
 use std::alloc::{AllocError, Allocator};
 
 /// The moment, if it is one.
@@ -117,7 +117,7 @@ pub fn take<A: Allocator + Copy>(
 {
     match (so_far, part) {
         (None, WrittenPart::Counters((number, (tick, (stamp, cookie))))) => {
-            match Restoring::begin(alloc, number, tick, stamp, cookie) {
+            match Restoring::begin(alloc, Limits::standard(), number, tick, stamp, cookie) {
                 Some(restoring) => Ok(restoring),
                 None => Err(RestoreFault::Unsound),
             }

@@ -3,6 +3,7 @@
 use Rattle.std.specs.Prelude.{ℕ, List, [], ◌∷◌}
 use Rattle.acl_list.specs.declared.entry.Kind.{Kind}
 use Rattle.acl_list.specs.declared.entry.Kind.TheVariants.{File, Directory}
+use Rattle.node_tree.specs.Limits.{standard}
 use Rattle.node_tree.specs.World.{World, Object}
 use Rattle.node_tree.specs.Changes.{new_object, from_start}
 
@@ -13,6 +14,7 @@ closed number kind = new_object kind [] 0 0 [] 0 (record { stamp = number; at = 
 -- a root, and in it a file of this name
 abbrev pub with_name : List ℕ → World
 with_name name = record {
+  limits = standard;
   objects = (1, closed 1 Directory) ∷ (2, closed 2 File) ∷ [];
   names = record { cookie = 3; directory = 1; name = name; child = 2 } ∷ [];
   next_number = 3;

@@ -114,7 +114,8 @@ is_own caller wanted =
 
 -- one more name and object are within the limits, and a number, a stamp and a cookie are left for them
 abbrev pub can_add : Sight → ℕ → Bool
-can_add s directory = may_add (names_at s directory) s.object_count s.next_number s.next_stamp s.next_cookie
+can_add s directory =
+    may_add s.limits (names_at s directory) s.object_count s.next_number s.next_stamp s.next_cookie
 
 -- the new object is within the limits, and its access control list (ACL) within its bounds
 abbrev pub can_make : Wanted → Kind → Sight → ℕ → Bool

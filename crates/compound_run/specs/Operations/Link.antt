@@ -16,7 +16,7 @@ use Rattle.compound_run.specs.Meaning.{is_no_directory, is_name, has_no_child, n
 
 -- the last question: there is space for the name
 abbrev pub is_nameable : ℕ → Question
-is_nameable directory = has_space (λ s. may_name (names_at s directory) s.next_cookie)
+is_nameable directory = has_space (λ s. may_name s.limits (names_at s directory) s.next_cookie)
 
 abbrev pub link : List ℕ → Context → FileHandles → Meaning
 link name c h = record {
@@ -28,7 +28,7 @@ link name c h = record {
       ∷ is_name name
       ∷ first_row h (Known kinds.Link name)
       ∷ has_no_child (here h) name
-      ∷ Holds (λ s. may_link (s.links (there h))) statuses.MLink tt
+      ∷ Holds (λ s. may_link s.limits (s.links (there h))) statuses.MLink tt
       ∷ is_nameable (here h)
       ∷ []));
   answer = λ s. Done kinds.Link (changed s (here h));

@@ -22,6 +22,7 @@ use Rattle.nfs_ops.specs.Parts.{open_owner, how_of, claim_of, set_of, values_of}
 use Rattle.nfs_ops.specs.declared.OpKind.TheVariants as kinds
 use Rattle.nfs_ops.specs.Rows.{row}
 use Rattle.nfs_ops.specs.Results.{Done}
+use Rattle.node_tree.specs.Limits.{Limits}
 use Rattle.node_tree.specs.World.{World}
 use Rattle.node_tree.specs.Changes.{resized, with_new, with_size}
 use Rattle.node_tree.specs.Refusals.{has_left}
@@ -238,9 +239,9 @@ abbrev pub is_permitted : Context → Value open_args → Option ℕ → Bool
 is_permitted c v None = is_own c.caller (wanted c v)
 is_permitted c v (Some file) = true
 
-abbrev pub is_within : Context → Value open_args → Option ℕ → Bool
-is_within c v None = size_fits (wanted c v).size
-is_within c v (Some file) = true
+abbrev pub is_within : Limits → Context → Value open_args → Option ℕ → Bool
+is_within limits c v None = size_fits limits (wanted c v).size
+is_within limits c v (Some file) = true
 
 -- there is space for a new file; a truncation takes a tick
 abbrev pub has_file_space : Context → Value open_args → ℕ → Option ℕ → Sight → Bool
@@ -258,7 +259,7 @@ has_space_for c v directory file s = has_file_space c v directory file s && has_
 abbrev pub last_questions : Value open_args → Context → FileHandles → List Question
 last_questions v c h =
     Holds (λ s. is_permitted c v (found v h s)) statuses.Perm tt
-    ∷ Holds (λ s. is_within c v (found v h s)) statuses.FBig tt
+    ∷ Holds (λ s. is_within s.limits c v (found v h s)) statuses.FBig tt
     ∷ Holds (λ s. has_space_for c v (here h) (found v h s) s) statuses.NoSpc tt
     ∷ []
 

@@ -42,7 +42,7 @@ can_replace s child target = may_replace s.kinds s.has_entries child target
 
 -- there is space for the name
 abbrev pub can_move : Sight → ℕ → ℕ → Option ℕ → Bool
-can_move s from to target = may_move (names_at s to) s.next_cookie from to target
+can_move s from to target = may_move s.limits (names_at s to) s.next_cookie from to target
 
 -- the change attributes of both directories, which stay if the names belong to one object
 abbrev pub changes : FileHandles → Value rename_args → Sight → Value change_info × Value change_info

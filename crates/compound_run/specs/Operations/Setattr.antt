@@ -18,6 +18,7 @@ use Rattle.nfs_ops.specs.declared.OpKind.TheVariants as kinds
 use Rattle.nfs_ops.specs.Rows.{row}
 use Rattle.nfs_ops.specs.Results.{Done}
 use Rattle.node_tree.specs.declared.at.At.{At}
+use Rattle.node_tree.specs.Limits.{Limits}
 use Rattle.node_tree.specs.World.{World, Object, object, kind_of}
 use Rattle.node_tree.specs.Changes.{with_size, with_list, with_owner}
 use Rattle.node_tree.specs.Refusals.{has_left, resize_refusal}
@@ -81,9 +82,9 @@ size_may (Some size) c number id s = of (is_file (kind_at s number)) _ (stateid_
     of false fault may = tt
 
 -- the size is within the limit of a file
-abbrev pub size_fits : Option ℕ → Bool
-size_fits None = true
-size_fits (Some size) = is_none (resize_refusal size)
+abbrev pub size_fits : Limits → Option ℕ → Bool
+size_fits limits None = true
+size_fits limits (Some size) = is_none (resize_refusal limits size)
 
 -- ---- the counters
 
@@ -146,7 +147,7 @@ setattr v c h = record {
       ∷ Valid (λ s. size_fault (wanted_on c v (here h) s).size c (here h) (set_stateid v) s)
       (λ s. size_may (wanted_on c v (here h) s).size c (here h) (set_stateid v) s)
       ∷ sized_row h (Known kinds.SetAttr v) (λ s. (wanted_on c v (here h) s).size)
-      ∷ Holds (λ s. size_fits (wanted_on c v (here h) s).size) statuses.FBig tt
+      ∷ Holds (λ s. size_fits s.limits (wanted_on c v (here h) s).size) statuses.FBig tt
       ∷ Holds (λ s. has_space_to_set (wanted_on c v (here h) s) (here h) s) statuses.NoSpc tt
       ∷ []);
   answer = λ s. Done kinds.SetAttr (set_of (set_attributes v));

@@ -10,6 +10,7 @@ use Rattle.nfs_ops.specs.declared.OpKind.TheVariants as kinds
 use Rattle.nfs_ops.specs.Rows.{row}
 use Rattle.nfs_ops.specs.Results.{Done}
 use Rattle.nfs_ops.specs.Views.{zeros_value}
+use Rattle.node_tree.specs.Limits.{Limits}
 use Rattle.node_tree.specs.Changes.{with_write}
 use Rattle.node_tree.specs.Refusals.{has_left, write_refusal}
 use Rattle.compound_run.specs.declared.filehandles.FileHandles.{FileHandles}
@@ -22,8 +23,8 @@ use Rattle.compound_run.specs.Rows.{sized_row}
 use Rattle.compound_run.specs.Meaning.{Meaning, at, in_world, with_handle, here, is_no_directory, is_no_link}
 
 -- the bytes end within the limit of a file
-abbrev pub fits : ℕ → List ℕ → Bool
-fits offset more = is_none (write_refusal offset more)
+abbrev pub fits : Limits → ℕ → List ℕ → Bool
+fits limits offset more = is_none (write_refusal limits offset more)
 
 -- a tick is left for the bytes; writing none takes no tick
 abbrev pub has_tick_for : List ℕ → Sight → Bool
@@ -38,7 +39,7 @@ write v c h = record {
       ∷ is_no_link (here h)
       ∷ has_stateid ToWrite c (here h) (write_stateid v)
       ∷ sized_row h (Known kinds.Write v) (λ s. None)
-      ∷ Holds (λ s. fits (write_offset v) (written_bytes v)) statuses.FBig tt
+      ∷ Holds (λ s. fits s.limits (write_offset v) (written_bytes v)) statuses.FBig tt
       ∷ Holds (λ s. has_tick_for (written_bytes v) s) statuses.NoSpc tt
       ∷ []);
   -- all bytes, as stable as FILE_SYNC4

@@ -1,6 +1,6 @@
 //! Parts of a tree, and the tree that is restored from them.
 use acl_list::{AclList, Kind};
-use node_tree::{Kept, Moment, NewObject, ROOT, RestoreFault, Restoring, Tree};
+use node_tree::{Kept, Limits, Moment, NewObject, ROOT, RestoreFault, Restoring, Tree};
 use std::alloc::Allocator;
 
 const AT: Moment = Moment {
@@ -39,7 +39,7 @@ fn restore<A: Allocator + Copy>(
     objects: &[(u64, Kind)],
     names: &[(u64, u64, u64)],
 ) -> Result<Option<Tree<A>>, RestoreFault> {
-    let Some(mut restoring) = Restoring::begin(alloc, 20, 10, 30, 40) else {
+    let Some(mut restoring) = Restoring::begin(alloc, Limits::standard(), 20, 10, 30, 40) else {
         return Ok(None);
     };
     for (number, kind) in objects {

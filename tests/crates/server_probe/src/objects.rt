@@ -5,7 +5,7 @@ ghost use Rattle.node_tree.specs.Sound.{IsTick};
 
 use acl_list::{AclList, Entry, EntryKind, Kind, Who};
 use acl_shape::is_bounded;
-use node_tree::{At, EPOCH, NewObject, Tree, TreeFault};
+use node_tree::{At, EPOCH, Limits, NewObject, Tree, TreeFault};
 use std::alloc::{Allocator, Global};
 use std::test::Fail;
 
@@ -84,7 +84,7 @@ fn root<A: Allocator + Copy>(alloc: A, list: &[Entry]) -> Result<Tree<A>, TreeFa
     if !is_bounded(&list) {
         return Err(TreeFault::NoSpc);
     }
-    Ok(Tree::new(alloc, 0, 0, list, 0)?)
+    Ok(Tree::new(alloc, Limits::standard(), 0, 0, list, 0)?)
 }
 
 /// A root of owner 0 and group 0 with the ACL of these ACEs as text.

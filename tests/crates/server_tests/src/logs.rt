@@ -6,7 +6,7 @@ use compound_run::ClientState;
 use log_entries::{CallEntry, Entries, Entry, count_entries};
 use nfs_hub::{Hub, ReplayFault, Restart};
 use nfs_types::Moment;
-use node_tree::Tree;
+use node_tree::{Limits, Tree};
 use std::alloc::{AllocError, Global};
 use std::hash::RandomState;
 use std::test::Fail;
@@ -102,7 +102,7 @@ fn restart(alloc: Global, hasher: RandomState) -> Result<Restart, Fail> {
         list: None,
     };
     let made = created_permissions(alloc, &AclList::new(alloc), Kind::Directory, given)?;
-    let root = Tree::new(alloc, 0, 0, made.list, made.high)?;
+    let root = Tree::new(alloc, Limits::standard(), 0, 0, made.list, made.high)?;
     match Restart::over(
         alloc,
         alloc,

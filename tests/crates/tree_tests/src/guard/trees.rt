@@ -4,7 +4,7 @@ use crate::guard::entries::entry;
 use access_guard::{Decision, Demand, FIRST_EPOCH, Guard, GuardedTree};
 use acl_list::{AclList, Entry, Kind};
 use acl_shape::is_bounded;
-use node_tree::{At, EPOCH, NewObject, Tree, TreeFault};
+use node_tree::{At, EPOCH, Limits, NewObject, Tree, TreeFault};
 use rpc_record::Caller;
 use std::alloc::{AllocError, Allocator, Global};
 use std::hash::RandomState;
@@ -89,7 +89,7 @@ fn root<A: Allocator + Copy>(alloc: A, list: &[Entry]) -> Result<Tree<A>, TreeFa
     if !is_bounded(&list) {
         return Err(TreeFault::NoSpc);
     }
-    Ok(Tree::new(alloc, 0, 0, list, 0)?)
+    Ok(Tree::new(alloc, Limits::standard(), 0, 0, list, 0)?)
 }
 
 fn add<A: Allocator + Copy>(

@@ -3,7 +3,7 @@
 use crate::tree::acting::{Outcome, add, link, rename, resize, set_owner, unlink, write};
 use crate::tree::plain::{Label, Named, Plain};
 use acl_shape::is_bounded;
-use node_tree::{AclList, Kind, Tree};
+use node_tree::{AclList, Kind, Limits, Tree};
 use std::alloc::{AllocError, Global};
 use std::process::Abort;
 use std::test::Fail;
@@ -309,7 +309,7 @@ fn empty(alloc: Global) -> Result<Tree<Global>, AllocError> {
     if !is_bounded(&list) {
         return Err(AllocError);
     }
-    Tree::new(alloc, 0, 0, list, 0)
+    Tree::new(alloc, Limits::standard(), 0, 0, list, 0)
 }
 
 /// A hundred calls, and the number of those that are refused.

@@ -1,13 +1,16 @@
-use Rattle.std.proofs.Common.{◌≡◌, ◌∙◌, ◌<◌, ◌≤◌, ◌^◌, true, sym, subst, ap, arith}
+use Rattle.std.proofs.Common.{◌≡◌, ◌∙◌, ◌<◌, ◌≤◌, ◌^◌, true, sym, subst, ap, arith, length}
 use Rattle.std.specs.List.{list_any}
 use Rattle.std.specs.Ordering.{nat_cmp}
 use Rattle.std.specs.BTreeMap.{is_at}
 use Rattle.node_tree.specs.Restored.{Begun, kept_object, object_fits}
+use Rattle.node_tree.proofs.Holding.{most_is_held}
 use Rattle.node_tree.proofs.Restorable.{may_put, IsBegun-object, one_stamp_more, Rises-later}
 use Rattle.node_tree.proofs.restoring.Restoring.object.Goals as goal
 
 pub put_object-requires-clause-bytes : goal.put_object-requires-clause-bytes
-put_object-requires-clause-bytes g c = (may_put c.args.self c.args.number (kept_object c.args.new c.args.kept) (sym c.if-not-object_fits.ensures)).fit.bytes
+put_object-requires-clause-bytes g c =
+    let may = may_put (record { world = c.self.inside.store; number = c.self.inside.number; cookie = c.self.inside.cookie }) c.args.number (kept_object c.args.new c.args.kept) (subst (λ (b : Begun). object_fits b c.args.number (kept_object c.args.new c.args.kept) ≡ true) (sym c.self.view_is) (sym c.if-not-object_fits.ensures)) in
+    most_is_held c.self.inside.store.limits c.self.invariant.allowed c.args.new.kind (length c.args.new.bytes.items) may.fit.bytes
 
 pub put_object-requires-clause-last : goal.put_object-requires-clause-last
 put_object-requires-clause-last g c =
