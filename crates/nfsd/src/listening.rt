@@ -18,7 +18,7 @@ use who_book::Book;
 /// Opens the file of the trail, if the options name one.
 pub(crate) fn open_trail<'a, R: Files + Alloc + Clock>(
     rt: &'a R,
-    options: &'a Options<'a>,
+    options: &Options<'a>,
 ) -> Result<Option<TrailFile<'a, R>>, Fault> {
     let Some(path) = options.trail else {
         return Ok(None);

@@ -77,7 +77,12 @@ struct Opened<F> {
 pub(crate) struct TrailFile<'a, R: Files> {
     rt: &'a R,
     path: &'a str,
-    options: &'a Options<'a>,
+    /// The name of the book's file, which the trail can't be kept in.
+    book: Option<&'a str>,
+    /// Each line begins with its time.
+    is_stamped: bool,
+    /// A file that is made is only for its owner.
+    is_private: bool,
     /// The file that is written.
     id: FileId,
     keeper: TrailKeeper<Watched<Bounded<R::File>>>,
@@ -118,13 +123,6 @@ fn is_same_file<R: Files>(rt: &R, path: &str, other: &str) -> bool {
         Ok(answer) => is_at(rt, path, &id_of(&answer)),
         Err(_) => false,
     }
-}
-
-/// Whether a name refers to the file of the book.
-fn is_of_book<R: Files>(rt: &R, path: &str, options: &Options<'_>) -> bool {
-    options
-        .book
-        .is_some_and(|book| is_same_file(rt, book, path))
 }
 
 /// Whether a name refers to a file of the store in a folder.
@@ -168,19 +166,18 @@ fn open_at<R: Files + Alloc>(rt: &R, path: &str, is_private: bool) -> io::Result
     })
 }
 
-/// Opens the file of a trail, unless it is the file of the book. In a home it is made only for its owner.
+/// Opens the file of a trail, unless it is the file of the book.
 fn open_trail<R: Files + Alloc>(
     rt: &R,
     path: &str,
-    options: &Options<'_>,
+    book: Option<&str>,
+    is_private: bool,
 ) -> Result<Opened<R::File>, TrailFault> {
-    match open_at(rt, path, options.home.is_some()) {
-        Err(_) if is_of_book(rt, path, options) => Err(TrailFault::Book),
-        Err(error) => Err(TrailFault::Unopened(error)),
-        Ok(opened) => match options.book {
-            Some(book) if is_at(rt, book, &opened.id) => Err(TrailFault::Book),
-            _ => Ok(opened),
-        },
+    match (open_at(rt, path, is_private), book) {
+        (Ok(opened), Some(book)) if is_at(rt, book, &opened.id) => Err(TrailFault::Book),
+        (Ok(opened), _) => Ok(opened),
+        (Err(_), Some(book)) if is_same_file(rt, book, path) => Err(TrailFault::Book),
+        (Err(error), _) => Err(TrailFault::Unopened(error)),
     }
 }
 
@@ -197,11 +194,11 @@ impl<R: Files> TrailFile<'_, R> {
 
 impl<'a, R: Files + Alloc + Clock> TrailFile<'a, R> {
     /// Opens the file, ends its last line, and writes the line of a start if lines have their times. A file of the
-    /// book or of the store is refused.
+    /// book or of the store is refused. In a home the file is made only for its owner.
     pub(crate) fn start(
         rt: &'a R,
         path: &'a str,
-        options: &'a Options<'a>,
+        options: &Options<'a>,
     ) -> Result<Self, TrailFault> {
         if options
             .store
@@ -209,11 +206,14 @@ impl<'a, R: Files + Alloc + Clock> TrailFile<'a, R> {
         {
             return Err(TrailFault::Store);
         }
-        let Opened { file, id } = open_trail(rt, path, options)?;
+        let is_private = options.home.is_some();
+        let Opened { file, id } = open_trail(rt, path, options.book, is_private)?;
         let mut trail = TrailFile {
             rt,
             path,
-            options,
+            book: options.book,
+            is_stamped: options.stamped,
+            is_private,
             id,
             keeper: TrailKeeper::new(file),
             fault: None,
@@ -230,7 +230,7 @@ impl<'a, R: Files + Alloc + Clock> TrailFile<'a, R> {
         if !self.keeper.end_line(last_byte(self.rt, self.path)) {
             return false;
         }
-        if !self.options.stamped {
+        if !self.is_stamped {
             return true;
         }
         self.keeper.start(&moment_text(second(self.rt)))
@@ -245,7 +245,7 @@ impl<'a, R: Files + Alloc + Clock> TrailFile<'a, R> {
         if !self.follow() {
             return false;
         }
-        if self.options.stamped {
+        if self.is_stamped {
             self.keeper.keep_after(guard, &moment_text(second(self.rt)))
         } else {
             self.keeper.keep(guard)
@@ -259,7 +259,7 @@ impl<'a, R: Files + Alloc + Clock> TrailFile<'a, R> {
 
     /// Opens the file that the name refers to now, and continues with it.
     fn open_anew(&mut self) -> bool {
-        match open_trail(self.rt, self.path, self.options) {
+        match open_trail(self.rt, self.path, self.book, self.is_private) {
             Ok(opened) => self.go_on(opened),
             Err(fault) => {
                 self.fault = Some(fault);
