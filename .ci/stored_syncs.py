@@ -5,13 +5,14 @@ import re
 import shutil
 import subprocess
 import sys
+import time
 
 from stored_bits import close_by_another
 from stored_bytes import content_of_file, counting, files_of, lay
-from stored_lab import NFS_OK, PATIENCE, free_port, Gone, held, nfstore, Peer, picture, see, Server, stop
+from stored_lab import NFS_OK, PATIENCE, free_port, Gone, held, HomeServer, nfstore, Peer, picture, see, Server, stop
 
 # a call of the system as strace says it: its name, the file or the first name that it is of, and what it gave
-CALL = re.compile(r'\d+ +(\w+)\((?:AT_FDCWD<[^>]*>, )?(?:\d+<([^>]*)>|"([^"]*)").*\) += (-?\d+)')
+CALL = re.compile(r'\d+ +(?:\d+\.\d+ +)?(\w+)\((?:AT_FDCWD<[^>]*>, )?(?:\d+<([^>]*)>|"([^"]*)").*\) += (-?\d+)')
 # the number of bytes and the place of a write
 WRITTEN = re.compile(r", (\d+), (\d+)\) += ")
 
@@ -44,6 +45,27 @@ def new_home(room, _):
         for made, within in ((home, place), (f"{home}/store", home)):
             at = next(number for number, (call, path) in enumerate(done) if call.startswith("mkdir") and path == made)
             see(f"the folder of {made} is synced after it was made", ("fsync", within) in done[at:], True)
+    return None
+
+
+def lines_synced(room, _):
+    """The line of a start is synced within about a second, while nobody calls. Where it can't be synced the server ends."""
+    if not shutil.which("strace"):
+        return "no strace, so no sync was looked at"
+    home, log = f"{room}/lines", f"{room}/lines.log"
+    server = HomeServer(home, under=traced(log, "-ttt", "-e", "trace=write,fdatasync"))
+    time.sleep(2.5)
+    server.ran.terminate()
+    server.ran.wait(timeout=PATIENCE)
+    moments = {}
+    for name, path, line in calls_in(log):
+        if os.path.basename(path) == "trail.txt":
+            moments.setdefault(name, []).append(float(re.match(r"\d+ +(\d+\.\d+)", line)[1]))
+    see("how often a line was written, and synced", {name: len(found) for name, found in moments.items()}, {"write": 1, "fdatasync": 1})
+    see("whether it was synced in time", 0 <= moments["fdatasync"][0] - moments["write"][0] < 1.5, True)
+    how = ("-e", "trace=fdatasync", "-P", f"{home}/trail.txt", "-e", "inject=fdatasync:error=EIO")
+    server = HomeServer(home, under=traced(log, *how))
+    server.ends(f"nfsd: trail\n{home}/trail.txt: it can't be synced: Input/output error (os error 5)\n")
     return None
 
 

@@ -48,7 +48,7 @@ def copied(proof):
     with tempfile.TemporaryDirectory(prefix="zoclesavory-", ignore_cleanup_errors=True) as room:
         for part in PARTS:
             if os.path.isdir(f"{TOP}/{part}"):
-                shutil.copytree(f"{TOP}/{part}", f"{room}/{part}", symlinks=True, ignore=shutil.ignore_patterns("out"))
+                shutil.copytree(f"{TOP}/{part}", f"{room}/{part}", ignore=shutil.ignore_patterns("out"))
             elif os.path.exists(f"{TOP}/{part}"):
                 shutil.copy2(f"{TOP}/{part}", f"{room}/{part}")
         write_record(room, f"{commit()}, {proof}")

@@ -16,9 +16,9 @@ pub is_servers : {A : Type 0} (book : Content) (result : Result Content Unloaded
 is_servers book result old new (inl (logs, is, stays)) loaded = absurd (loaded (record { fault = fault.Memory; book = book }) is refl)
 is_servers book result old new (inr gives) loaded =
     elim (next_epoch old.service.state.settings.epoch) as (λ e.
-        MatchOption e ((result ≡ Err (record { fault = fault.Exhausted; book = book })) × IsUnchanged old new)
-        (λ epoch. (result ≡ Ok old.service.state.settings.book) × (new.service.state ≡ with_book book old.service.state))
-        → MatchOption e (Unit {0}) (λ epoch. new.service.state ≡ with_book book old.service.state)) [
+    MatchOption e ((result ≡ Err (record { fault = fault.Exhausted; book = book })) × IsUnchanged old new)
+    (λ epoch. (result ≡ Ok old.service.state.settings.book) × (new.service.state ≡ with_book book old.service.state))
+    → MatchOption e (Unit {0}) (λ epoch. new.service.state ≡ with_book book old.service.state)) [
       | None ↦ λ _. tt
       | Some epoch ↦ λ h. h.1
     ] gives

@@ -18,7 +18,7 @@ use who_book::Book;
 /// Opens the file of the trail, if the options name one.
 pub(crate) fn open_trail<'a, R: Files + Alloc + Clock>(
     rt: &'a R,
-    options: &'a Options<'a>,
+    options: &Options<'a>,
 ) -> Result<Option<TrailFile<'a, R>>, Fault> {
     let Some(path) = options.trail else {
         return Ok(None);
@@ -56,6 +56,9 @@ fn outcome<R: Files + Alloc + Eprint + Clock>(
     match end {
         AllEnd::Served => Ok(served.are_whole()),
         AllEnd::Turns => Ok(ended(rt, ServeEnd::Turns)),
+        AllEnd::Wait | AllEnd::Store if served.has_trail_fault() => {
+            Err(Fault::Trail(served.take_trail_fault()))
+        }
         AllEnd::Wait => Err(Fault::Waiting(served.take_wait_failure())),
         AllEnd::Keep => Err(Fault::Trail(served.take_trail_fault())),
         AllEnd::Store => Err(served.store_stop()),

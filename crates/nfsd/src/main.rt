@@ -17,6 +17,7 @@ mod sockets;
 mod stored;
 mod streams;
 mod trail_file;
+mod trail_sync;
 mod words;
 
 use anyhow::Result;

@@ -100,6 +100,11 @@ impl<'a, R: Files + Eprint> Served<'a, R> {
         self.sockets.as_mut()?.take_failure()
     }
 
+    /// Whether the trail can't be kept any more.
+    pub(crate) fn has_trail_fault(&self) -> bool {
+        self.trail.as_ref().is_some_and(|trail| trail.has_fault())
+    }
+
     /// Why the trail can't be kept any more.
     pub(crate) fn take_trail_fault(&mut self) -> TrailFault {
         match self.trail.take() {
@@ -134,7 +139,34 @@ impl<R: Files + Net + Alloc + Print + Eprint + Clock> Served<'_, R> {
     }
 }
 
-/// The files of the store. Without a store each call fails.
+impl<R: Files> Served<'_, R> {
+    /// Syncs the lines of a home's trail. `false`: they can't be synced.
+    fn sync_trail(&mut self) -> bool {
+        match &mut self.trail {
+            Some(trail) => trail.sync(),
+            None => true,
+        }
+    }
+}
+
+impl<R: Files + Alloc + Clock> Served<'_, R> {
+    /// Syncs the lines of a home's trail that are of an earlier second. Returns how long a wait may take: at most a
+    /// second while lines aren't synced. `None`: they can't be synced.
+    fn settle_trail(&mut self, how: Wait) -> Option<Wait> {
+        let Some(trail) = &mut self.trail else {
+            return Some(how);
+        };
+        if !trail.sync_old() {
+            return None;
+        }
+        if how == Wait::Event && trail.is_due() {
+            return Some(Wait::Second);
+        }
+        Some(how)
+    }
+}
+
+/// The files of the store. Without a store each call fails. The trail of a home is synced before the store is.
 impl<R: Files> Disk for Served<'_, R> {
     fn load_current<A: Allocator>(&mut self, alloc: A) -> Result<Option<Vec<u8, A>>, LoadFault> {
         match &mut self.folder {
@@ -158,6 +190,9 @@ impl<R: Files> Disk for Served<'_, R> {
     }
 
     fn sync(&mut self, slot: Slot) -> bool {
+        if !self.sync_trail() {
+            return false;
+        }
         match &mut self.folder {
             Some(folder) => folder.sync(slot),
             None => false,
@@ -176,6 +211,9 @@ impl<R: Files + Alloc + Eprint + Clock> Streams<Global> for Served<'_, R> {
     ghost disk_acts = { λ old new act it. tt };
 
     fn wait(&mut self, how: Wait) -> bool {
+        let Some(how) = self.settle_trail(how) else {
+            return false;
+        };
         match &mut self.sockets {
             Some(sockets) => sockets.wait(how),
             None => false,

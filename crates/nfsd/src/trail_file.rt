@@ -1,8 +1,9 @@
 //! The file in which the trail is kept.
 use crate::book_file::id_of;
 use crate::book_rule::FileId;
-use crate::clock::second;
+use crate::clock::{second, steady_second};
 use crate::home::FILE_MODE;
+use crate::trail_sync::Syncing;
 use access_guard::Guard;
 use nfsd_options::Options;
 use std::fmt::{Display, Formatter};
@@ -25,6 +26,8 @@ pub(crate) enum TrailFault {
     Unopened(io::Error),
     /// The system doesn't write it, for this reason. `None`: it reported no reason.
     Unwritten(Option<io::Error>),
+    /// The system doesn't sync it, for this reason.
+    Unsynced(io::Error),
 }
 
 impl Display for TrailFault {
@@ -35,6 +38,7 @@ impl Display for TrailFault {
             TrailFault::Unopened(error) => write!(f, ": it can't be opened: {error}"),
             TrailFault::Unwritten(Some(error)) => write!(f, ": it can't be written: {error}"),
             TrailFault::Unwritten(None) => f.write_str(": it can't be written"),
+            TrailFault::Unsynced(error) => write!(f, ": it can't be synced: {error}"),
         }
     }
 }
@@ -65,11 +69,12 @@ impl<W: Write> Write for Watched<W> {
     }
 }
 
-/// The file that a name refers to, opened to append to, and its number.
+/// The file that a name refers to, opened to append to, with its number, and how it is synced.
 #[derive(Drop)]
 struct Opened<F> {
     file: Watched<Bounded<F>>,
     id: FileId,
+    syncing: Syncing<F>,
 }
 
 /// The file in which the trail is kept, and each file that its name refers to later.
@@ -77,10 +82,16 @@ struct Opened<F> {
 pub(crate) struct TrailFile<'a, R: Files> {
     rt: &'a R,
     path: &'a str,
-    options: &'a Options<'a>,
+    /// The name of the book's file, which the trail can't be kept in.
+    book: Option<&'a str>,
+    /// Each line begins with its time.
+    is_stamped: bool,
+    /// It is the trail of a home: it is synced, and a file that is made is only for its owner.
+    is_of_home: bool,
     /// The file that is written.
     id: FileId,
     keeper: TrailKeeper<Watched<Bounded<R::File>>>,
+    syncing: Syncing<R::File>,
     /// Why the file that the name refers to now can't be opened.
     fault: Option<TrailFault>,
 }
@@ -120,13 +131,6 @@ fn is_same_file<R: Files>(rt: &R, path: &str, other: &str) -> bool {
     }
 }
 
-/// Whether a name refers to the file of the book.
-fn is_of_book<R: Files>(rt: &R, path: &str, options: &Options<'_>) -> bool {
-    options
-        .book
-        .is_some_and(|book| is_same_file(rt, book, path))
-}
-
 /// Whether a name refers to a file of the store in a folder.
 fn is_of_store<R: Files + Alloc>(rt: &R, path: &str, folder: &str) -> bool {
     for part in [
@@ -145,21 +149,32 @@ fn is_of_store<R: Files + Alloc>(rt: &R, path: &str, folder: &str) -> bool {
     false
 }
 
-/// Opens a file to append to. It is made if it is missing; `is_private`: only for its owner.
-fn open_at<R: Files + Alloc>(rt: &R, path: &str, is_private: bool) -> io::Result<Opened<R::File>> {
+/// Opens a file to append to. It is made if it is missing; the file of a home is made only for its owner.
+fn open_to_append<R: Files>(rt: &R, path: &str, is_of_home: bool) -> io::Result<R::File> {
     let mut how = OpenOptions::new();
     how.append(true).create(true);
-    if is_private {
+    if is_of_home {
         how.mode(FILE_MODE);
     }
-    let file = how.open(rt, path)?;
+    how.open(rt, path)
+}
+
+/// Opens a file to append to, with a second handle by which a regular file of a home is synced.
+fn open_at<R: Files + Alloc>(rt: &R, path: &str, is_of_home: bool) -> io::Result<Opened<R::File>> {
+    let file = open_to_append(rt, path, is_of_home)?;
     let answer = file.metadata()?;
     let room = if answer.is_file() {
         file_limit(rt).saturating_sub(answer.len())
     } else {
         u64::MAX
     };
+    let synced = if is_of_home && answer.is_file() {
+        Some(file.try_clone()?)
+    } else {
+        None
+    };
     Ok(Opened {
+        syncing: Syncing::new(synced),
         file: Watched {
             out: Bounded::new(file, room),
             failure: None,
@@ -168,23 +183,43 @@ fn open_at<R: Files + Alloc>(rt: &R, path: &str, is_private: bool) -> io::Result
     })
 }
 
-/// Opens the file of a trail, unless it is the file of the book. In a home it is made only for its owner.
+/// Opens the file of a trail, unless it is the file of the book.
 fn open_trail<R: Files + Alloc>(
     rt: &R,
     path: &str,
-    options: &Options<'_>,
+    book: Option<&str>,
+    is_of_home: bool,
 ) -> Result<Opened<R::File>, TrailFault> {
-    match open_at(rt, path, options.home.is_some()) {
-        Err(_) if is_of_book(rt, path, options) => Err(TrailFault::Book),
-        Err(error) => Err(TrailFault::Unopened(error)),
-        Ok(opened) => match options.book {
-            Some(book) if is_at(rt, book, &opened.id) => Err(TrailFault::Book),
-            _ => Ok(opened),
-        },
+    match (open_at(rt, path, is_of_home), book) {
+        (Ok(opened), Some(book)) if is_at(rt, book, &opened.id) => Err(TrailFault::Book),
+        (Ok(opened), _) => Ok(opened),
+        (Err(_), Some(book)) if is_same_file(rt, book, path) => Err(TrailFault::Book),
+        (Err(error), _) => Err(TrailFault::Unopened(error)),
     }
 }
 
 impl<R: Files> TrailFile<'_, R> {
+    /// Whether the trail can't be kept any more.
+    pub(crate) fn has_fault(&self) -> bool {
+        self.fault.is_some()
+    }
+
+    /// Whether a line isn't synced.
+    pub(crate) fn is_due(&self) -> bool {
+        self.syncing.is_due()
+    }
+
+    /// Syncs the lines that aren't synced. `false`: they can't be synced.
+    pub(crate) fn sync(&mut self) -> bool {
+        match self.syncing.sync() {
+            Ok(()) => true,
+            Err(error) => {
+                self.fault = Some(TrailFault::Unsynced(error));
+                false
+            }
+        }
+    }
+
     /// Why the trail can't be kept any more.
     pub(crate) fn into_fault(self) -> TrailFault {
         let TrailFile { keeper, fault, .. } = self;
@@ -197,11 +232,11 @@ impl<R: Files> TrailFile<'_, R> {
 
 impl<'a, R: Files + Alloc + Clock> TrailFile<'a, R> {
     /// Opens the file, ends its last line, and writes the line of a start if lines have their times. A file of the
-    /// book or of the store is refused.
+    /// book or of the store is refused. In a home the file is made only for its owner.
     pub(crate) fn start(
         rt: &'a R,
         path: &'a str,
-        options: &'a Options<'a>,
+        options: &Options<'a>,
     ) -> Result<Self, TrailFault> {
         if options
             .store
@@ -209,13 +244,17 @@ impl<'a, R: Files + Alloc + Clock> TrailFile<'a, R> {
         {
             return Err(TrailFault::Store);
         }
-        let Opened { file, id } = open_trail(rt, path, options)?;
+        let is_of_home = options.home.is_some();
+        let Opened { file, id, syncing } = open_trail(rt, path, options.book, is_of_home)?;
         let mut trail = TrailFile {
             rt,
             path,
-            options,
+            book: options.book,
+            is_stamped: options.stamped,
+            is_of_home,
             id,
             keeper: TrailKeeper::new(file),
+            syncing,
             fault: None,
         };
         if trail.begin() {
@@ -230,9 +269,10 @@ impl<'a, R: Files + Alloc + Clock> TrailFile<'a, R> {
         if !self.keeper.end_line(last_byte(self.rt, self.path)) {
             return false;
         }
-        if !self.options.stamped {
+        if !self.is_stamped {
             return true;
         }
+        self.syncing.note(steady_second(self.rt));
         self.keeper.start(&moment_text(second(self.rt)))
     }
 
@@ -245,7 +285,8 @@ impl<'a, R: Files + Alloc + Clock> TrailFile<'a, R> {
         if !self.follow() {
             return false;
         }
-        if self.options.stamped {
+        self.syncing.note(steady_second(self.rt));
+        if self.is_stamped {
             self.keeper.keep_after(guard, &moment_text(second(self.rt)))
         } else {
             self.keeper.keep(guard)
@@ -259,7 +300,7 @@ impl<'a, R: Files + Alloc + Clock> TrailFile<'a, R> {
 
     /// Opens the file that the name refers to now, and continues with it.
     fn open_anew(&mut self) -> bool {
-        match open_trail(self.rt, self.path, self.options) {
+        match open_trail(self.rt, self.path, self.book, self.is_of_home) {
             Ok(opened) => self.go_on(opened),
             Err(fault) => {
                 self.fault = Some(fault);
@@ -268,10 +309,19 @@ impl<'a, R: Files + Alloc + Clock> TrailFile<'a, R> {
         }
     }
 
-    /// Continues with this file, whose last line is ended.
+    /// Syncs the lines that are of an earlier second. `false`: they can't be synced.
+    pub(crate) fn sync_old(&mut self) -> bool {
+        !self.syncing.is_old(steady_second(self.rt)) || self.sync()
+    }
+
+    /// Continues with this file, whose last line is ended. The lines of the file before are synced.
     fn go_on(&mut self, opened: Opened<R::File>) -> bool {
-        let Opened { file, id } = opened;
+        if !self.sync() {
+            return false;
+        }
+        let Opened { file, id, syncing } = opened;
         self.keeper.replace(file);
+        self.syncing = syncing;
         self.id = id;
         self.keeper.end_line(last_byte(self.rt, self.path))
     }

@@ -224,7 +224,10 @@ fn copy(
 /// Prints `clap`'s text about the words. Help and the version go to standard output, with status 0. A fault goes to
 /// standard error with the program's name before it, with status 2.
 fn print_words<R: Print + Eprint>(rt: &R, alloc: Global, error: &Error) -> Result<ExitCode> {
-    if matches!(error.kind(), ErrorKind::DisplayHelp | ErrorKind::DisplayVersion) {
+    if matches!(
+        error.kind(),
+        ErrorKind::DisplayHelp | ErrorKind::DisplayVersion
+    ) {
         print!(rt; "{error}")?;
         return Ok(ExitCode::SUCCESS);
     }

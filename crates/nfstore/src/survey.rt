@@ -58,7 +58,9 @@ fn reason(kind: Kind, metadata: &Metadata, name: &str) -> Option<&'static str> {
         return Some("its name has more than 255 bytes");
     }
     match kind {
-        Kind::File if metadata.len() > Limits::standard().bytes() => Some("it has more than 1048576 bytes"),
+        Kind::File if metadata.len() > Limits::standard().bytes() => Some(
+            "it has more than 1048576 bytes",
+        ),
         Kind::Link if metadata.len() > MAX_TEXT => Some("its text has more than 1024 bytes"),
         _ => None,
     }

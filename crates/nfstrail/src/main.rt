@@ -176,7 +176,10 @@ fn print_asked_words<R: Print + Eprint>(rt: &R, text: &Error) -> ExitCode {
 /// Prints `clap`'s text about the words. Help and the version go to standard output, with status 0. A fault goes to
 /// standard error with the program's name before it, with status 2.
 fn print_words<R: Print + Eprint>(rt: &R, alloc: Global, error: &Error) -> ExitCode {
-    if matches!(error.kind(), WordsKind::DisplayHelp | WordsKind::DisplayVersion) {
+    if matches!(
+        error.kind(),
+        WordsKind::DisplayHelp | WordsKind::DisplayVersion
+    ) {
         return print_asked_words(rt, error);
     }
     if let Ok(text) = format!(in alloc; "{error}") {

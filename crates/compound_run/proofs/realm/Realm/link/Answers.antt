@@ -44,8 +44,8 @@ returns g c =
     (λ x. is_nameable c.in_ok-directory.directory ∷ []) c.args.self.now c.args.step.handles c.args.out.now lines c.grants_first.new.self _ _ _
     (search (rules, may_there, plain_there)) (search (rules, may_there, plain_there)) (search rules) c.name_linked.ensures
 
-pub returns-then-links-ge-most : goal.returns-then-links-ge-most
-returns-then-links-ge-most g c =
+pub returns-then-links-most : goal.returns-then-links-most
+returns-then-links-most g c =
     let linked = c.in_ok-linked.linked in
     let same : c.grants_first.new.self.tree.world ≡ c.args.self.now.tree.world = ap (λ e. e.tree.world) c.grants_first.ensures.state in
     let here : c.grants_first.new.self.tree.world.limits.links ≤ link_count c.grants_first.new.self.tree.world.names linked = search rules in
