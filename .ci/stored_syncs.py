@@ -3,6 +3,7 @@ import contextlib
 import os
 import re
 import shutil
+import signal
 import subprocess
 import sys
 import time
@@ -55,7 +56,9 @@ def lines_synced(room, _):
     home, log = f"{room}/lines", f"{room}/lines.log"
     server = HomeServer(home, under=traced(log, "-ttt", "-e", "trace=write,fdatasync"))
     time.sleep(2.5)
-    server.ran.terminate()
+    # strace goes on where it is ended by itself, and ends with the server
+    for child in content_of_file(f"/proc/{server.ran.pid}/task/{server.ran.pid}/children").split():
+        os.kill(int(child), signal.SIGTERM)
     server.ran.wait(timeout=PATIENCE)
     moments = {}
     for name, path, line in calls_in(log):

@@ -5,6 +5,5 @@ pub mod Prefixes
 pub mod Keeping
 pub mod Changing
 pub mod Storing
-pub mod Books
 pub mod Steps
 pub mod Whole

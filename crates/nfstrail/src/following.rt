@@ -25,12 +25,16 @@ use std::rt::{Clock, Files};
 use std::time::{Duration, Instant};
 use std::{io, thread};
 
-/// The time between two reads of the file. The server appends a line before it stores the call that wrote the line, so
-/// the store is read for a line no sooner than this.
-const PAUSE: Duration = Duration::from_millis(200);
+/// The time between two reads of the file. A server that has appended a line has this time to store the call that the
+/// line is of, before the store is read for it.
+fn pause() -> Duration {
+    Duration::from_millis(200)
+}
 
 /// The least time between two reads of the store.
-const STORE_PAUSE: Duration = Duration::from_secs(1);
+fn store_pause() -> Duration {
+    Duration::from_secs(1)
+}
 
 /// Why following stopped.
 #[derive(Debug, Drop)]
@@ -164,8 +168,8 @@ impl<'h, 'w, R: Files<File = File> + Clock + Eprint> Follower<'h, 'w, R> {
             Some(moment) => moment.elapsed(self.home.rt).ok(),
             None => None,
         };
-        let rest = STORE_PAUSE.saturating_sub(passed.unwrap_or(Duration::ZERO));
-        rest.saturating_sub(PAUSE)
+        let rest = store_pause().saturating_sub(passed.unwrap_or(Duration::ZERO));
+        rest.saturating_sub(pause())
     }
 
     /// Reports once that the store isn't known any more.
@@ -209,7 +213,7 @@ impl<'h, 'w, R: Files<File = File> + Clock + Eprint> Follower<'h, 'w, R> {
         flush(out)?;
         thread::sleep(self.home.rt, self.rest());
         let read_to = self.trail.file_len().map_err(Broken::Reading)?;
-        thread::sleep(self.home.rt, PAUSE);
+        thread::sleep(self.home.rt, pause());
         self.read_store();
         self.read_at = Instant::now(self.home.rt).ok();
         self.read_to = read_to;
@@ -276,7 +280,7 @@ impl<'h, 'w, R: Files<File = File> + Clock + Eprint> Follower<'h, 'w, R> {
             if self.turn(out)? {
                 continue;
             }
-            thread::sleep(self.home.rt, PAUSE);
+            thread::sleep(self.home.rt, pause());
             if is_closed(outlet) {
                 break;
             }
