@@ -61,13 +61,6 @@ impl<A: Allocator + Copy> Store<A> {
         objects.insert(ROOT, directory(alloc, ROOT, 0o755)?)?;
         objects.insert(2, file(alloc)?)?;
         objects.insert(3, directory(alloc, 3, 0o777)?)?;
-        Ok(Store::from_start(
-            alloc,
-            Limits::standard(),
-            objects,
-            names(alloc)?,
-            4,
-            5,
-        ))
+        Ok(Store::from_start(alloc, Limits::standard(), objects, names(alloc)?, 4, 5))
     }
 }
