@@ -5,6 +5,7 @@
 import contextlib
 import os
 import shutil
+import signal
 import subprocess
 import tempfile
 
@@ -45,7 +46,8 @@ def write_record(top, record):
 @contextlib.contextmanager
 def copied(proof):
     """A copy of what a build reads, which is removed at the end. Its record has the commit, and whether it is proved."""
-    with tempfile.TemporaryDirectory(prefix="zoclesavory-", ignore_cleanup_errors=True) as room:
+    room = tempfile.mkdtemp(prefix="zoclesavory-")
+    try:
         for part in PARTS:
             if os.path.isdir(f"{TOP}/{part}"):
                 shutil.copytree(f"{TOP}/{part}", f"{room}/{part}", ignore=shutil.ignore_patterns("out"))
@@ -53,3 +55,8 @@ def copied(proof):
                 shutil.copy2(f"{TOP}/{part}", f"{room}/{part}")
         write_record(room, f"{commit()}, {proof}")
         yield room
+    finally:
+        # a signal that comes now waits until the copy is gone
+        before = signal.pthread_sigmask(signal.SIG_BLOCK, {signal.SIGINT, signal.SIGTERM})
+        shutil.rmtree(room, ignore_errors=True)
+        signal.pthread_sigmask(signal.SIG_SETMASK, before)
