@@ -25,8 +25,8 @@ use std::rt::{Clock, Files};
 use std::time::{Duration, Instant};
 use std::{io, thread};
 
-/// The time between two reads of the file. A server that has appended a line has this time to store the call that the
-/// line is of, before the store is read for it.
+/// The time between two reads of the file. The server appends a line before it stores the call that wrote the line, so
+/// the store is read for a line no sooner than this.
 fn pause() -> Duration {
     Duration::from_millis(200)
 }
