@@ -220,17 +220,30 @@ impl<'h, 'w, R: Files<File = File> + Clock + Eprint> Follower<'h, 'w, R> {
         Ok(())
     }
 
+    /// Prints the line that was read last.
+    fn print_last<W: Write>(&self, out: &mut W) -> Result<(), Broken> {
+        let printed = self.printing().print_line(out, self.trail.line());
+        printed.map_err(Broken::Writing)
+    }
+
+    /// Prints the next line. `false`: the file has none yet.
+    fn print_next<W: Write>(&mut self, out: &mut W) -> Result<bool, Broken> {
+        if !self.trail.next_line().map_err(Broken::Reading)? {
+            return Ok(false);
+        }
+        if self.lacks_object() {
+            self.renew(out)?;
+        }
+        self.print_last(out)?;
+        Ok(true)
+    }
+
     /// Prints the lines that were appended since the last call.
     fn print_new<W: Write>(&mut self, out: &mut W) -> Result<(), Broken> {
         for _line in 0..u64::MAX {
-            if !self.trail.next_line().map_err(Broken::Reading)? {
+            if !self.print_next(out)? {
                 break;
             }
-            if self.lacks_object() {
-                self.renew(out)?;
-            }
-            let printed = self.printing().print_line(out, self.trail.line());
-            printed.map_err(Broken::Writing)?;
         }
         flush(out)
     }
