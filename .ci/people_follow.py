@@ -67,7 +67,7 @@ def refused(lab, name, path):
     """A READ of this user is refused. The line that the trail gets, in words."""
     user = {"bob": 1002, "carol": 1003}[name]
     lab.see(user, ["cat", path], "refused READ ACCESS\n", denied(path))
-    return f"{name} was refused READ of {path}: read-data, which no entry allows"
+    return f"{name} was refused READ of {path}: read-data, which entry 4 denies"
 
 
 def restart(home, lab, number):
