@@ -181,7 +181,7 @@ def not_backed_up(room, _):
 
 def full_disks(room):
     """A disk that has no room for the copy, or can't be written."""
-    folder, within = f"{room}/large", f"{room}/of copies"
+    folder, within = f"{room}/many bytes", f"{room}/of copies"
     import_files(room, folder, 40, 50_000)
     os.mkdir(within)
     with small_disk(within) as place:
