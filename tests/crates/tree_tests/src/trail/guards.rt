@@ -33,7 +33,14 @@ fn refuse_all(guard: &mut Guard, tree: &Tree, book: &Book, count: u32) {
 
 /// A guard that refused `count` users, of the numbers 1, 2 and so on.
 pub fn refusing(alloc: Global, hasher: RandomState, count: u32) -> Result<Guard, Fail> {
-    let tree = Tree::new(alloc, Limits::standard(), 0, 0, AclList::from_slice(alloc, &[])?, 0)?;
+    let tree = Tree::new(
+        alloc,
+        Limits::standard(),
+        0,
+        0,
+        AclList::from_slice(alloc, &[])?,
+        0,
+    )?;
     let mut guard = Guard::new(alloc, NonZeroUsize::MIN, hasher)?;
     refuse_all(&mut guard, &tree, &Book::default(alloc), count);
     Ok(guard)
