@@ -12,7 +12,7 @@ from stored_bytes import FRONT, content_of_file, counting, Current, files_of, fr
 from stored_copies import Call, stop_in_checkpoint
 from stored_files import fill_up, remount, small_disk
 from stored_lab import (
-    FILE, PATIENCE, RANDOM, ROOT, held, HomeServer, import_files, new_directory, nfstore, Peer, picture, see, Server, Writer,
+    FILE, PATIENCE, RANDOM, ROOT, four_writers, held, HomeServer, import_files, new_directory, nfstore, Peer, picture, see, Server,
 )
 
 # what is printed of a whole store and of a copy
@@ -218,12 +218,7 @@ def backed_up_while_written(room, _):
     """A home is copied while clients write. Each copy is whole, and has what was answered before it was begun."""
     home, times = f"{room}/home that is written", 20
     server = HomeServer(home)
-    peer = Peer(server, "makes")
-    for number in range(4):
-        peer.good(ROOT, new_directory(b"%d" % number))
-    writers = [Writer(server, number, {}) for number in range(4)]
-    for it in writers:
-        it.start()
+    writers = four_writers(server)
     copies = []
     for number in range(times):
         time.sleep(0.05)

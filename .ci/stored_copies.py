@@ -10,7 +10,7 @@ import time
 from stored_bits import ROTTEN, close_by_another, side_by_side
 from stored_bytes import END, FILES, content_of_file, Current, files_of, frames_of, lay
 from stored_lab import (
-    PATIENCE, RANDOM, ROOT, Gone, held, import_files, names_in_root, new_directory, Peer, see, Server, Writer,
+    PATIENCE, RANDOM, four_writers, Gone, held, import_files, names_in_root, Peer, see, Server,
 )
 
 
@@ -23,12 +23,7 @@ def copied_while_written(room, _):
     """A folder is copied while writers change it. The copy is refused as damaged, or has all that was answered before."""
     folder, counts = f"{room}/written", {True: 0, False: 0}
     server = Server(folder)
-    peer = Peer(server, "makes")
-    for number in range(4):
-        peer.good(ROOT, new_directory(b"%d" % number))
-    writers = [Writer(server, number, {}) for number in range(4)]
-    for it in writers:
-        it.start()
+    writers = four_writers(server)
     copies = []
     for number in range(8):
         time.sleep(0.05)

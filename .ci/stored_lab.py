@@ -438,6 +438,17 @@ def nfsc(server, *command, said=b"ok\n"):
     see(" ".join(command)[:80], (ran.stdout, ran.stderr, ran.returncode), (said, b"", 0))
 
 
+def four_writers(server):
+    """Four writers that have begun, each in a directory of its own."""
+    peer = Peer(server, "makes")
+    for number in range(4):
+        peer.good(ROOT, new_directory(b"%d" % number))
+    writers = [Writer(server, number, {}) for number in range(4)]
+    for it in writers:
+        it.start()
+    return writers
+
+
 def import_files(room, folder, count, size):
     """Makes a store whose checkpoint has so many files of so many bytes. Their names."""
     place = f"{room}/source {os.path.basename(folder)}"

@@ -1,4 +1,4 @@
-//! What a program of this tree reports about its build.
+//! The record of a build, as the programs of this tree report it.
 #![tactic(auto)]
 
 mod record;

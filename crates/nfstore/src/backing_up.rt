@@ -33,7 +33,7 @@ const TRAIL: &str = "trail.txt";
 pub(crate) struct Made {
     /// The second since 1970 in which it began. Everything that was answered before is there.
     pub(crate) begun: i64,
-    /// What it has.
+    /// The counts of the copy's store.
     pub(crate) whole: Whole,
 }
 

@@ -1,4 +1,4 @@
-//! What is printed of a backup: what it has, or why there is none.
+//! The words for a backup: the counts of the copy, or the reason why there is none.
 use crate::backing_up::{Made, Refused};
 use crate::places::{Source, Target};
 use crate::unlocked::{TRIES, Unread};

@@ -12,7 +12,7 @@ use store_folder::{StoreStop, frames_of};
 use store_journal::{Chosen, choose};
 use store_words::Stop;
 
-/// What a whole store has.
+/// The counts of a whole store.
 #[derive(Clone, Copy, Debug)]
 pub(crate) struct Whole {
     generation: u64,
