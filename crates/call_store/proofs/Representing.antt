@@ -7,7 +7,7 @@ use Rattle.log_entries.specs.Entries.{Entry, entries_in, entry_bytes}
 use Rattle.log_entries.proofs.Again.{all_again}
 use Rattle.checkpoint.specs.Kept.{Kept}
 use Rattle.checkpoint.specs.Holds.{Holds, IsOfOther}
-use Rattle.checkpoint.proofs.One.{head_one, holds_one}
+use Rattle.checkpoint.proofs.One.{states_not_other, holds_one}
 use Rattle.checkpoint.proofs.Covering.{covers as covers_law}
 use Rattle.compound_run.specs.Covering.{Covers}
 use Rattle.compound_run.specs.State.{State, restored}
@@ -149,8 +149,4 @@ start_represents content s q represents replayed = (
 -- parts that hold something aren't of another profile
 pub not_other : (parts : List Bytes) (kept : Kept) → Holds parts kept → IsOfOther parts → ⊥
 not_other [] kept holds other = other
-not_other (a ∷ []) kept holds other = holds
-not_other (a ∷ b ∷ []) kept holds other = holds
-not_other (a ∷ b ∷ c ∷ []) kept holds other = holds
-not_other (a ∷ b ∷ c ∷ d ∷ parts) kept holds other =
-    other.other (head_one a other.profile _ other.text holds.0.text other.whole holds.0.whole).0
+not_other (a ∷ others) kept holds other = states_not_other a kept.world.limits kept.book holds.states other

@@ -209,13 +209,14 @@ covers k s capacity is in_k in_s lasting epoch =
     let next_open = same.next_open in
     let next_client = same.next_client in
     let next_session = same.next_session in
+    let limits = same.limits in
     record {
       realm = record {
         others = λ i. record {
           world = world i;
           opens = opens i;
           next_open = next_open i;
-          registry = record { clients = clients i; sessions = k.clients.registry.sessions; next_client = next_client i; next_session = next_session i };
+          registry = record { limits = limits i; clients = clients i; sessions = k.clients.registry.sessions; next_client = next_client i; next_session = next_session i };
           lasting = sym lasting i;
         };
         sessions = all_sessions k s is in_k in_s;

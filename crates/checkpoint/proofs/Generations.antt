@@ -1,5 +1,5 @@
 -- No frame of a later generation was ever written, whatever the result of a checkpoint.
-use Rattle.std.proofs.Common.{◌≡◌, inl, inr, ℕ, List, [], ◌∷◌, Result, Ok, Err, refl, sym, ◌∙◌, ap, subst}
+use Rattle.std.proofs.Common.{◌≡◌, inl, inr, ℕ, List, [], ◌∷◌, Result, Ok, Err, sym, ◌∙◌, ap, subst}
 use Rattle.store_journal.specs.declared.checksum.Identity.{Identity}
 use Rattle.store_journal.specs.declared.fault.JournalFault.{JournalFault}
 use Rattle.store_journal.specs.declared.fault.JournalFault.TheVariants.{TooLong, Full, NoCheckpoint, Failed}
@@ -7,13 +7,12 @@ use Rattle.store_journal.specs.declared.fault.JournalFault.TheVariants as journa
 use Rattle.store_journal.specs.declared.journal.Journal.{Journal}
 use Rattle.store_journal.specs.Begun.{IsBegun, IsFresh}
 use Rattle.store_journal.specs.Disk.{Act, Bytes}
-use Rattle.store_journal.specs.Keeping.{BeginGives, PartGives, FinishGives, IsAsBefore}
+use Rattle.store_journal.specs.Keeping.{BeginGives, IsAsBefore}
 use Rattle.store_journal.specs.Serving.{of_acts}
 use Rattle.store_journal.proofs.BegunOnce.{fresh_law}
 use Rattle.store_journal.proofs.BegunOnce.{new_law as new_generation_law}
-use Rattle.checkpoint.specs.declared.fault.WriteFault.{WriteFault}
 use Rattle.checkpoint.specs.declared.fault.WriteFault.TheVariants.{Unfit, Memory, Refused}
-use Rattle.checkpoint.specs.Counting.{LeavesNew, NewLaw}
+use Rattle.checkpoint.specs.Counting.{NewLaw}
 use Rattle.checkpoint.specs.Writing.{part_frame, PartsGiven, BegunParts, Ended}
 use Rattle.checkpoint.proofs.Counting.{parts_current}
 

@@ -1,6 +1,7 @@
 pub mod One
 pub mod Gathering
 pub mod Putting
+pub mod Rests
 pub mod Covering
 pub mod Counting
 pub mod Heads

@@ -1,13 +1,14 @@
 -- Parts that are written in order.
-use Rattle.std.proofs.Common.{◌≡◌, inl, inr, ℕ, ◌≤◌, ◌<◌, ◌+◌, ◌^◌, min, Bool, true, false, cond, List, [], ◌∷◌, ◌++◌, length, map, refl, sym, ◌∙◌, ap, subst, arith, append_assoc, Ok, Err, Some, None}
-use Rattle.std.specs.Prelude.{Option, Result, IsSome, IfSome, OnOk, ◌&&◌, is_some, slice_get, find, nat_le, nat_lt}
+use Rattle.std.proofs.Common.{◌≡◌, inl, inr, ℕ, ◌≤◌, ◌<◌, ◌+◌, ◌^◌, min, Bool, true, false, cond, List, [], ◌∷◌, ◌++◌, length, map, take, drop, get_or, refl, sym, ◌∙◌, ap, subst, arith, append_assoc, Ok, Err, Some, None}
+use Rattle.std.specs.Prelude.{Option, Result, IsSome, OnOk, ◌&&◌, is_some, slice_get, find, flat_map, nat_le, nat_lt}
 use Rattle.std.specs.List.{AllByRecursion, list_all}
-use Rattle.std.specs.Option.{option_map}
+use Rattle.std.specs.Option.{option_map, option_map_or}
 use Rattle.std.specs.Map.{lookup}
 use Rattle.std.specs.BTreeMap.{is_at}
 use Rattle.std.specs.Ordering.{nat_cmp}
 use Rattle.std.proofs.lemmas.Bool.Decides.{nat_tests}
-use Rattle.std.proofs.lemmas.List.{append-nil}
+use Rattle.std.proofs.lemmas.List.{append-nil, take_all, take_more, take-append-drop}
+use Rattle.std.proofs.lemmas.List.Concat.{flat_map-append}
 use Rattle.xdr_wire.specs.Xdr.{Value, HasSpelling, spelling}
 use Rattle.xdr_wire.specs.Reading.{read_at}
 use Rattle.xdr_wire.specs.Buffer.{Buffer}
@@ -20,11 +21,11 @@ use Rattle.node_tree.proofs.Reading.{read_in_order}
 use Rattle.node_tree.proofs.Objects.{is_at-same, is_at-apart}
 use Rattle.client_parts.specs.Comparing.{AreSame}
 use Rattle.session_slots.specs.Registry.{Registry, client_at}
-use Rattle.compound_run.specs.Limits.{MAX_OPENS, MAX_OWNER}
+use Rattle.compound_run.specs.Limits.{MAX_OWNER}
 use Rattle.compound_run.specs.Realm.{Opened}
 use Rattle.compound_run.specs.ClientState.{ClientState, is_access, is_next, is_seqid, open_fits, opens_fit, rise_above}
 use Rattle.compound_run.specs.State.{State, client_state_of}
-use Rattle.tree_parts.specs.Parts.{part, parts, counters_value, object_value, name_value}
+use Rattle.tree_parts.specs.Parts.{part, parts, counters_value, object_parts, name_value}
 use Rattle.tree_parts.specs.Again.{IsTakenAgain}
 use Rattle.store_journal.specs.declared.fault.JournalFault.{JournalFault}
 use Rattle.store_journal.specs.declared.journal.Journal.{Journal}
@@ -33,10 +34,11 @@ use Rattle.store_journal.specs.Keeping.{BeginGives, PartGives, FinishGives}
 use Rattle.store_journal.specs.Passage.{Adding, passage}
 use Rattle.checkpoint.specs.declared.fault.WriteFault.{WriteFault}
 use Rattle.checkpoint.specs.declared.fault.WriteFault.TheVariants.{Unfit, Memory, Refused}
-use Rattle.checkpoint.specs.Holds.{ReadsParts}
+use Rattle.checkpoint.specs.Head.{HeadStates}
+use Rattle.checkpoint.specs.Holds.{BeginsClients, ReadsParts}
 use Rattle.checkpoint.specs.internal.Drafting.{Draft, IsDraft, draft_parts, all_parts}
-use Rattle.checkpoint.specs.Writing.{BreaksOff, part_frame, PartsGiven, PartsEnd, Ended, KeepsAll, total, size_of}
-use Rattle.checkpoint.specs.internal.Writing.{counted, object_bytes, name_bytes, HasObjectSpelling, HasNameSpelling}
+use Rattle.checkpoint.specs.Writing.{BreaksOff, IsUnfitUnless, part_frame, PartsGiven, PartsEnd, Ended, KeepsAll, total, size_of}
+use Rattle.checkpoint.specs.internal.Writing.{counted, object_bytes, name_bytes, parts_at, HasObjectSpelling, HasNameSpelling}
 use Rattle.checkpoint.specs.internal.Writing.{HaveSpelling}
 
 -- ---- steps
@@ -103,6 +105,33 @@ ends_stop adds j k first more old new it = record { prefix = first; others = mor
 pub ends_as : {D : Type 0} (adds : Adding D) (j k : Journal) (some all : List Bytes) (result : Result (Unit {0}) WriteFault) (old new : D) → some ≡ all → PartsEnd (passage adds old new) j some result k → PartsEnd (passage adds old new) j all result k
 ends_as adds j k some all result old new is it = subst (λ (l : List Bytes). PartsEnd (passage adds old new) j l result k) is it
 
+-- ---- parts that were made before
+
+pub map_append : {X Y : Type 0} (f : X → Y) (xs ys : List X) → map f (xs ++ ys) ≡ map f xs ++ map f ys
+map_append f [] ys = refl
+map_append f (x ∷ xs) ys = ap (λ (l : List _). f x ∷ l) (map_append f xs ys)
+
+made_more : {X : Type 0} (f : X → Bytes) (xs : List X) (i : ℕ) (x : X) → i < length xs → x ≡ get_or xs i x → map f (take (i + 1) xs) ≡ map f (take i xs) ++ f x ∷ []
+made_more {X} f xs i x lt is = ap (map f) (take_more xs i x lt ∙ ap (λ (y : X). take i xs ++ y ∷ []) (sym is)) ∙ map_append f (take i xs) (x ∷ [])
+
+-- one of the parts is written, or isn't
+module _ {D X : Type 0} (adds : Adding D) (f : X → Bytes) (xs : List X) (i : ℕ) (x : X) (lt : i < length xs) (is : x ≡ get_or xs i x) (j k l : Journal) (old mid new : D) (so_far : PartsGiven (passage adds old mid) j (map f (take i xs)) k) where
+  pub made_given : PartsGiven (passage adds mid new) k (f x ∷ []) l → PartsGiven (passage adds old new) j (map f (take (i + 1) xs)) l
+  made_given one =
+      subst (λ (b : List Bytes). PartsGiven (passage adds old new) j b l) (sym (made_more f xs i x lt is))
+      (given_then adds j k l (map f (take i xs)) (f x ∷ []) old mid new so_far one)
+
+  pub made_stop : (fault : WriteFault) → PartsEnd (passage adds mid new) k (f x ∷ []) (Err fault) l → PartsEnd (passage adds old new) j (map f xs) (Err fault) l
+  made_stop fault one =
+      let all : (map f (take i xs) ++ f x ∷ []) ++ map f (drop (i + 1) xs) ≡ map f xs =
+      ap (λ (b : List Bytes). b ++ map f (drop (i + 1) xs)) (sym (made_more f xs i x lt is)) ∙ sym (map_append f (take (i + 1) xs) (drop (i + 1) xs)) ∙ ap (map f) (take-append-drop (i + 1) xs) in
+      ends_as adds j l ((map f (take i xs) ++ f x ∷ []) ++ map f (drop (i + 1) xs)) (map f xs) (Err fault) old new all
+      (ends_more adds j l (map f (take i xs) ++ f x ∷ []) (map f (drop (i + 1) xs)) fault old new
+      (ends_then adds j k l (map f (take i xs)) (f x ∷ []) (Err fault) old mid new so_far one))
+
+pub made_all : {X : Type 0} (f : X → Bytes) (xs : List X) (i : ℕ) → length xs ≤ i → map f (take i xs) ≡ map f xs
+made_all f xs i le = ap (map f) (take_all i xs le)
+
 -- ---- the size of the parts
 
 pub counted_then : (size : ℕ) (first more : List Bytes) → counted size (first ++ more) ≡ counted (counted size first) more
@@ -128,36 +157,53 @@ size_is_counted size all is = is ∙ counted_is 0 all (omega arith) ∙ from_non
     from_none : (n : ℕ) → min (0 + n) 18446744073709551615 ≡ min n 18446744073709551615
     from_none n = grind arith
 
+-- the size with one of the parts more
+pub made_counted : {X : Type 0} (f : X → Bytes) (xs : List X) (i : ℕ) (x : X) → i < length xs → x ≡ get_or xs i x → (size size' size'' : ℕ) → size' ≡ counted size (map f (take i xs)) → size'' ≡ counted size' (f x ∷ []) → size'' ≡ counted size (map f (take (i + 1) xs))
+made_counted f xs i x lt is size size' size'' before one =
+    one ∙ ap (λ (n : ℕ). counted n (f x ∷ [])) before ∙ sym (counted_then size (map f (take i xs)) (f x ∷ [])) ∙ ap (counted size) (sym (made_more f xs i x lt is))
+
 -- an item was written into an empty buffer
 pub written_alone : (old new : Buffer) (item : Bytes) → old.bytes ≡ [] → buffers.Appends old new item → new.bytes ≡ item
 written_alone old new item empty appended = appended.appended ∙ ap (λ (l : Bytes). l ++ item) empty
 
 -- ---- all parts
 
-parts_spelled : (w : World) → map (spelling part) (parts w) ≡ spelling part (counters_value w) ∷ (map object_bytes w.objects ++ map name_bytes w.names)
+all_both : {X : Type 0} (P : X → Type 0) (xs ys : List X) → AllByRecursion P xs → AllByRecursion P ys → AllByRecursion P (xs ++ ys)
+all_both P [] ys all more = more
+all_both P (x ∷ xs) ys all more = (all.0, all_both P xs ys all.1 more)
+
+-- the parts of an object
+abbrev parts_in : ℕ × Object → List (Value part)
+parts_in e = object_parts e.0 e.1
+
+parts_spelled : (w : World) → map (spelling part) (parts w) ≡ spelling part (counters_value w) ∷ (flat_map object_bytes w.objects ++ map name_bytes w.names)
 parts_spelled w = ap (λ (l : List Bytes). spelling part (counters_value w) ∷ l) (objects_spelled w.objects)
   where
     names_spelled : (names : List Name) → map (spelling part) (map name_value names) ≡ map name_bytes names
     names_spelled [] = refl
     names_spelled (n ∷ names) = ap (λ (l : List Bytes). name_bytes n ∷ l) (names_spelled names)
 
-    objects_spelled : (objects : List (ℕ × Object)) → map (spelling part) (map (λ e. object_value e.0 e.1) objects ++ map name_value w.names) ≡ map object_bytes objects ++ map name_bytes w.names
+    objects_spelled : (objects : List (ℕ × Object)) → map (spelling part) (flat_map parts_in objects ++ map name_value w.names) ≡ flat_map object_bytes objects ++ map name_bytes w.names
     objects_spelled [] = names_spelled w.names
-    objects_spelled (e ∷ objects) = ap (λ (l : List Bytes). object_bytes e ∷ l) (objects_spelled objects)
+    objects_spelled (e ∷ objects) =
+        ap (map (spelling part)) (append_assoc (parts_in e) (flat_map parts_in objects) (map name_value w.names))
+        ∙ map_append (spelling part) (parts_in e) (flat_map parts_in objects ++ map name_value w.names)
+        ∙ ap (λ (l : List Bytes). object_bytes e ++ l) (objects_spelled objects)
+        ∙ sym (append_assoc (object_bytes e) (flat_map object_bytes objects) (map name_bytes w.names))
 
-pub all_parts_are : (w : World) (d : Draft) → draft_parts d [] ++ ((spelling part (counters_value w) ∷ []) ++ (map object_bytes w.objects ++ map name_bytes w.names)) ≡ all_parts w d
-all_parts_are w d = ap (draft_parts d) (sym (parts_spelled w))
+pub all_parts_are : (w : World) (d : Draft) → draft_parts d ++ ((spelling part (counters_value w) ∷ []) ++ (flat_map object_bytes w.objects ++ map name_bytes w.names)) ≡ all_parts w d
+all_parts_are w d = ap (λ (l : List Bytes). draft_parts d ++ l) (sym (parts_spelled w))
 
 pub all_have : (w : World) → HasSpelling part (counters_value w) → AllByRecursion HasObjectSpelling w.objects → AllByRecursion HasNameSpelling w.names → AllByRecursion (HasSpelling part) (parts w)
-all_have w counters objects names = (counters, objects_have w.objects objects)
+all_have w counters objects names = (counters, all_both (HasSpelling part) (flat_map parts_in w.objects) (map name_value w.names) (objects_have w.objects objects) (names_have w.names names))
   where
     names_have : (names : List Name) → AllByRecursion HasNameSpelling names → AllByRecursion (HasSpelling part) (map name_value names)
     names_have [] all = tt
     names_have (n ∷ names) all = (all.0, names_have names all.1)
 
-    objects_have : (objects : List (ℕ × Object)) → AllByRecursion HasObjectSpelling objects → AllByRecursion (HasSpelling part) (map (λ e. object_value e.0 e.1) objects ++ map name_value w.names)
-    objects_have [] all = names_have w.names names
-    objects_have (e ∷ objects) all = (all.0, objects_have objects all.1)
+    objects_have : (objects : List (ℕ × Object)) → AllByRecursion HasObjectSpelling objects → AllByRecursion (HasSpelling part) (flat_map parts_in objects)
+    objects_have [] all = tt
+    objects_have (e ∷ objects) all = all_both (HasSpelling part) (parts_in e) (flat_map parts_in objects) all.0 (objects_have objects all.1)
 
 reads_parts : (values : List (Value part)) → AllByRecursion (HasSpelling part) values → ReadsParts (map (spelling part) values) values
 reads_parts [] all = tt
@@ -178,23 +224,26 @@ clients_with r opens next = record { registry = r; opens = opens; next_open = ne
 fits_alike : (w : World) (a b : ClientState) → AreSame a b → opens_fit w a ≡ opens_fit w b
 fits_alike w a b same =
     (λ i. opens_fit w (clients_with a.registry (same.opens i) (same.next_open i)))
-    ∙ ap (λ (fit : Bool). is_next b.next_open && (nat_le (length b.opens) MAX_OPENS && (rise_above 0 b.opens && fit))) (all_alike w a.registry b.registry b.next_open b.opens same.records)
+    ∙ ap (λ (fit : Bool). is_next b.next_open && (nat_le (length b.opens) w.limits.opens && (rise_above 0 b.opens && fit))) (all_alike w a.registry b.registry b.next_open b.opens same.records)
 
 -- the checkpoint of a server's tree, of its clients and of its book keeps all
 pub checkpoint_keeps : (w : World) (d : Draft) (clients : ClientState) (s : State) → w ≡ s.realm.world → opens_fit w (client_state_of s) ≡ true → IsDraft d clients s → IsTakenAgain w → HaveSpelling w → KeepsAll (all_parts w d) (record { world = w; clients = clients; book = s.settings.book }) s
 checkpoint_keeps w d clients s is fits draft read_again have = record {
-  holds = (
-    draft.states,
-    draft.applies,
-    record {
+  holds = record {
+    states = subst (λ (x : World). HeadStates d.head x.limits s.settings.book) (sym is) draft.states;
+    clients = d.clients;
+    tree = map (spelling part) (parts w);
+    others_are = refl;
+    begins = subst (λ (x : World). BeginsClients x.limits d.clients clients) (sym is) draft.begins;
+    restores = record {
       values = parts w;
       read = reads_parts (parts w) have;
       begun = read_again.begun;
       taken = read_again.taken;
       whole = read_again.whole;
       world_is = sym read_again.same;
-    },
-  );
+    };
+  };
   is_of = record { world_is = is; clients_are = draft.same; book_is = refl };
   fits = fits_alike w clients (client_state_of s) draft.same ∙ fits;
   in_order = draft.in_order;
@@ -222,17 +271,17 @@ pub record ObjectsPut {D : Type 0} (adds : Adding D) (w : World) (at : ℕ) (c c
   pub are : w.objects ≡ before ++ left
   pub next : number_after w at ≡ option_map (λ e. e.0) (slice_get left 0)
   pub have : AllByRecursion HasObjectSpelling before
-  pub given : PartsGiven (passage adds old new) c (map object_bytes before) c'
-  pub size_is : size' ≡ counted size (map object_bytes before)
+  pub given : PartsGiven (passage adds old new) c (flat_map object_bytes before) c'
+  pub size_is : size' ≡ counted size (flat_map object_bytes before)
 
 pub objects_begun : {D : Type 0} (adds : Adding D) (w : World) (c : Journal) (size : ℕ) (d : D) → IsSound w → ObjectsPut adds w 0 c c size size d d
 objects_begun adds w c size d sound = record { before = []; left = w.objects; are = refl; next = (read_in_order w sound).first_object; have = tt; given = given_none adds c d; size_is = refl }
 
-map_push : {X Y : Type 0} (f : X → Y) (xs : List X) (x : X) → map f (xs ++ x ∷ []) ≡ map f xs ++ f x ∷ []
+pub map_push : {X Y : Type 0} (f : X → Y) (xs : List X) (x : X) → map f (xs ++ x ∷ []) ≡ map f xs ++ f x ∷ []
 map_push f [] x = refl
 map_push f (y ∷ xs) x = ap (λ (l : List _). f y ∷ l) (map_push f xs x)
 
-all_push : {X : Type 0} (P : X → Type 0) (xs : List X) (x : X) → AllByRecursion P xs → P x → AllByRecursion P (xs ++ x ∷ [])
+pub all_push : {X : Type 0} (P : X → Type 0) (xs : List X) (x : X) → AllByRecursion P xs → P x → AllByRecursion P (xs ++ x ∷ [])
 all_push P [] x all it = (it, tt)
 all_push P (y ∷ xs) x all it = (all.0, all_push P xs x all.1 it)
 
@@ -264,48 +313,42 @@ next_object w before (e ∷ rest) number sound are next =
     entry : ℕ → Object → ℕ × Object
     entry n o = (n, o)
 
-one_value : {X : Type 0} (x y : X) → Some x ≡ Some y → x ≡ y
-one_value x y e = cc
+flat_push : {X Y : Type 0} (f : X → List Y) (xs : List X) (x : X) → flat_map f (xs ++ x ∷ []) ≡ flat_map f xs ++ f x
+flat_push f xs x = flat_map-append f xs (x ∷ []) ∙ ap (λ (l : List _). flat_map f xs ++ l) (append-nil (f x))
+
+-- the parts of the object of a number
+pub parts_found : (w : World) (number : ℕ) (o : Object) → object w number ≡ Some o → parts_at w number ≡ object_parts number o
+parts_found w number o is = ap (λ (x : Option Object). option_map_or (object_parts number) x []) is
 
 -- one object more
-pub object_put : {D : Type 0} (adds : Adding D) (w : World) (at number : ℕ) (c c' c'' : Journal) (size size' size'' : ℕ) (bytes : Bytes) (old mid new : D) → IsSound w → size'' ≡ counted size' (bytes ∷ []) → ObjectsPut adds w at c c' size size' old mid → number_after w at ≡ Some number → IfSome (object w number) (λ o. (bytes ≡ object_bytes (number, o)) × HasSpelling part (object_value number o)) → PartsGiven (passage adds mid new) c' (bytes ∷ []) c'' → ObjectsPut adds w number c c'' size size'' old new
-object_put adds w at number c c' c'' size size' size'' bytes old mid new sound sized so_far some written one =
+pub object_put : {D : Type 0} (adds : Adding D) (w : World) (at number : ℕ) (c c' c'' : Journal) (size size' size'' : ℕ) (old mid new : D) → IsSound w → size'' ≡ counted size' (map (spelling part) (parts_at w number)) → ObjectsPut adds w at c c' size size' old mid → number_after w at ≡ Some number → AllByRecursion (HasSpelling part) (parts_at w number) → PartsGiven (passage adds mid new) c' (map (spelling part) (parts_at w number)) c'' → ObjectsPut adds w number c c'' size size'' old new
+object_put adds w at number c c' c'' size size' size'' old mid new sound sized so_far some have given =
     let n = next_object w so_far.before so_far.left number sound so_far.are (sym so_far.next ∙ some) in
-    let it : (bytes ≡ object_bytes (number, n.o)) × HasSpelling part (object_value number n.o) = subst (λ (x : Option Object). IfSome x (λ o. (bytes ≡ object_bytes (number, o)) × HasSpelling part (object_value number o))) n.found written in
+    let e : ℕ × Object = (number, n.o) in
+    let are : parts_at w number ≡ object_parts number n.o = parts_found w number n.o n.found in
     record {
-      before = so_far.before ++ (number, n.o) ∷ [];
+      before = so_far.before ++ e ∷ [];
       left = n.rest;
-      are = so_far.are ∙ ap (λ (l : List (ℕ × Object)). so_far.before ++ l) n.is ∙ sym (append_assoc so_far.before ((number, n.o) ∷ []) n.rest);
+      are = so_far.are ∙ ap (λ (l : List (ℕ × Object)). so_far.before ++ l) n.is ∙ sym (append_assoc so_far.before (e ∷ []) n.rest);
       next = n.next;
-      have = all_push HasObjectSpelling so_far.before (number, n.o) so_far.have it.1;
-      given = subst (λ (l : List Bytes). PartsGiven (passage adds old new) c l c'') (sym (map_push object_bytes so_far.before (number, n.o)))
-          (given_then adds c c' c'' (map object_bytes so_far.before) (object_bytes (number, n.o) ∷ []) old mid new so_far.given (subst (λ (b : Bytes). PartsGiven (passage adds mid new) c' (b ∷ []) c'') it.0 one));
-      size_is = sized ∙ ap (λ (b : Bytes). counted size' (b ∷ [])) it.0 ∙ ap (λ (k : ℕ). counted k (object_bytes (number, n.o) ∷ [])) so_far.size_is
-          ∙ sym (counted_then size (map object_bytes so_far.before) (object_bytes (number, n.o) ∷ [])) ∙ ap (counted size) (sym (map_push object_bytes so_far.before (number, n.o)));
+      have = all_push HasObjectSpelling so_far.before e so_far.have (subst (AllByRecursion (HasSpelling part)) are have);
+      given = subst (λ (l : List Bytes). PartsGiven (passage adds old new) c l c'') (sym (flat_push object_bytes so_far.before e))
+          (given_then adds c c' c'' (flat_map object_bytes so_far.before) (object_bytes e) old mid new so_far.given (subst (λ (l : List (Value part)). PartsGiven (passage adds mid new) c' (map (spelling part) l) c'') are given));
+      size_is = sized ∙ ap (λ (l : List (Value part)). counted size' (map (spelling part) l)) are ∙ ap (λ (k : ℕ). counted k (object_bytes e)) so_far.size_is
+          ∙ sym (counted_then size (flat_map object_bytes so_far.before) (object_bytes e)) ∙ ap (counted size) (sym (flat_push object_bytes so_far.before e));
     }
 
-map_append : {X Y : Type 0} (f : X → Y) (xs ys : List X) → map f (xs ++ ys) ≡ map f xs ++ map f ys
-map_append f [] ys = refl
-map_append f (x ∷ xs) ys = ap (λ (l : List _). f x ∷ l) (map_append f xs ys)
-
--- the next object isn't written
-pub object_stop : {D : Type 0} (adds : Adding D) (w : World) (at number : ℕ) (c c' c'' : Journal) (size size' : ℕ) (bytes : Bytes) (fault : WriteFault) (old mid new : D) → IsSound w → ObjectsPut adds w at c c' size size' old mid → number_after w at ≡ Some number → IfSome (object w number) (λ o. (bytes ≡ object_bytes (number, o)) × HasSpelling part (object_value number o)) → PartsEnd (passage adds mid new) c' (bytes ∷ []) (Err fault) c'' → PartsEnd (passage adds old new) c (map object_bytes w.objects) (Err fault) c''
-object_stop adds w at number c c' c'' size size' bytes fault old mid new sound so_far some written one =
+-- the next object isn't written, or not completely
+pub object_stop : {D : Type 0} (adds : Adding D) (w : World) (at number : ℕ) (c c' c'' : Journal) (size size' : ℕ) (fault : WriteFault) (old mid new : D) → IsSound w → ObjectsPut adds w at c c' size size' old mid → number_after w at ≡ Some number → PartsEnd (passage adds mid new) c' (map (spelling part) (parts_at w number)) (Err fault) c'' → PartsEnd (passage adds old new) c (flat_map object_bytes w.objects) (Err fault) c''
+object_stop adds w at number c c' c'' size size' fault old mid new sound so_far some ended =
     let n = next_object w so_far.before so_far.left number sound so_far.are (sym so_far.next ∙ some) in
-    let it : (bytes ≡ object_bytes (number, n.o)) × HasSpelling part (object_value number n.o) = subst (λ (x : Option Object). IfSome x (λ o. (bytes ≡ object_bytes (number, o)) × HasSpelling part (object_value number o))) n.found written in
-    let x = object_bytes (number, n.o) in
-    let before : List Bytes = map object_bytes so_far.before in
-    let rest : List Bytes = map object_bytes n.rest in
-    let all : before ++ x ∷ rest ≡ map object_bytes w.objects = sym (map_append object_bytes so_far.before ((number, n.o) ∷ n.rest)) ∙ ap (map object_bytes) (sym (so_far.are ∙ ap (λ (l : List (ℕ × Object)). so_far.before ++ l) n.is)) in
-    ends_as adds c c'' ((before ++ x ∷ []) ++ rest) (map object_bytes w.objects) (Err fault) old new (append_assoc before (x ∷ []) rest ∙ all)
-    (ends_more adds c c'' (before ++ x ∷ []) rest fault old new
-    (ends_then adds c c' c'' before (x ∷ []) (Err fault) old mid new so_far.given (subst (λ (b : Bytes). PartsEnd (passage adds mid new) c' (b ∷ []) (Err fault) c'') it.0 one)))
-
--- an allocation fails for the next object
-pub objects_stop : {D : Type 0} (adds : Adding D) (w : World) (at : ℕ) (c c' : Journal) (size size' : ℕ) (old new : D) → ObjectsPut adds w at c c' size size' old new → PartsEnd (passage adds old new) c (map object_bytes w.objects) (Err Memory) c'
-objects_stop adds w at c c' size size' old new p =
-    ends_as adds c c' (map object_bytes p.before ++ map object_bytes p.left) (map object_bytes w.objects) (Err Memory) old new (sym (map_append object_bytes p.before p.left) ∙ ap (map object_bytes) (sym p.are))
-    (ends_stop adds c c' (map object_bytes p.before) (map object_bytes p.left) old new p.given)
+    let x : List Bytes = object_bytes (number, n.o) in
+    let before : List Bytes = flat_map object_bytes so_far.before in
+    let rest : List Bytes = flat_map object_bytes n.rest in
+    let all : before ++ (x ++ rest) ≡ flat_map object_bytes w.objects = sym (flat_map-append object_bytes so_far.before ((number, n.o) ∷ n.rest)) ∙ ap (flat_map object_bytes) (sym (so_far.are ∙ ap (λ (l : List (ℕ × Object)). so_far.before ++ l) n.is)) in
+    ends_as adds c c'' ((before ++ x) ++ rest) (flat_map object_bytes w.objects) (Err fault) old new (append_assoc before x rest ∙ all)
+    (ends_more adds c c'' (before ++ x) rest fault old new
+    (ends_then adds c c' c'' before x (Err fault) old mid new so_far.given (subst (λ (l : List (Value part)). PartsEnd (passage adds mid new) c' (map (spelling part) l) (Err fault) c'') (parts_found w number n.o n.found) ended)))
 
 none_left : (objects : List (ℕ × Object)) → option_map (λ e. e.0) (slice_get objects 0) ≡ None → objects ≡ []
 none_left [] is = refl
@@ -328,7 +371,7 @@ rises_from : {X : Type 0} (key : X → ℕ) (low high : ℕ) (xs : List X) → R
 rises_from key low high [] rises = rises
 rises_from key low high (x ∷ xs) rises = let a : low ≤ key x = rises.0 in let b : key x + 1 ≤ high = rises_from key (key x + 1) high xs rises.1 in omega arith
 
-rises_below : {X : Type 0} (key : X → ℕ) (low high : ℕ) (prefix : List X) (x : X) (back : List X) → Rises key low (prefix ++ x ∷ back) high → key x < high
+pub rises_below : {X : Type 0} (key : X → ℕ) (low high : ℕ) (prefix : List X) (x : X) (back : List X) → Rises key low (prefix ++ x ∷ back) high → key x < high
 rises_below key low high [] x back rises = let b : key x + 1 ≤ high = rises_from key (key x + 1) high back rises.1 in omega arith
 rises_below key low high (y ∷ prefix) x back rises = rises_below key (key y + 1) high prefix x back rises.1
 
@@ -352,10 +395,6 @@ number_closer adds w at number c c' size size' old new sound p some =
     let n = next_object w p.before p.left number sound p.are (sym p.next ∙ some) in
     let below : number < w.next_number = rises_below (λ (e : ℕ × Object). e.0) 1 w.next_number p.before (number, n.o) n.rest (subst (λ (l : List (ℕ × Object)). Rises (λ e. e.0) 1 l w.next_number) (p.are ∙ ap (λ (l : List (ℕ × Object)). p.before ++ l) n.is) sound.numbered) in
     (later_number at w.objects number some, (let most = sound.counted.numbers in omega (arith, below, most)))
-
-pub both_some : {X : Type 0} (P Q R : X → Type 0) (o : Option X) → IfSome o P → IfSome o Q → ((x : X) → P x → Q x → R x) → IfSome o R
-both_some P Q R None p q both = tt
-both_some P Q R (Some x) p q both = both x p q
 
 -- ---- names, by rising cookie
 
@@ -466,6 +505,12 @@ on_ok (Ok x) P Q p on = on p
 on_ok (Err e) P Q p on = tt
 
 -- ---- a checkpoint
+
+-- writing parts never stops because open files don't fit
+pub fits_all_the_same : {D : Type 0} (adds : Adding D) (k l : Journal) (parts : List Bytes) (fault : WriteFault) (fits : Bool) (old new : D) → fits ≡ true → PartsEnd (passage adds old new) k parts (Err fault) l → IsUnfitUnless fits (Err fault)
+fits_all_the_same adds k l parts Unfit fits old new is ended = absurd ended
+fits_all_the_same adds k l parts Memory fits old new is ended = is
+fits_all_the_same adds k l parts (Refused fault) fits old new is ended = is
 
 -- writing its parts stopped
 pub stopped_checkpoint : {D : Type 0} (adds : Adding D) (j k l : Journal) (parts : List Bytes) (fault : WriteFault) (old mid new : D) → BeginGives (passage adds old mid) j (Ok tt) k → PartsEnd (passage adds mid new) k parts (Err fault) l → BreaksOff (passage adds old new) j parts fault l

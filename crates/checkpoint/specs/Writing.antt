@@ -6,7 +6,7 @@ use Rattle.store_journal.specs.Disk.{Bytes}
 use Rattle.store_journal.specs.Frames.{Frame, PART, frame_with}
 use Rattle.store_journal.specs.Keeping.{BeginGives, PartGives, FinishGives, IsAsBefore}
 use Rattle.store_journal.specs.Passage.{Passage, Unchanged, passage}
-use Rattle.tree_parts.specs.Parts.{part, parts}
+use Rattle.tree_parts.specs.Parts.{parts}
 use Rattle.compound_run.specs.ClientState.{opens_fit}
 use Rattle.compound_run.specs.State.{State}
 use Rattle.checkpoint.specs.declared.fault.WriteFault.{WriteFault}

@@ -6,7 +6,7 @@ use thiserror::Error;
 /// Why a checkpoint can't be read.
 #[derive(Clone, Copy, Debug, PartialEq, Eq, Error)]
 pub enum CheckpointFault {
-    /// It has another profile than this program's.
+    /// It has a profile that this program doesn't know.
     #[error("another profile")]
     Profile,
     /// Its parts hold no state.

@@ -2,16 +2,14 @@
 ghost use Rattle.std.specs.Prelude.{◌≡◌, ℕ, option_map, Ok, Option, IfOk, MatchOption};
 ghost use Rattle.who_book.specs.Document.{book_from};
 ghost use Rattle.store_journal.specs.Disk.{Bytes};
-ghost use Rattle.checkpoint.specs.Head.{IsHead, IsText, StatesBook};
+ghost use Rattle.checkpoint.specs.Head.{HeadStates, IsHead, IsText};
 ghost use Rattle.checkpoint.specs.internal.Reading.{HeadGives, ReadsBook, BookGives};
 
 use crate::fault::CheckpointFault;
+use nfs_types::Limits;
 use std::alloc::{AllocError, Allocator, Global};
 use who_book::{Book, BookFault};
 use xdr_wire::{Opaque, Reader, Spell, Wire, Writer};
-
-/// The profile of this program.
-const PROFILE: u32 = 0;
 
 /// The size of a head in bytes without a book's text: the profile, the flag of the text, its
 /// length, and at most three bytes of padding.
@@ -31,17 +29,18 @@ fn text_of(book: &Book) -> Result<Option<Text<'_>>, AllocError>
     }
 }
 
-/// Writes the head of a checkpoint with this book.
+/// Writes the head of a checkpoint under these limits, with this book.
 pub(crate) fn write_head<A: Allocator + Copy>(
     alloc: A,
+    limits: Limits,
     book: &Book,
 ) -> Result<Vec<u8, A>, AllocError>
-    ensures { IfOk result (λ bytes. StatesBook bytes.items book.now) }
+    ensures { IfOk result (λ bytes. HeadStates bytes.items limits book.now) }
 {
     let text = text_of(book)?;
     let len = text.map_or(0, |text| text.bytes.len());
     let mut writer = Writer::new(alloc, len.saturating_add(AROUND_TEXT))?;
-    let Ok(()) = (PROFILE, text).write(&mut writer) else {
+    let Ok(()) = (limits.profile(), text).write(&mut writer) else {
         return Err(AllocError);
     };
     Ok(writer.into_bytes())
@@ -86,15 +85,18 @@ fn book_in(global: Global, text: Option<Text<'_>>) -> Result<Book, CheckpointFau
     }
 }
 
-/// The book that a head encodes.
-pub(crate) fn book_of(global: Global, bytes: &[u8]) -> Result<Book, CheckpointFault>
+/// The limits of the profile that a head names, and the book that it encodes.
+pub(crate) fn head_of(global: Global, bytes: &[u8]) -> Result<(Limits, Book), CheckpointFault>
     ensures { HeadGives bytes.now result }
 {
     let Some((profile, text)) = profile_in(bytes) else {
         return Err(CheckpointFault::Corrupt);
     };
-    if profile != PROFILE {
+    let Some(limits) = Limits::of(profile) else {
         return Err(CheckpointFault::Profile);
+    };
+    match book_in(global, text) {
+        Ok(book) => Ok((limits, book)),
+        Err(fault) => Err(fault),
     }
-    book_in(global, text)
 }

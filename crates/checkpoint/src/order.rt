@@ -38,7 +38,7 @@ fn see_session<A: Allocator + Copy>(clients: &Clients<A>, number: u64)
     }
 }
 
-/// Examines all sessions: at most 64, of at most 8 slots each.
+/// Examines all sessions: at most 256, of at most 8 slots each.
 pub(crate) fn see_all<A: Allocator + Copy>(clients: &Clients<A>)
     ensures { IsInOrder clients.now }
 {

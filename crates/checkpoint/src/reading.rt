@@ -1,14 +1,16 @@
 //! The parts of a checkpoint are read as the state that they hold.
 ghost use Rattle.std.specs.Prelude.{map};
 ghost use Rattle.checkpoint.specs.Reading.{ReadingGives};
-ghost use Rattle.checkpoint.specs.internal.Reading.{BeginningClientsGives, ApplyingWholeGives, RestoringGives};
+ghost use Rattle.compound_run.specs.ClientState.{unknown};
+ghost use Rattle.checkpoint.specs.internal.Reading.{ApplyingPartsGives, ApplyingWholeGives, RestoringGives};
 ghost use Rattle.checkpoint.specs.internal.Reading.{TakingGives};
 
 use crate::fault::CheckpointFault;
-use crate::head::book_of;
+use crate::head::head_of;
 use crate::order::see_all;
-use client_parts::{ChangeFault, apply_changes};
+use client_parts::{ChangeFault, apply_changes, client_part_count};
 use compound_run::ClientState;
+use nfs_types::Limits;
 use node_tree::{RestoreFault, Restoring, Tree};
 use std::alloc::{Allocator, Global};
 use tree_parts::{WrittenPart, take};
@@ -29,10 +31,11 @@ pub struct Found<A: Allocator> {
 /// Takes the part that these bytes encode, without a rest.
 fn take_part<A: Allocator + Copy>(
     alloc: A,
+    limits: Limits,
     so_far: Option<Restoring<A>>,
     bytes: &[u8],
 ) -> Result<Restoring<A>, CheckpointFault>
-    ensures { TakingGives so_far bytes.now result }
+    ensures { TakingGives limits so_far bytes.now result }
 {
     let mut reader = Reader::new(bytes);
     let Ok(part) = WrittenPart::read(&mut reader) else {
@@ -41,20 +44,24 @@ fn take_part<A: Allocator + Copy>(
     if !reader.is_empty() {
         return Err(CheckpointFault::Corrupt);
     }
-    match take(alloc, so_far, part) {
+    match take(alloc, limits, so_far, part) {
         Ok(more) => Ok(more),
         Err(RestoreFault::Unsound) => Err(CheckpointFault::Corrupt),
         Err(RestoreFault::Memory) => Err(CheckpointFault::Memory),
     }
 }
 
-/// The tree of these parts.
-fn restored<A: Allocator + Copy>(alloc: A, parts: &[&[u8]]) -> Result<Tree<A>, CheckpointFault>
-    ensures { RestoringGives (map (λ b. b.now) parts.now) result }
+/// The tree of these parts, under these limits.
+fn restored<A: Allocator + Copy>(
+    alloc: A,
+    limits: Limits,
+    parts: &[&[u8]],
+) -> Result<Tree<A>, CheckpointFault>
+    ensures { RestoringGives limits (map (λ b. b.now) parts.now) result }
 {
     let mut so_far = None;
     for bytes in parts {
-        match take_part(alloc, so_far, bytes) {
+        match take_part(alloc, limits, so_far, bytes) {
             Ok(more) => so_far = Some(more),
             Err(fault) => return Err(fault),
         }
@@ -70,7 +77,7 @@ fn restored<A: Allocator + Copy>(alloc: A, parts: &[&[u8]]) -> Result<Tree<A>, C
 
 /// Applies the changes of clients that these bytes encode, without a rest. After a fault the
 /// clients can't be used.
-fn apply_whole<A: Allocator + Copy>(
+pub(crate) fn apply_whole<A: Allocator + Copy>(
     alloc: A,
     clients: &mut ClientState<A>,
     bytes: &[u8],
@@ -89,35 +96,29 @@ fn apply_whole<A: Allocator + Copy>(
     Ok(())
 }
 
-/// Reads the clients and open files that three parts of a checkpoint encode.
-pub(crate) fn client_state_of<A: Allocator + Copy>(
+/// Reads the clients and open files that these parts encode, under these limits.
+fn client_state_of<A: Allocator + Copy>(
     alloc: A,
-    first: &[u8],
-    second: &[u8],
-    third: &[u8],
+    limits: Limits,
+    parts: &[&[u8]],
 ) -> Result<ClientState<A>, CheckpointFault>
-    ensures { BeginningClientsGives first.now second.now third.now result }
+    ensures { ApplyingPartsGives (unknown limits) (map (λ b. b.now) parts.now) result }
 {
-    let mut clients = ClientState::nothing(alloc);
-    match apply_whole(alloc, &mut clients, first) {
-        Ok(()) => {}
-        Err(fault) => return Err(fault),
+    let mut clients = ClientState::nothing(alloc, limits);
+    for bytes in parts {
+        match apply_whole(alloc, &mut clients, bytes) {
+            Ok(()) => {}
+            Err(fault) => return Err(fault),
+        }
     }
-    match apply_whole(alloc, &mut clients, second) {
-        Ok(()) => {}
-        Err(fault) => return Err(fault),
-    }
-    match apply_whole(alloc, &mut clients, third) {
-        Ok(()) => Ok(clients),
-        Err(fault) => Err(fault),
-    }
+    Ok(clients)
 }
 
 /// Reads the parts of a checkpoint. The book is allocated by the global allocator, since its parser
 /// takes no other.
 ///
-/// `Profile`: if and only if its head is complete, and of another profile. `Corrupt`: the parts
-/// hold no state. `Memory`: an allocation fails.
+/// `Profile`: if and only if its head is complete, and of a profile that doesn't exist here.
+/// `Corrupt`: the parts hold no state. `Memory`: an allocation fails.
 pub fn read<A: Allocator + Copy>(
     alloc: A,
     global: Global,
@@ -128,18 +129,20 @@ pub fn read<A: Allocator + Copy>(
     let [head, others @ ..] = parts else {
         return Err(CheckpointFault::Corrupt);
     };
-    let book = match book_of(global, head) {
-        Ok(book) => book,
+    let (limits, book) = match head_of(global, head) {
+        Ok(found) => found,
         Err(fault) => return Err(fault),
     };
-    let [first, second, third, tree @ ..] = others else {
+    let count = client_part_count(limits);
+    if others.len() < count {
         return Err(CheckpointFault::Corrupt);
-    };
-    let clients = match client_state_of(alloc, first, second, third) {
+    }
+    let (clients, tree) = others.split_at(count);
+    let clients = match client_state_of(alloc, limits, clients) {
         Ok(clients) => clients,
         Err(fault) => return Err(fault),
     };
-    let tree = match restored(alloc, tree) {
+    let tree = match restored(alloc, limits, tree) {
         Ok(tree) => tree,
         Err(fault) => return Err(fault),
     };

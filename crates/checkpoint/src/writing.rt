@@ -1,16 +1,17 @@
 //! A checkpoint of a server is written, part by part.
-ghost use Rattle.std.specs.Prelude.{◌≡◌, ◌∷◌, [], map, OnOk};
+ghost use Rattle.std.specs.Prelude.{◌≡◌, ◌∷◌, [], flat_map, map, IsSome, OnOk};
 ghost use Rattle.std.specs.List.{AllByRecursion};
 ghost use Rattle.xdr_wire.specs.Xdr.{HasSpelling, spelling};
 ghost use Rattle.store_journal.specs.Passage.{passage};
 ghost use Rattle.node_tree.specs.Sound.{IsSound};
+ghost use Rattle.node_tree.specs.World.{object};
 ghost use Rattle.compound_run.specs.ClientState.{opens_fit};
 ghost use Rattle.compound_run.specs.State.{client_state_of};
 ghost use Rattle.tree_parts.specs.Parts.{part, counters_value};
 ghost use Rattle.checkpoint.specs.internal.Drafting.{all_parts, draft_of, draft_parts};
 ghost use Rattle.checkpoint.specs.Writing.{IsUnfitUnless, PartsEnd, WritingGives};
 ghost use Rattle.checkpoint.specs.internal.Writing.{HasNameSpelling, HasObjectSpelling, HaveSpelling};
-ghost use Rattle.checkpoint.specs.internal.Writing.{counted, name_bytes, object_bytes};
+ghost use Rattle.checkpoint.specs.internal.Writing.{counted, name_bytes, object_bytes, parts_at, rests_at};
 
 use crate::drafting::Draft;
 use crate::fault::WriteFault;
@@ -18,11 +19,11 @@ use compound_run::{Lent, Server, opens_fit};
 use node_tree::{ROOT, Tree};
 use std::alloc::Allocator;
 use store_journal::{Disk, Journal};
-use tree_parts::{write_counters, write_name, write_object};
+use tree_parts::{next_rest, write_counters, write_name, write_object, write_rest};
 use xdr_wire::Writer;
 
-/// Room for each part of the tree: the bytes of an object, at most 64 access control entries of 20
-/// bytes, and the rest.
+/// Room for each part of the tree: at most 1,048,576 bytes of an object, at most 64 access control
+/// entries of 20 bytes, and the rest.
 const PART_ROOM: usize = 1_048_576 + 4096;
 
 /// The parts of a checkpoint that is being written.
@@ -76,7 +77,29 @@ impl<A: Allocator + Copy> Parts<A> {
         }
     }
 
-    /// Appends the first four parts.
+    /// Appends parts that were made before, in order.
+    fn put_made<D: Disk>(
+        &mut self,
+        disk: &mut D,
+        alloc: A,
+        journal: &mut Journal,
+        parts: &[Vec<u8, A>],
+    ) -> Result<(), WriteFault>
+        ensures ends { PartsEnd (passage D.adds disk.old disk.new) journal.old (map (λ bytes. bytes.items) parts.now)
+            result journal.new }
+        ensures size { OnOk result (self.new.size ≡ counted self.old.size (map (λ bytes. bytes.items) parts.now)) }
+        ensures stays { self.new.writer ≡ self.old.writer }
+    {
+        for bytes in parts {
+            match self.put_bytes(disk, alloc, journal, bytes) {
+                Ok(()) => {}
+                Err(fault) => return Err(fault),
+            }
+        }
+        Ok(())
+    }
+
+    /// Appends the head and the parts of the clients.
     fn put_draft<D: Disk>(
         &mut self,
         disk: &mut D,
@@ -84,24 +107,16 @@ impl<A: Allocator + Copy> Parts<A> {
         journal: &mut Journal,
         draft: &Draft<A>,
     ) -> Result<(), WriteFault>
-        ensures ends { PartsEnd (passage D.adds disk.old disk.new) journal.old (draft_parts (draft_of draft.now) [])
-            result journal.new }
-        ensures size { OnOk result (self.new.size ≡ counted self.old.size (draft_parts (draft_of draft.now) [])) }
+        ensures ends { PartsEnd (passage D.adds disk.old disk.new) journal.old (draft_parts (draft_of draft.now)) result
+            journal.new }
+        ensures size { OnOk result (self.new.size ≡ counted self.old.size (draft_parts (draft_of draft.now))) }
         ensures stays { self.new.writer ≡ self.old.writer }
     {
         match self.put_bytes(disk, alloc, journal, &draft.head) {
             Ok(()) => {}
             Err(fault) => return Err(fault),
         }
-        match self.put_bytes(disk, alloc, journal, &draft.first) {
-            Ok(()) => {}
-            Err(fault) => return Err(fault),
-        }
-        match self.put_bytes(disk, alloc, journal, &draft.second) {
-            Ok(()) => {}
-            Err(fault) => return Err(fault),
-        }
-        self.put_bytes(disk, alloc, journal, &draft.third)
+        self.put_made(disk, alloc, journal, draft.clients.as_slice())
     }
 
     /// Appends the counters.
@@ -126,6 +141,64 @@ impl<A: Allocator + Copy> Parts<A> {
         self.put(disk, alloc, journal)
     }
 
+    /// Appends the parts of an object after its first part, by rising offset.
+    fn put_rests<D: Disk>(
+        &mut self,
+        disk: &mut D,
+        alloc: A,
+        journal: &mut Journal,
+        tree: &Tree<A>,
+        number: u64,
+    ) -> Result<(), WriteFault>
+        requires { self.old.writer.bytes ≡ [] }
+        ensures ends { PartsEnd (passage D.adds disk.old disk.new) journal.old
+            (map (spelling part) (rests_at tree.now number)) result journal.new }
+        ensures has_spelling { OnOk result (AllByRecursion (HasSpelling part) (rests_at tree.now number)) }
+        ensures size { OnOk result (self.new.size ≡
+            counted self.old.size (map (spelling part) (rests_at tree.now number))) }
+        ensures empty { OnOk result (self.new.writer.bytes ≡ []) }
+    {
+        let mut at = 0;
+        while let Some(offset) = next_rest(tree, number, at) {
+            let Ok(()) = write_rest(tree, alloc, number, offset, &mut self.writer) else {
+                return Err(WriteFault::Memory);
+            };
+            match self.put(disk, alloc, journal) {
+                Ok(()) => at = offset,
+                Err(fault) => return Err(fault),
+            }
+        }
+        Ok(())
+    }
+
+    /// Appends the parts of an object: one, and further ones if its bytes are many.
+    fn put_object<D: Disk>(
+        &mut self,
+        disk: &mut D,
+        alloc: A,
+        journal: &mut Journal,
+        tree: &Tree<A>,
+        number: u64,
+    ) -> Result<(), WriteFault>
+        requires empty { self.old.writer.bytes ≡ [] }
+        requires there { IsSome (object tree.now number) }
+        ensures ends { PartsEnd (passage D.adds disk.old disk.new) journal.old
+            (map (spelling part) (parts_at tree.now number)) result journal.new }
+        ensures has_spelling { OnOk result (AllByRecursion (HasSpelling part) (parts_at tree.now number)) }
+        ensures size { OnOk result (self.new.size ≡
+            counted self.old.size (map (spelling part) (parts_at tree.now number))) }
+        ensures empty { OnOk result (self.new.writer.bytes ≡ []) }
+    {
+        let Ok(()) = write_object(tree, alloc, number, &mut self.writer) else {
+            return Err(WriteFault::Memory);
+        };
+        match self.put(disk, alloc, journal) {
+            Ok(()) => {}
+            Err(fault) => return Err(fault),
+        }
+        self.put_rests(disk, alloc, journal, tree, number)
+    }
+
     /// Appends the objects, by rising number.
     fn put_objects<D: Disk>(
         &mut self,
@@ -136,18 +209,16 @@ impl<A: Allocator + Copy> Parts<A> {
     ) -> Result<(), WriteFault>
         requires empty { self.old.writer.bytes ≡ [] }
         requires sound { IsSound tree.now }
-        ensures ends { PartsEnd (passage D.adds disk.old disk.new) journal.old (map object_bytes tree.now.objects)
-            result journal.new }
+        ensures ends { PartsEnd (passage D.adds disk.old disk.new) journal.old
+            (flat_map object_bytes tree.now.objects) result journal.new }
         ensures has_spelling { OnOk result (AllByRecursion HasObjectSpelling tree.now.objects) }
-        ensures size { OnOk result (self.new.size ≡ counted self.old.size (map object_bytes tree.now.objects)) }
+        ensures size { OnOk result (self.new.size ≡
+            counted self.old.size (flat_map object_bytes tree.now.objects)) }
         ensures empty { OnOk result (self.new.writer.bytes ≡ []) }
     {
         let mut at = 0;
         while let Some(number) = tree.number_after(at) {
-            let Ok(()) = write_object(tree, alloc, number, &mut self.writer) else {
-                return Err(WriteFault::Memory);
-            };
-            match self.put(disk, alloc, journal) {
+            match self.put_object(disk, alloc, journal, tree, number) {
                 Ok(()) => at = number,
                 Err(fault) => return Err(fault),
             }

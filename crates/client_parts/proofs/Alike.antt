@@ -1,5 +1,5 @@
 -- Two states of clients are compared.
-use Rattle.std.proofs.Common.{List, length, get_or, ◌≡◌, ℕ, ◌<◌, sym, ap, ◌∙◌, subst, arith, Some, None, IsTrue}
+use Rattle.std.proofs.Common.{List, length, get_or, ◌≡◌, ℕ, ◌<◌, sym, ap, ◌∙◌, arith, Some, None}
 use Rattle.std.specs.Prelude.{Option, slice_get}
 use Rattle.std.specs.Option.{option_map, option_and_then}
 use Rattle.session_slots.specs.Registry.{Client, Session, Registry, session_at}

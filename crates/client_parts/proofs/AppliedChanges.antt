@@ -1,13 +1,12 @@
 -- Changes that are read and applied, in order, transition to at most one state.
-use Rattle.std.proofs.Common.{◌≡◌, ℕ, ◌-◌, ◌<◌, arith, zero, suc, ◌&&◌, Bool, true, false, not, nat_lt, is_some, is_none, length, List, [], ◌∷◌, refl, sym, ap, ◌∙◌, subst, inl, inr, Ok, Err}
+use Rattle.std.proofs.Common.{◌≡◌, ℕ, ◌-◌, ◌<◌, arith, zero, suc, ◌&&◌, Bool, true, false, not, nat_lt, is_some, is_none, length, List, refl, sym, ap, ◌∙◌, subst, inl, inr, Ok, Err}
 use Rattle.std.specs.Prelude.{Result}
 use Rattle.xdr_wire.specs.Xdr.{Value}
 use Rattle.xdr_wire.specs.Reading.{read_at}
 use Rattle.xdr_wire.specs.declared.fault.XdrFault.{XdrFault}
 use Rattle.session_slots.specs.declared.session.Held.{Held}
-use Rattle.session_slots.specs.Forms.{client, session, call, client_value}
+use Rattle.session_slots.specs.Forms.{client, session, call}
 use Rattle.session_slots.specs.Orderly.{has_form}
-use Rattle.session_slots.specs.Limits.{MOST_CLIENTS}
 use Rattle.session_slots.specs.Registry.{Client, Registry, client_at, confirmed_entry}
 use Rattle.session_slots.specs.Restoring.{record_fits, with_record, with_restored, with_cached}
 use Rattle.session_slots.specs.Slots.{Cached}
@@ -39,7 +38,7 @@ last_of true false c d e h = cc
 last_of false b c d e h = cc
 
 pub fits_form : (r : Registry) (c : Client) → record_fits r c ≡ true → has_form c ≡ true
-fits_form r c h = last_of (nat_lt c.number r.next_client) (nat_lt (length r.clients) MOST_CLIENTS) (is_none (client_at r c.number)) (not (c.confirmed && is_some (confirmed_entry r c.owner))) (has_form c) h
+fits_form r c h = last_of (nat_lt c.number r.next_client) (nat_lt (length r.clients) r.limits.clients) (is_none (client_at r c.number)) (not (c.confirmed && is_some (confirmed_entry r c.owner))) (has_form c) h
 
 record_one : (old : ClientState) (v : Value client) (a b : ClientState) → AppliesRecord old v a → AppliesRecord old v b → a ≡ b
 record_one old v a b r q =

@@ -10,8 +10,9 @@ pub record IsSessionSame (r q : Registry) (number : ℕ) : Type 0 where
   pub held : option_map held_of (session_at r number) ≡ option_map held_of (session_at q number)
   pub slots : (slot : ℕ) → kept_at r number slot ≡ kept_at q number slot
 
--- The records, the sessions with their slots, the open files and the next numbers are equal.
+-- The limits, the records, the sessions with their slots, the open files and the next numbers are equal.
 pub record AreSame (old new : ClientState) : Type 0 where
+  pub limits : old.registry.limits ≡ new.registry.limits
   pub records : (number : ℕ) → client_at old.registry number ≡ client_at new.registry number
   pub sessions : (number : ℕ) → IsSessionSame old.registry new.registry number
   pub next_client : old.registry.next_client ≡ new.registry.next_client

@@ -1,5 +1,5 @@
 -- The XDR forms of changes of the clients' state (RFC 4506), and the value of a change that was read.
-use Rattle.std.specs.Prelude.{ℕ, [], ◌∷◌}
+use Rattle.std.specs.Prelude.{[], ◌∷◌}
 use Rattle.std.proofs.Common.{inl, inr}
 use Rattle.xdr_wire.specs.Xdr.{Xdr, Value, uint, hyper, opaque, union, arm, no_more, fields}
 use Rattle.session_slots.specs.Forms.{client, session, call, client_value, session_value}

@@ -1,4 +1,5 @@
 pub mod Forms
 pub mod Applying
 pub mod Comparing
+pub mod PartCount
 pub mod internal

@@ -222,12 +222,22 @@ fn are_numbers_same<A: Allocator + Copy>(a: &Clients<A>, b: &Clients<A>) -> bool
     client == other_client && session == other_session
 }
 
-/// Whether two states of clients are equal: their records, their sessions with the cached calls of
-/// the slots, the open files, and the next numbers.
+/// Whether the limits are equal. Those of one profile are.
+fn are_limits_same<A: Allocator + Copy>(a: &Clients<A>, b: &Clients<A>) -> bool
+    ensures { IsTrue result ↔ (a.now.limits ≡ b.now.limits) }
+{
+    a.limits().profile() == b.limits().profile()
+}
+
+/// Whether two states of clients are equal: the limits, the records, the sessions with the cached
+/// calls of their slots, the open files, and the next numbers.
 pub fn are_same<A: Allocator + Copy>(old: Lent<'_, A>, new: Lent<'_, A>) -> bool
     ensures { IsTrue result ↔ AreSame (lent_view old.entry) (lent_view new.entry) }
 {
     if old.next_open != new.next_open {
+        return false;
+    }
+    if !are_limits_same(old.clients, new.clients) {
         return false;
     }
     if !are_numbers_same(old.clients, new.clients) {

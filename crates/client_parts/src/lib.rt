@@ -13,4 +13,4 @@ pub use applying::{ChangeFault, apply};
 pub use change::{WrittenChange, WrittenOpen};
 pub use comparing::are_same;
 pub use leading::apply_changes;
-pub use writing::{write_calls, write_clients};
+pub use writing::{client_part_count, write_clients};

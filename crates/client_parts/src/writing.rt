@@ -1,16 +1,20 @@
 //! Changes that are written. No contract states which they are. The caller applies them
 //! ([`crate::apply_changes`]), and compares the result with the server's state ([`crate::are_same`]).
+ghost use Rattle.std.specs.Prelude.{◌≡◌};
+ghost use Rattle.client_parts.specs.PartCount.{client_part_count};
+
 use crate::change::WrittenOpen;
 use compound_run::{Lent, Open};
+use nfs_types::Limits;
 use session_slots::{CachedCall, Clients, Record, RecordForm, SessionForm, write_call};
 use std::alloc::{AllocError, Allocator};
 use xdr_wire::{Full, Opaque, Spell, Writer};
 
-/// The most records, and the most sessions.
-const MOST: u32 = 64;
+/// How many sessions have their calls in one part.
+const PART_SESSIONS: usize = 32;
 
-/// How many sessions have their calls in the first of two parts.
-const HALF: u32 = 32;
+/// How many open files one part has.
+const PART_OPENS: usize = 4_096;
 
 /// Room for a record, a session, an open file, and a call without its arguments and results.
 const ROOM: usize = 2_048;
@@ -66,7 +70,7 @@ impl<A: Allocator + Copy> Draft<A> {
     /// The records of all clients.
     fn put_records(&mut self, clients: &Clients<A>) -> Result<(), AllocError> {
         let mut at = 0;
-        for _record in 0..MOST {
+        for _record in 0..clients.limits().clients() {
             let Some(number) = clients.client_from(at) else {
                 return Ok(());
             };
@@ -89,7 +93,7 @@ impl<A: Allocator + Copy> Draft<A> {
     /// All sessions, without the calls of their slots.
     fn put_sessions(&mut self, clients: &Clients<A>) -> Result<(), AllocError> {
         let mut at = 0;
-        for _session in 0..MOST {
+        for _session in 0..clients.limits().sessions() {
             let Some(number) = clients.session_from(at) else {
                 return Ok(());
             };
@@ -127,10 +131,10 @@ impl<A: Allocator + Copy> Draft<A> {
         Ok(())
     }
 
-    /// The calls of the sessions from one place to another.
-    fn put_calls(&mut self, clients: &Clients<A>, first: u32, end: u32) -> Result<(), AllocError> {
+    /// The calls of 32 sessions, from a place on.
+    fn put_calls(&mut self, clients: &Clients<A>, first: usize) -> Result<(), AllocError> {
         let mut at = 0;
-        for place in 0..end {
+        for place in 0..first.saturating_add(PART_SESSIONS) {
             let Some(number) = clients.session_from(at) else {
                 return Ok(());
             };
@@ -152,9 +156,11 @@ impl<A: Allocator + Copy> Draft<A> {
         written((5u32, part).write(&mut self.writer))
     }
 
-    /// All open files.
-    fn put_opens(&mut self, opens: &[Open<A>]) -> Result<(), AllocError> {
-        for open in opens {
+    /// 4,096 open files, from a place on.
+    fn put_opens(&mut self, opens: &[Open<A>], first: usize) -> Result<(), AllocError> {
+        let first = first.min(opens.len());
+        let end = first.saturating_add(PART_OPENS).min(opens.len());
+        for open in &opens[first..end] {
             self.put_open(open)?;
         }
         Ok(())
@@ -171,29 +177,53 @@ impl<A: Allocator + Copy> Draft<A> {
     }
 }
 
+/// How many parts the clients of a server take: a first part, and as many further ones as the calls
+/// of all sessions or all open files need. It is 3 in the standard profile, and 17 in the office
+/// profile.
+pub fn client_part_count(limits: Limits) -> usize
+    ensures { result ≡ client_part_count limits }
+{
+    1 + (limits.sessions() / PART_SESSIONS).max(limits.opens() / PART_OPENS)
+}
+
 /// The bytes of changes that lead from the empty state to all records and sessions, with no call on
-/// a slot, and to all open files.
-pub fn write_clients<A: Allocator + Copy>(
-    alloc: A,
-    now: Lent<'_, A>,
-) -> Result<Vec<u8, A>, AllocError> {
+/// a slot, and to the first 4,096 open files.
+fn write_first<A: Allocator + Copy>(alloc: A, now: Lent<'_, A>) -> Result<Vec<u8, A>, AllocError> {
     let mut draft = Draft::new(alloc);
     draft.put_numbers(now.clients)?;
     draft.put_records(now.clients)?;
     draft.put_sessions(now.clients)?;
-    draft.put_opens(now.opens)?;
+    draft.put_opens(now.opens, 0)?;
     draft.finish(alloc, now.next_open)
 }
 
-/// The bytes of changes that add the calls on the slots of the first or the second half of the
-/// sessions. Each half has at most 34 MB.
-pub fn write_calls<A: Allocator + Copy>(
+/// The bytes of changes that add the calls on the slots of 32 sessions, and 4,096 open files. Place 0
+/// has the calls of the first 32 sessions, and the open files after the first 4,096.
+fn write_further<A: Allocator + Copy>(
     alloc: A,
     now: Lent<'_, A>,
-    second: bool,
+    place: usize,
 ) -> Result<Vec<u8, A>, AllocError> {
     let mut draft = Draft::new(alloc);
-    let (first, end) = if second { (HALF, MOST) } else { (0, HALF) };
-    draft.put_calls(now.clients, first, end)?;
+    draft.put_calls(now.clients, place.saturating_mul(PART_SESSIONS))?;
+    draft.put_opens(
+        now.opens,
+        place.saturating_add(1).saturating_mul(PART_OPENS),
+    )?;
     draft.finish(alloc, now.next_open)
+}
+
+/// The bytes of one of the parts ([`client_part_count`]), by its place. The part at place 0 leads
+/// from the empty state to all records and sessions and the first 4,096 open files. Each other part
+/// adds the calls on the slots of 32 sessions, and 4,096 open files. A part has at most 39 MB.
+pub fn write_clients<A: Allocator + Copy>(
+    alloc: A,
+    now: Lent<'_, A>,
+    place: usize,
+) -> Result<Vec<u8, A>, AllocError> {
+    if place == 0 {
+        write_first(alloc, now)
+    } else {
+        write_further(alloc, now, place - 1)
+    }
 }

@@ -55,6 +55,7 @@ written_same w file offset (byte ∷ more) at = record {
   kinds = λ k. option_map-changed (λ o. o.kind) file (λ o. touched at (record o { bytes = written o.bytes offset (byte ∷ more) })) w.objects (λ o. refl) k;
   names = refl;
   next = refl;
+  limits = refl;
 }
 
 truncated_same : (w : World) (file size : ℕ) (at : At) → Same w (with_size w file size at)
@@ -62,6 +63,7 @@ truncated_same w file size at = record {
   kinds = λ k. option_map-changed (λ o. o.kind) file (λ o. touched at (record o { bytes = resized o.bytes size })) w.objects (λ o. refl) k;
   names = refl;
   next = refl;
+  limits = refl;
 }
 
 sized_same : (w : World) (file : ℕ) (size : Option ℕ) (at : At) → Same w (sized file size at w)
@@ -76,6 +78,7 @@ listed_same w number o wanted at = of (sets_acl wanted)
       kinds = λ k. option_map-changed (λ o. o.kind) number (λ x. retold at (record x { list = set_list wanted o.kind o.list; high = changed_high o.high wanted.mode; stamp = w.next_stamp })) w.objects (λ o. refl) k;
       names = refl;
       next = refl;
+      limits = refl;
     }
     of false = same_again w
 
@@ -87,6 +90,7 @@ owned_same w number o wanted at = of (sets_owner wanted)
       kinds = λ k. option_map-changed (λ o. o.kind) number (λ x. retold at (record x { owner = unwrap_or wanted.owner o.owner; group = unwrap_or wanted.group o.group; stamp = w.next_stamp })) w.objects (λ o. refl) k;
       names = refl;
       next = refl;
+      limits = refl;
     }
     of false = same_again w
 
@@ -124,15 +128,15 @@ all_reopened w access number [] live = tt
 all_reopened w access number (o ∷ opens) live = (one_reopened w access number o live.0, all_reopened w access number opens live.1)
 
 -- there was space for one more
-within : (n : ℕ) (more : Bool) → nat_lt n 4096 && more ≡ true → n < 4096
-within n more space = of (nat_lt n 4096) refl space
+within : (n most : ℕ) (more : Bool) → nat_lt n most && more ≡ true → n < most
+within n most more space = of (nat_lt n most) refl space
   where
-    of : (b : Bool) → nat_lt n 4096 ≡ b → b && more ≡ true → n < 4096
+    of : (b : Bool) → nat_lt n most ≡ b → b && more ≡ true → n < most
     of true is space = grind (arith, nat_tests, is)
     of false is space = cc
 
-few_more : (opens : List Opened) (o : Opened) → length opens < 4096 → length (opens ++ o ∷ []) ≤ 4096
-few_more opens o less = let long = length-append opens (o ∷ []) in omega (arith, long, less)
+few_more : (opens : List Opened) (o : Opened) (most : ℕ) → length opens < most → length (opens ++ o ∷ []) ≤ most
+few_more opens o most less = let long = length-append opens (o ∷ []) in omega (arith, long, less)
 
 -- an existing file is opened
 hold_found : (c : Context) (v : Value open_args) (directory file : ℕ) (r : Realm) (o : Option Opened) → kind_of r.world file ≡ Some File → has_open_space o (whole r) ≡ true → OpensHold r → OpensHold (with_open c v file o r)
@@ -143,7 +147,7 @@ hold_found c v directory file r (Some o) is space hold = record {
 }
 hold_found c v directory file r None is space hold = record {
   live = one_more (LiveIn r.world) r.opens (new_open c v r.next_open file) hold.live is;
-  few = few_more r.opens (new_open c v r.next_open file) (within (length r.opens) _ space);
+  few = few_more r.opens (new_open c v r.next_open file) r.world.limits.opens (within (length r.opens) r.world.limits.opens _ space);
   kept = hold.kept;
 }
 
@@ -155,7 +159,7 @@ hold_made c v directory r space hold =
     let name = name_in (claim_of v) in
     record {
       live = one_more (LiveIn (file_in c v directory None w)) r.opens (new_open c v r.next_open w.next_number) (live_new w directory name made (at c w) hold.kept r.opens hold.live) (kind_there w directory name made (at c w) hold.kept);
-      few = few_more r.opens (new_open c v r.next_open w.next_number) (within (length r.opens) _ space);
+      few = few_more r.opens (new_open c v r.next_open w.next_number) w.limits.opens (within (length r.opens) w.limits.opens _ space);
       kept = kept_new w directory name made (at c w) hold.kept;
     }
 

@@ -78,12 +78,13 @@ pub record Same (w new : World) : Type 0 where
   pub kinds : (k : ℕ) → kind_of new k ≡ kind_of w k
   pub names : new.names ≡ w.names
   pub next : new.next_number ≡ w.next_number
+  pub limits : new.limits ≡ w.limits
 
 pub same_again : (w : World) → Same w w
-same_again w = record { kinds = λ k. refl; names = refl; next = refl }
+same_again w = record { kinds = λ k. refl; names = refl; next = refl; limits = refl }
 
 pub same_then : (w mid new : World) → Same w mid → Same mid new → Same w new
-same_then w mid new a b = record { kinds = λ k. b.kinds k ∙ a.kinds k; names = b.names ∙ a.names; next = b.next ∙ a.next }
+same_then w mid new a b = record { kinds = λ k. b.kinds k ∙ a.kinds k; names = b.names ∙ a.names; next = b.next ∙ a.next; limits = b.limits ∙ a.limits }
 
 kept_same : (w new : World) → Same w new → IsKept w → IsKept new
 kept_same w new same kept = record {
@@ -95,7 +96,7 @@ live_same : (w new : World) (opens : List Opened) → ((k : ℕ) → kind_of new
 live_same w new opens kinds live = each (LiveIn w) (LiveIn new) opens (λ o is. kinds o.object ∙ is) live
 
 pub hold_same : (r : Realm) (new : World) → Same r.world new → OpensHold r → OpensHold (record r { world = new })
-hold_same r new same hold = record { live = live_same r.world new r.opens same.kinds hold.live; few = hold.few; kept = kept_same r.world new same hold.kept }
+hold_same r new same hold = record { live = live_same r.world new r.opens same.kinds hold.live; few = subst (λ l. length r.opens ≤ l.opens) (sym same.limits) hold.few; kept = kept_same r.world new same hold.kept }
 
 -- the law of open files doesn't depend on clients and sessions
 pub hold_registry : (r : Realm) (registry : Registry) → OpensHold r → OpensHold (with_registry registry r)
@@ -362,13 +363,13 @@ live_fit w registry next (o ∷ opens) fit =
     let there = both (is_file_at w o.object) _ numbered.1 in
     (file_there (kind_of w o.object) there.0, live_fit w registry next opens first.1)
 
-few_fit : (n : ℕ) → nat_le n 4096 ≡ true → n ≤ 4096
-few_fit n is = grind (arith, nat_tests, is)
+few_fit : (n most : ℕ) → nat_le n most ≡ true → n ≤ most
+few_fit n most is = grind (arith, nat_tests, is)
 
 pub hold_restored : (w : World) (k : ClientState) (book : Content) (capacity : ℕ) → IsSound w → opens_fit w k ≡ true
     → OpensHold (restored w k book capacity).realm
 hold_restored w k book capacity sound fit =
     let all = both (is_next k.next_open) _ fit in
-    let few = both (nat_le (length k.opens) 4096) _ all.1 in
+    let few = both (nat_le (length k.opens) w.limits.opens) _ all.1 in
     let rising = both (rise_above 0 k.opens) _ few.1 in
-    record { live = live_fit w k.registry k.next_open k.opens rising.1; few = few_fit (length k.opens) few.0; kept = kept_sound w sound }
+    record { live = live_fit w k.registry k.next_open k.opens rising.1; few = few_fit (length k.opens) w.limits.opens few.0; kept = kept_sound w sound }

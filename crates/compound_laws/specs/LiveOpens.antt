@@ -4,7 +4,6 @@ use Rattle.std.specs.Prelude.{◌≡◌, ◌≤◌, ◌<◌, ℕ, length, Some, 
 use Rattle.std.specs.List.{AllByRecursion}
 use Rattle.acl_list.specs.declared.entry.Kind.TheVariants.{File}
 use Rattle.node_tree.specs.World.{World, kind_of}
-use Rattle.compound_run.specs.Limits.{MAX_OPENS}
 use Rattle.compound_run.specs.Realm.{Realm}
 
 -- Each name has an existing object, and no object has the next number or a higher one. The object of a name can
@@ -16,5 +15,5 @@ pub record IsKept (w : World) : Type 0 where
 -- No open outlives its object: each is of an existing file. The number of opens is within the limit.
 pub record OpensHold (r : Realm) : Type 0 where
   pub live : AllByRecursion (λ o. kind_of r.world o.object ≡ Some File) r.opens
-  pub few : length r.opens ≤ MAX_OPENS
+  pub few : length r.opens ≤ r.world.limits.opens
   pub kept : IsKept r.world

@@ -2,10 +2,11 @@
 -- open file gets. Open files have to fit the world after a restart (RFC 8881, section 2.10.6.5).
 use Rattle.std.specs.Prelude.{ℕ, ◌^◌, ◌&&◌, Bool, true, nat_lt, nat_le, List, [], ◌∷◌, length, is_some}
 use Rattle.std.specs.List.{list_all}
+use Rattle.nfs_types.specs.Limits.{Limits}
 use Rattle.node_tree.specs.World.{World}
 use Rattle.node_tree.specs.World.{is_file_at}
 use Rattle.session_slots.specs.Registry.{Registry, client_at, nobody}
-use Rattle.compound_run.specs.Limits.{MAX_OPENS, MAX_OWNER}
+use Rattle.compound_run.specs.Limits.{MAX_OWNER}
 use Rattle.compound_run.specs.Realm.{Opened}
 
 pub record ClientState : Type 0 where
@@ -14,8 +15,8 @@ pub record ClientState : Type 0 where
   pub next_open : ℕ
 
 -- no client ever had a record, and no file was ever open
-abbrev pub unknown : ClientState
-unknown = record { registry = nobody; opens = []; next_open = 1 }
+abbrev pub unknown : Limits → ClientState
+unknown limits = record { registry = nobody limits; opens = []; next_open = 1 }
 
 -- to read 1, to write 2, for both 3
 abbrev pub is_access : ℕ → Bool
@@ -44,5 +45,5 @@ is_next next = nat_le 1 next && nat_le next (2 ^ 63)
 -- The open files fit a world and their clients. Their numbers are at least 1, and rise.
 abbrev pub opens_fit : World → ClientState → Bool
 opens_fit w k =
-    is_next k.next_open && (nat_le (length k.opens) MAX_OPENS
+    is_next k.next_open && (nat_le (length k.opens) w.limits.opens
     && (rise_above 0 k.opens && list_all (open_fits w k.registry k.next_open) k.opens))

@@ -37,10 +37,6 @@ REFUSAL_ROOM = 16
 abbrev pub MAX_READ : ℕ
 MAX_READ = 32768
 
--- the most files that may be open at once
-abbrev pub MAX_OPENS : ℕ
-MAX_OPENS = 4096
-
 -- the most bytes of an open-owner
 abbrev pub MAX_OWNER : ℕ
 MAX_OWNER = 1024

@@ -11,7 +11,7 @@ use Rattle.nfs_types.specs.Sent.{Wanted}
 use Rattle.nfs_ops.specs.Parts.{Claim, ByName, ByHandle}
 use Rattle.node_tree.specs.declared.node.NewObject.{NewObject}
 use Rattle.node_tree.specs.Changes.{resized}
-use Rattle.node_tree.specs.Limits.{Limits}
+use Rattle.nfs_types.specs.Limits.{Limits}
 use Rattle.node_tree.specs.Sound.{most_bytes}
 use Rattle.compound_run.specs.declared.filehandles.FileHandles.{FileHandles}
 use Rattle.compound_run.specs.Sight.{Sight}

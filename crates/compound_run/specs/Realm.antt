@@ -29,7 +29,7 @@ pub record Realm : Type 0 where
 
 -- no file was ever open, no client ever had a record, and sessions aren't persistent
 abbrev pub unopened : World → Realm
-unopened w = record { world = w; opens = []; next_open = 1; registry = nobody; lasting = false }
+unopened w = record { world = w; opens = []; next_open = 1; registry = nobody w.limits; lasting = false }
 
 -- ---- opens end with their object
 

@@ -13,7 +13,7 @@ use Rattle.acl_list.specs.declared.entry.Kind.TheVariants.{File}
 use Rattle.acl_list.specs.declared.mask.TheConstants.{READ_DATA, LIST_DIRECTORY, EXECUTE, READ_ATTRIBUTES}
 use Rattle.acl_shape.specs.Inherited.{is_directory}
 use Rattle.nfs_types.specs.declared.moment.Moment.{Moment}
-use Rattle.node_tree.specs.Limits.{Limits}
+use Rattle.nfs_types.specs.Limits.{Limits}
 use Rattle.node_tree.specs.World.{World, Object, Name, object, kind_of, bytes_of, link_count, has_entries, parent_of}
 use Rattle.node_tree.specs.World.{names_in, child_in}
 use Rattle.node_tree.specs.Judged.{judged_of}

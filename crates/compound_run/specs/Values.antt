@@ -70,6 +70,7 @@ facts_at s number error asked = record {
   group = group_at s number;
   metadata = (details_at s number).time_metadata;
   modify = (details_at s number).time_modify;
+  most_bytes = s.limits.bytes;
 }
 
 -- the values of the attributes requested and supported, by rising number

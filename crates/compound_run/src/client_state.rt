@@ -8,15 +8,13 @@ ghost use Rattle.compound_run.specs.State.{client_state_of};
 ghost use Rattle.compound_run.specs.Views.{lent_view, open_view, opens_view};
 
 use crate::limits::{MAX_COUNT, MAX_OWNER};
-use crate::opens::{MAX_OPENS, Open};
+use crate::opens::Open;
 use crate::server::Server;
+use nfs_types::Limits;
 use node_tree::{Kind, Tree};
 use session_slots::Clients;
 use std::alloc::{Allocator, Global};
 use std::marker::Model;
-
-/// The most clients.
-const MOST: u32 = 64;
 
 /// The client state: the clients' records with their sessions and slots, the open files, and the number of the next
 /// open file.
@@ -55,7 +53,7 @@ fn renew_all<A: Allocator + Copy>(clients: &mut Clients<A>, now: u64)
     ensures { clients.new ≡ clients.old }
 {
     let mut at = 0;
-    for _client in 0..MOST {
+    for _client in 0..clients.limits().clients() {
         let Some(number) = clients.client_from(at) else {
             return;
         };
@@ -147,18 +145,19 @@ fn rise<A: Allocator>(opens: &[Open<A>]) -> bool
 pub fn opens_fit<A: Allocator + Copy>(tree: &Tree<A>, now: Lent<'_, A>) -> bool
     ensures { result ≡ specs.opens_fit tree.now (lent_view now.entry) }
 {
+    let most = tree.limits().opens();
     is_next(now.next_open)
-        && (now.opens.len() <= MAX_OPENS
+        && (now.opens.len() <= most
             && (rise(now.opens) && all_fit(now.opens, tree, now.clients, now.next_open)))
 }
 
 impl<A: Allocator + Copy> ClientState<A> {
-    /// No client ever had a record, and no file was ever open.
-    pub fn nothing(alloc: A) -> Self
-        ensures { result ≡ specs.unknown }
+    /// No client ever had a record, and no file was ever open. These limits hold.
+    pub fn nothing(alloc: A, limits: Limits) -> Self
+        ensures { result ≡ specs.unknown limits }
     {
         ClientState {
-            clients: Clients::new(alloc),
+            clients: Clients::new(alloc, limits),
             opens: Vec::new(alloc),
             next_open: 1,
         }

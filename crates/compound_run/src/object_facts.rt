@@ -83,6 +83,7 @@ impl<A: Allocator + Copy> Realm<A> {
             group: node.group(),
             metadata: node.time_metadata(),
             modify: node.time_modify(),
+            most_bytes: self.tree.limits().bytes(),
         })
     }
 }

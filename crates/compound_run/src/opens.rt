@@ -19,9 +19,6 @@ use nfs_ops::OpenArgs;
 use nfs_types::{StateId, Status};
 use std::alloc::{AllocError, Allocator, Global};
 
-/// The most files that may be open at once.
-pub(crate) const MAX_OPENS: usize = 4_096;
-
 /// A file that is open (RFC 8881, section 18.16).
 #[derive(Debug, Drop)]
 pub struct Open<A: Allocator = Global> {
@@ -165,7 +162,7 @@ impl<A: Allocator + Copy> Realm<A> {
                 seqid: open.seqid,
             });
         }
-        if self.opens.len() >= MAX_OPENS || self.next_open >= MAX_COUNT {
+        if self.opens.len() >= self.tree.limits().opens() || self.next_open >= MAX_COUNT {
             return Err(Status::NoSpc);
         }
         match self.make_place(args.owner.bytes) {

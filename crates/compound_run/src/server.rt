@@ -42,15 +42,6 @@ use xdr_wire::Writer;
 /// The seconds of a lease: a client whose lease wasn't renewed for longer may expire.
 const LEASE: u64 = 90;
 
-/// The number of client records above which a silent client may expire.
-const MANY_CLIENTS: usize = 32;
-
-/// The number of sessions above which a silent client may expire.
-const MANY_SESSIONS: usize = 32;
-
-/// The number of open files above which a silent client may expire.
-const MANY_OPENS: usize = 2_048;
-
 /// The arguments of a COMPOUND.
 #[derive(Clone, Copy, Debug)]
 pub struct Args<'a> {
@@ -100,13 +91,14 @@ impl<A: Allocator + Copy> Server<A> {
     ) -> Result<Self, AllocError>
         ensures { IfOk result (λ server. server ≡ fresh tree book (non_zero_usize_get capacity)) }
     {
+        let limits = tree.limits();
         Ok(Server {
             realm: Realm {
                 alloc,
                 tree: GuardedTree::new(alloc, tree, book, capacity, hasher)?,
                 opens: Vec::new(alloc),
                 next_open: 1,
-                clients: Clients::new(alloc),
+                clients: Clients::new(alloc, limits),
                 lasting: false,
             },
         })
@@ -310,13 +302,16 @@ impl<A: Allocator + Copy> Server<A> {
 
     /// Whether the clients, sessions or open files are enough for a silent client to expire.
     fn is_crowded(&self) -> bool {
+        let limits = self.realm.tree.limits();
         let (records, sessions) = self.realm.clients.counts();
-        records > MANY_CLIENTS || sessions > MANY_SESSIONS || self.realm.opens.len() > MANY_OPENS
+        records > limits.clients() / 2
+            || sessions > limits.sessions() / 2
+            || self.realm.opens.len() > limits.opens() / 2
     }
 
-    /// The client to expire at this moment, if any. None expires up to 32 records, 32 sessions and 2,048 open files.
-    /// Its lease wasn't renewed for more than 90 seconds, or 10 for a run of `nfsc`. Of several it is the one whose
-    /// lease ended first.
+    /// The client to expire at this moment, if any. None expires while at most half of the limits of clients, sessions
+    /// and open files is in use. Its lease wasn't renewed for more than 90 seconds, or 10 for a run of `nfsc`. Of
+    /// several it is the one whose lease ended first.
     pub fn silent(&self, now: Moment) -> Option<u64>
         ensures { IfSome result (λ client. IsSome (client_at self.now.realm.registry client)) }
     {

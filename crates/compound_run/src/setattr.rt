@@ -28,8 +28,8 @@ use crate::stateids::Purpose;
 use crate::step::Step;
 use acl_shape::{Given, Permissions, changed_permissions};
 use nfs_ops::{Op, OpResult, SetAttrArgs, SetAttrResult};
-use nfs_types::{Attrs, Moment, StateId, Status};
-use node_tree::{At, Kind, Limits};
+use nfs_types::{Attrs, Limits, Moment, StateId, Status};
+use node_tree::{At, Kind};
 use std::alloc::{AllocError, Allocator};
 use xdr_wire::Writer;
 

@@ -10,8 +10,8 @@ use crate::realm::Realm;
 use crate::stateids::Purpose;
 use crate::step::Step;
 use nfs_ops::{Op, OpResult, WriteArgs, WriteResult};
-use nfs_types::Status;
-use node_tree::{Kind, Limits};
+use nfs_types::{Limits, Status};
+use node_tree::Kind;
 use std::alloc::Allocator;
 use xdr_wire::Writer;
 

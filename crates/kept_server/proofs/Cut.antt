@@ -40,14 +40,14 @@ module _ (history : List DiskAct) (limits : Limits) (start : State) where
         next = record { states = v.states; logs = v.represents.0; history = disk_of prefix ++ history; holds = v.represents.1 };
         history_is = refl;
         covers_replies = v.covers_replies;
-        goes_on = λ book first begins. elim begins [
+        goes_on = λ profile book first begins. elim begins [
           | inl old ↦ (old.0, v.covers_replies old.0 old.1, old.2)
           | inr new ↦ absurd (v.represents.2 new.0)
         ];
       }
 
 pub goes_on_law : (A : Type 0) → GoesOnLaw A
-goes_on_law A before book limits end acts mid new run later prefix is =
+goes_on_law A before profile book limits end acts mid new run later prefix is =
     leaves (acts ++ before.history) limits run.serves.start prefix
     (cut_of (acts ++ before.history) limits run.serves.start run.serves.acts later prefix is run.serves.served run.serves.run run.serves.kept)
 
@@ -59,7 +59,7 @@ front_stands b states [] (act ∷ prefix) always = always.0
 front_stands b states (act ∷ later) prefix always = front_stands b states later prefix always.1
 
 pub cut_off_law : CutOffLaw
-cut_off_law before book acts meanwhile later prefix is =
+cut_off_law before profile book acts meanwhile later prefix is =
     let st = front_stands before meanwhile.states later prefix (subst (AlwaysRepresent before meanwhile.states) is meanwhile.always) in
     record {
       next = record { states = meanwhile.states; logs = st.0; history = prefix ++ before.history; holds = st.1 };

@@ -14,7 +14,7 @@ use Rattle.nfs_hub.specs.Machine.{State, BeginLog, Reload, IsHistory, opening}
 use Rattle.nfs_hub.specs.Hub.{IsHub, Goes, IsHistoryOf}
 use Rattle.kept_server.specs.declared.opening.Kept.{Kept}
 use Rattle.kept_server.specs.declared.serving.KeptEnd.{KeptEnd}
-use Rattle.kept_server.specs.declared.serving.KeptEnd.TheVariants.{Ended, Unopened, Unready, Memory, Exhausted}
+use Rattle.kept_server.specs.declared.serving.KeptEnd.TheVariants.{Ended, Unopened, Unready, Memory, Exhausted, OtherProfile}
 use Rattle.kept_server.specs.Steps.{begun, HasLogged, KeepsLogged, LoadsBook, GoesOnFrom}
 
 -- a hub whose log was just begun
@@ -72,6 +72,7 @@ module _ {A D : Type 0} (p : Passage D) (q : ServerState) (book : Content) (hub 
   loads_err Unready keeps = keeps
   loads_err Memory keeps = keeps
   loads_err Exhausted keeps = absurd keeps
+  loads_err OtherProfile keeps = absurd keeps
 
 pub unloaded : {D : Type 0} (A : Type 0) (p : Passage D) (store : Store) (q : ServerState) (book : Content) (end : KeptEnd) → (end ≡ Exhausted) ⊎ (end ≡ Memory) → Unchanged p → GoesOnFrom {A = A} p store q book (Err end)
 unloaded A p store q book end (inl is) same = subst (λ (e : KeptEnd). GoesOnFrom {A = A} p store q book (Err e)) (sym is) same

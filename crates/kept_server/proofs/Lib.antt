@@ -4,3 +4,4 @@ pub mod Begun
 pub mod Hubs
 pub mod Whole
 pub mod Cut
+pub mod Profiles

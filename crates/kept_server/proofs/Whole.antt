@@ -23,8 +23,10 @@ use Rattle.call_store.specs.Opening.{Ending, IsNew, Started, OpenGives, IsUnfini
 use Rattle.call_store.specs.Serving.{Serving, AfterBegin, AfterCall}
 use Rattle.call_store.specs.Sizes.{takes}
 use Rattle.call_store.specs.Starting.{AfterOpen, Collision, GoesOn, StaysNew}
+use Rattle.nfs_types.specs.Limits as profiles
 use Rattle.who_book.specs.Content.{Content}
 use Rattle.compound_run.specs.Covering.{Covers}
+use Rattle.compound_run.specs.Realm.{Realm}
 use Rattle.compound_run.specs.State.{State as ServerState, with_book}
 use Rattle.access_guard.specs.Epochs.{next_epoch}
 use Rattle.nfs_hub.specs.declared.hub.Hub.{Hub}
@@ -43,9 +45,9 @@ use Rattle.nfs_streams.proofs.Prefixes.{Chain, Far}
 use Rattle.nfs_streams.proofs.Lasting.{lasting_on}
 use Rattle.kept_server.specs.declared.opening.Kept.{Kept}
 use Rattle.kept_server.specs.declared.serving.KeptEnd.{KeptEnd}
-use Rattle.kept_server.specs.declared.serving.KeptEnd.TheVariants.{Ended, Unopened, Unready, Memory, Exhausted}
+use Rattle.kept_server.specs.declared.serving.KeptEnd.TheVariants.{Ended, Unopened, Unready, Memory, Exhausted, OtherProfile}
 use Rattle.kept_server.specs.Beginning.{Before, BeginsWith, IsBegun, AlwaysRepresent, RepresentsMeanwhile}
-use Rattle.kept_server.specs.Kept.{on_disk, IsLoading, IsOpened, Serves, IsRefusal, EndsSo, Goes, ServesKept}
+use Rattle.kept_server.specs.Kept.{on_disk, IsLoading, IsOfOther, IsOpened, Serves, IsRefusal, EndsSo, Goes, ServesKept}
 use Rattle.kept_server.specs.Steps.{begun, BeginsAnew, GoesOnFrom, HasBook, HasLogged, IsCurrent, KeepsBook, LoadsBook, OpensThen, OpensTo}
 use Rattle.kept_server.proofs.Acts.{always_join, always_wider, chain_join, honest_join, map_left, through_more}
 use Rattle.kept_server.proofs.Begun.{Begins, Keeps, begin_far, begins_frames, kept_far, keeps_so}
@@ -54,9 +56,9 @@ use Rattle.kept_server.proofs.Starts.{Opens, opens_after}
 
 -- ---- what is ready to serve
 
-pub record Ready {A : Type 0} (b : Before) (book : Content) (acts : List DiskAct) (kept : Kept A) : Type 0 where
+pub record Ready {A : Type 0} (b : Before) (profile : profiles.Limits) (book : Content) (acts : List DiskAct) (kept : Kept A) : Type 0 where
   pub first : Served
-  pub begins : BeginsWith b book first
+  pub begins : BeginsWith b profile book first
   pub events : List Event
   pub loading : IsLoading book events
   pub state : State
@@ -66,28 +68,30 @@ pub record Ready {A : Type 0} (b : Before) (book : Content) (acts : List DiskAct
   pub log_is : state.served.log ≡ Some []
   pub sessions : state.served.in_sessions ≡ true
   pub lasting : IsLasting state.served.state
+  pub profile_is : state.served.state.realm.world.limits ≡ profile
   pub book_is : state.served.state.settings.book ≡ book
 
-abbrev pub Outcome : {A : Type 0} → Before → Content → List DiskAct → Result (Kept A) KeptEnd → Type 0
-Outcome b book acts (Ok kept) = Ready b book acts kept
-Outcome b book acts (Err (Ended how)) = ⊥
-Outcome b book acts (Err (Unopened fault)) = IsRefusal fault
-Outcome b book acts (Err Unready) = ⊥
-Outcome b book acts (Err Memory) = Unit {0}
-Outcome b book acts (Err Exhausted) = Unit {0}
+abbrev pub Outcome : {A : Type 0} → Before → profiles.Limits → Content → List DiskAct → Result (Kept A) KeptEnd → Type 0
+Outcome b profile book acts (Ok kept) = Ready b profile book acts kept
+Outcome b profile book acts (Err (Ended how)) = ⊥
+Outcome b profile book acts (Err (Unopened fault)) = IsRefusal fault
+Outcome b profile book acts (Err Unready) = ⊥
+Outcome b profile book acts (Err Memory) = Unit {0}
+Outcome b profile book acts (Err Exhausted) = Unit {0}
+Outcome b profile book acts (Err OtherProfile) = IsOfOther b profile
 
-pub record Opened {A D : Type 0} (adds : Adding D) (old new : D) (b : Before) (book : Content) (result : Result (Kept A) KeptEnd) : Type 0 where
+pub record Opened {A D : Type 0} (adds : Adding D) (old new : D) (b : Before) (profile : profiles.Limits) (book : Content) (result : Result (Kept A) KeptEnd) : Type 0 where
   pub acts : List DiskAct
   pub chain : Chain adds acts old new
-  pub then : IsHonest (acts ++ b.history) → (RepresentsMeanwhile b book acts × Outcome b book acts result) ⊎ Collision b.logs
+  pub then : IsHonest (acts ++ b.history) → (RepresentsMeanwhile b profile book acts × Outcome b profile book acts result) ⊎ Collision b.logs
 
 -- a checkpoint of a new server covers it
-new_lasts : (book : Content) → IsLasting (with_lasting_sessions book).state
-new_lasts book = record { lasting = refl; epoch = omega arith }
+new_lasts : (profile : profiles.Limits) (book : Content) → IsLasting (with_lasting_sessions profile book).state
+new_lasts profile book = record { lasting = refl; epoch = omega arith }
 
 -- the states from before are still represented
-as_before : (b : Before) (book : Content) (acts : List DiskAct) → AlwaysRepresent b b.states acts → RepresentsMeanwhile b book acts
-as_before b book acts always = record { states = b.states; each = λ t is. inl is; always = always }
+as_before : (b : Before) (profile : profiles.Limits) (book : Content) (acts : List DiskAct) → AlwaysRepresent b b.states acts → RepresentsMeanwhile b profile book acts
+as_before b profile book acts always = record { states = b.states; each = λ t is. inl is; always = always }
 
 honest_on : (later first history : List DiskAct) → IsHonest ((later ++ first) ++ history) → IsHonest (first ++ history)
 honest_on later first history honest = honest_join later (first ++ history) (subst IsHonest (append_assoc later first history) honest)
@@ -147,30 +151,30 @@ refusal_of b NoMemory acts after = tt
 refusal_of b Full acts after = tt
 refusal_of b Unfit acts after = tt
 
-module _ {D : Type 0} (A : Type 0) (adds : Adding D) (old mid new : D) (b : Before) (book : Content) where
-  not_opened : (fault : StoreFault) (result : Result (Kept A) KeptEnd) → result ≡ Err (Unopened fault) → new ≡ mid → Opens adds old mid b (Err fault) → Opened {A = A} adds old new b book result
+module _ {D : Type 0} (A : Type 0) (adds : Adding D) (old mid new : D) (b : Before) (profile : profiles.Limits) (book : Content) where
+  not_opened : (fault : StoreFault) (result : Result (Kept A) KeptEnd) → result ≡ Err (Unopened fault) → new ≡ mid → Opens adds old mid b (Err fault) → Opened {A = A} adds old new b profile book result
   not_opened fault result is same o =
-      subst (λ (r : Result (Kept A) KeptEnd). Opened {A = A} adds old new b book r) (sym is)
+      subst (λ (r : Result (Kept A) KeptEnd). Opened {A = A} adds old new b profile book r) (sym is)
       (record {
         acts = o.acts;
         chain = subst (λ (d : D). Chain adds o.acts old d) (sym same) o.chain;
-        then = λ honest. map_left (λ st. (as_before b book o.acts st.0, refusal_of b fault (o.acts ++ b.history) st.1)) (o.then honest);
+        then = λ honest. map_left (λ st. (as_before b profile book o.acts st.0, refusal_of b fault (o.acts ++ b.history) st.1)) (o.then honest);
       })
 
   -- ---- a new store
 
-  no_identity : (found : Option Current) (result : Result (Kept A) KeptEnd) → result ≡ Err (Unopened Failed) → new ≡ mid → Opens adds old mid b (Ok (IsNew found)) → Opened {A = A} adds old new b book result
+  no_identity : (found : Option Current) (result : Result (Kept A) KeptEnd) → result ≡ Err (Unopened Failed) → new ≡ mid → Opens adds old mid b (Ok (IsNew found)) → Opened {A = A} adds old new b profile book result
   no_identity found result is same o =
-      subst (λ (r : Result (Kept A) KeptEnd). Opened {A = A} adds old new b book r) (sym is)
+      subst (λ (r : Result (Kept A) KeptEnd). Opened {A = A} adds old new b profile book r) (sym is)
       (record {
         acts = o.acts;
         chain = subst (λ (d : D). Chain adds o.acts old d) (sym same) o.chain;
-        then = λ honest. map_left (λ st. (as_before b book o.acts st.0, tt)) (o.then honest);
+        then = λ honest. map_left (λ st. (as_before b profile book o.acts st.0, tt)) (o.then honest);
       })
 
   module _ (found : Option Current) (current : Current) (is_current : IsCurrent found current) (o : Opens adds old mid b (Ok (IsNew found))) where
     abbrev fresh : Served
-    fresh = with_lasting_sessions book
+    fresh = with_lasting_sessions profile book
 
     zero_of : (found : Option Current) → IsCurrent found current → IsUnfinished found → current.generation ≡ 0
     zero_of None is unfinished = is
@@ -179,7 +183,7 @@ module _ {D : Type 0} (A : Type 0) (adds : Adding D) (old mid new : D) (b : Befo
     fresh_more : (s : ServerState) → IsIn s b.states → IsIn s (fresh.state ∷ b.states)
     fresh_more s is = inr is
 
-    fresh_each : IsIn None b.logs → (t : ServerState) → IsIn t (fresh.state ∷ b.states) → IsIn t b.states ⊎ IsBegun b book t
+    fresh_each : IsIn None b.logs → (t : ServerState) → IsIn t (fresh.state ∷ b.states) → IsIn t b.states ⊎ IsBegun b profile book t
     fresh_each none t (inl this) = inr (record { first = fresh; begins = inr (none, refl); is = inl this })
     fresh_each none t (inr later) = inl later
 
@@ -188,12 +192,12 @@ module _ {D : Type 0} (A : Type 0) (adds : Adding D) (old mid new : D) (b : Befo
     Began result = Far adds mid new (Begins current fresh.state result)
 
     anew : (result : Result Store StoreFault) (f : Began result) → IsHonest ((f.acts ++ o.acts) ++ b.history)
-        → (RepresentsMeanwhile b book (f.acts ++ o.acts) × (IsIn None b.logs × ((logs : List (Option Log)) × AfterBegin logs b.states fresh.state result (f.acts ++ (o.acts ++ b.history))))) ⊎ Collision b.logs
+        → (RepresentsMeanwhile b profile book (f.acts ++ o.acts) × (IsIn None b.logs × ((logs : List (Option Log)) × AfterBegin logs b.states fresh.state result (f.acts ++ (o.acts ++ b.history))))) ⊎ Collision b.logs
     anew result f honest =
         map_left (λ st.
         let n = st.1 in
         let wide : List ServerState = fresh.state ∷ b.states in
-        let two = begins_frames current b.states fresh.state n.logs (o.acts ++ b.history) result f.acts n.represents n.none (zero_of found is_current n.unfinished) (new_lasts book) f.does in (
+        let two = begins_frames current b.states fresh.state n.logs (o.acts ++ b.history) result f.acts n.represents n.none (zero_of found is_current n.unfinished) (new_lasts profile book) f.does in (
           record {
             states = fresh.state ∷ b.states;
             each = fresh_each n.none_before;
@@ -205,7 +209,7 @@ module _ {D : Type 0} (A : Type 0) (adds : Adding D) (old mid new : D) (b : Befo
     abbrev joined : (result : Result Store StoreFault) (f : Began result) → Chain adds (f.acts ++ o.acts) old new
     joined result f = chain_join adds old mid new f.acts o.acts o.chain f.chain
 
-    begun_anew : (result : Result (Kept A) KeptEnd) → BeginsAnew (passage adds mid new) current book result → Opened {A = A} adds old new b book result
+    begun_anew : (result : Result (Kept A) KeptEnd) → BeginsAnew (passage adds mid new) current profile book result → Opened {A = A} adds old new b profile book result
     begun_anew (Ok kept) (extends, gives) =
         let f = begin_far (passage adds mid new) current fresh.state (Ok kept.store) gives in
         record {
@@ -224,7 +228,8 @@ module _ {D : Type 0} (A : Type 0) (adds : Adding D) (old mid new : D) (b : Befo
               serving = subst (Serving kept.store fresh.state) (sym (append_assoc f.acts o.acts b.history)) st.1.1.1;
               log_is = refl;
               sessions = refl;
-              lasting = new_lasts book;
+              lasting = new_lasts profile book;
+              profile_is = refl;
               book_is = refl;
             },
           )) (anew (Ok kept.store) f honest);
@@ -241,33 +246,34 @@ module _ {D : Type 0} (A : Type 0) (adds : Adding D) (old mid new : D) (b : Befo
     begun_anew (Err Memory) same = record {
       acts = o.acts;
       chain = subst (λ (d : D). Chain adds o.acts old d) (sym same) o.chain;
-      then = λ honest. map_left (λ st. (as_before b book o.acts st.0, tt)) (o.then honest);
+      then = λ honest. map_left (λ st. (as_before b profile book o.acts st.0, tt)) (o.then honest);
     }
     begun_anew (Err Exhausted) none = absurd none
+    begun_anew (Err OtherProfile) none = absurd none
 
   -- ---- what was kept
 
-  module _ (store : Store) (q : ServerState) (lasts : IsLasting (started q).state) (o : Opens adds old mid b (Ok (Started store q))) where
+  module _ (store : Store) (q : ServerState) (same : q.realm.world.limits ≡ profile) (lasts : IsLasting (started q).state) (o : Opens adds old mid b (Ok (Started store q))) where
     abbrev first : Served
     first = started q
 
-    begins_on : (acts : List DiskAct) → GoesOn b.states store q acts → BeginsWith b book first
+    begins_on : (acts : List DiskAct) → GoesOn b.states store q acts → BeginsWith b profile book first
     begins_on acts on = inl (on.state, on.of_these, on.covers)
 
     -- nothing more was done
-    stays_refused : (end : KeptEnd) → Outcome {A = A} b book o.acts (Err end) → new ≡ mid → Opened {A = A} adds old new b book (Err end)
-    stays_refused end outcome same = record {
+    stays_refused : (end : KeptEnd) → Outcome {A = A} b profile book o.acts (Err end) → new ≡ mid → Opened {A = A} adds old new b profile book (Err end)
+    stays_refused end outcome stays = record {
       acts = o.acts;
-      chain = subst (λ (d : D). Chain adds o.acts old d) (sym same) o.chain;
-      then = λ honest. map_left (λ st. (as_before b book o.acts st.0, outcome)) (o.then honest);
+      chain = subst (λ (d : D). Chain adds o.acts old d) (sym stays) o.chain;
+      then = λ honest. map_left (λ st. (as_before b profile book o.acts st.0, outcome)) (o.then honest);
     }
 
-    had_book : (kept : Kept A) → HasBook (passage adds mid new) store q book kept → Opened {A = A} adds old new b book (Ok kept)
+    had_book : (kept : Kept A) → HasBook (passage adds mid new) store q book kept → Opened {A = A} adds old new b profile book (Ok kept)
     had_book kept has = record {
       acts = o.acts;
       chain = subst (λ (d : D). Chain adds o.acts old d) (sym has.stays) o.chain;
       then = λ honest. map_left (λ st. (
-        as_before b book o.acts st.0,
+        as_before b profile book o.acts st.0,
         record {
           first = first;
           begins = begins_on (o.acts ++ b.history) st.1;
@@ -280,6 +286,7 @@ module _ {D : Type 0} (A : Type 0) (adds : Adding D) (old mid new : D) (b : Befo
           log_is = refl;
           sessions = refl;
           lasting = lasts;
+          profile_is = same;
           book_is = has.book_is;
         },
       )) (o.then honest);
@@ -315,13 +322,13 @@ module _ {D : Type 0} (A : Type 0) (adds : Adding D) (old mid new : D) (b : Befo
       two_in x (inr (inl this)) = inr (inl this)
       two_in x (inr (inr never)) = absurd never
 
-      list_each : (acts : List DiskAct) → GoesOn b.states store q acts → (t : ServerState) → IsIn t list → IsIn t b.states ⊎ IsBegun b book t
+      list_each : (acts : List DiskAct) → GoesOn b.states store q acts → (t : ServerState) → IsIn t list → IsIn t b.states ⊎ IsBegun b profile book t
       list_each acts on t (inl this) = inr (record { first = first; begins = begins_on acts on; is = inl this })
       list_each acts on t (inr (inl this)) = inr (record { first = first; begins = begins_on acts on; is = inr (this ∙ state_is) })
       list_each acts on t (inr (inr later)) = inl later
 
       keeps : (result : Result (Unit {0}) StoreFault) (store' : Store) (f : Far adds mid new (Keeps store s.served.state loads.log result store')) → IsHonest ((f.acts ++ o.acts) ++ b.history)
-          → (RepresentsMeanwhile b book (f.acts ++ o.acts) × (GoesOn b.states store q (o.acts ++ b.history) × AfterCall first.state s.served.state result store' (f.acts ++ (o.acts ++ b.history)))) ⊎ Collision b.logs
+          → (RepresentsMeanwhile b profile book (f.acts ++ o.acts) × (GoesOn b.states store q (o.acts ++ b.history) × AfterCall first.state s.served.state result store' (f.acts ++ (o.acts ++ b.history)))) ⊎ Collision b.logs
       keeps result store' f honest =
           map_left (λ st.
           let two = keeps_so store store' was.served s.served loads.log (o.acts ++ b.history) result f.acts st.1.serving was_logged.1 loads.logged.log_is lasts_on f.does in (
@@ -334,7 +341,7 @@ module _ {D : Type 0} (A : Type 0) (adds : Adding D) (old mid new : D) (b : Befo
             (st.1, two.1),
           )) (o.then (honest_on f.acts o.acts b.history honest))
 
-      kept_book : (kept : Kept A) → KeepGives (passage adds mid new) store loads.log s.served.state (Ok tt) kept.store → IsHub kept.hub (begun s) → Opened {A = A} adds old new b book (Ok kept)
+      kept_book : (kept : Kept A) → KeepGives (passage adds mid new) store loads.log s.served.state (Ok tt) kept.store → IsHub kept.hub (begun s) → Opened {A = A} adds old new b profile book (Ok kept)
       kept_book kept given is =
           let f = kept_far (passage adds mid new) store kept.store s.served.state loads.log (Ok tt) given in
           record {
@@ -354,12 +361,13 @@ module _ {D : Type 0} (A : Type 0) (adds : Adding D) (old mid new : D) (b : Befo
                 log_is = refl;
                 sessions = was_logged.0;
                 lasting = lasts_on;
+                profile_is = ap (λ (x : ServerState). x.realm.world.limits) state_is ∙ same;
                 book_is = ap (λ (x : ServerState). x.settings.book) state_is;
               },
             )) (keeps (Ok tt) kept.store f honest);
           }
 
-      kept_not : (fault : StoreFault) (store' : Store) → KeepGives (passage adds mid new) store loads.log s.served.state (Err fault) store' → Opened {A = A} adds old new b book (Err (Unopened fault))
+      kept_not : (fault : StoreFault) (store' : Store) → KeepGives (passage adds mid new) store loads.log s.served.state (Err fault) store' → Opened {A = A} adds old new b profile book (Err (Unopened fault))
       kept_not fault store' given =
           let f = kept_far (passage adds mid new) store store' s.served.state loads.log (Err fault) given in
           record {
@@ -368,24 +376,39 @@ module _ {D : Type 0} (A : Type 0) (adds : Adding D) (old mid new : D) (b : Befo
             then = λ honest. map_left (λ st. (st.0, keep_refusal (passage adds mid new) store.journal.has_failed (takes store (length loads.log)) store loads.log s.served.state fault store' given)) (keeps (Err fault) store' f honest);
           }
 
-    goes_on : (result : Result (Kept A) KeptEnd) → GoesOnFrom (passage adds mid new) store q book result → Opened {A = A} adds old new b book result
+    goes_on : (result : Result (Kept A) KeptEnd) → GoesOnFrom (passage adds mid new) store q book result → Opened {A = A} adds old new b profile book result
     goes_on (Ok kept) (inl has) = had_book kept has
     goes_on (Ok kept) (inr keeps) = kept_book keeps.loads kept keeps.gives keeps.is
     goes_on (Err (Ended how)) none = absurd none
     goes_on (Err (Unopened fault)) (loads, store', given) = kept_not loads fault store' given
     goes_on (Err Unready) none = absurd none
-    goes_on (Err Memory) same = stays_refused Memory tt same
-    goes_on (Err Exhausted) same = stays_refused Exhausted tt same
+    goes_on (Err Memory) stays = stays_refused Memory tt stays
+    goes_on (Err Exhausted) stays = stays_refused Exhausted tt stays
+    goes_on (Err OtherProfile) none = absurd none
 
-  opens_then : (found : Result Ending StoreFault) (result : Result (Kept A) KeptEnd) → OpenGives (passage adds old mid) found → OpensThen (passage adds mid new) found book result → Opened {A = A} adds old new b book result
+  -- the store is of another profile
+  other_profile : (store : Store) (q : ServerState) → q.realm.world.limits ≢ profile → (result : Result (Kept A) KeptEnd) → result ≡ Err OtherProfile → new ≡ mid → Opens adds old mid b (Ok (Started store q)) → Opened {A = A} adds old new b profile book result
+  other_profile store q other result is same o =
+      subst (λ (r : Result (Kept A) KeptEnd). Opened {A = A} adds old new b profile book r) (sym is)
+      (record {
+        acts = o.acts;
+        chain = subst (λ (d : D). Chain adds o.acts old d) (sym same) o.chain;
+        then = λ honest. map_left (λ st. (
+          as_before b profile book o.acts st.0,
+          (st.1.state, st.1.of_these, λ (is : st.1.state.realm.world.limits ≡ profile). other (ap (λ (r : Realm). r.world.limits) st.1.covers.realm.others ∙ is)),
+        )) (o.then honest);
+      })
+
+  opens_then : (found : Result Ending StoreFault) (result : Result (Kept A) KeptEnd) → OpenGives (passage adds old mid) found → OpensThen (passage adds mid new) found profile book result → Opened {A = A} adds old new b profile book result
   opens_then (Ok (IsNew found)) result opens (inl (current, is, anew)) = begun_anew found current is (opens_after adds b old mid (Ok (IsNew found)) opens) result anew
   opens_then (Ok (IsNew found)) result opens (inr (is, same)) = no_identity found result is same (opens_after adds b old mid (Ok (IsNew found)) opens)
-  opens_then (Ok (Started store q)) result opens on =
-      goes_on store q (start_lasts opens.sight.content q opens.goes_on.0.1) (opens_after adds b old mid (Ok (Started store q)) opens) result on
+  opens_then (Ok (Started store q)) result opens (inl (same, on)) =
+      goes_on store q same (start_lasts opens.sight.content q opens.goes_on.0.1) (opens_after adds b old mid (Ok (Started store q)) opens) result on
+  opens_then (Ok (Started store q)) result opens (inr (other, is, same)) = other_profile store q other result is same (opens_after adds b old mid (Ok (Started store q)) opens)
   opens_then (Err fault) result opens (is, same) = not_opened fault result is same (opens_after adds b old mid (Err fault) opens)
 
-pub opened : {A D : Type 0} (adds : Adding D) (old new : D) (b : Before) (book : Content) (result : Result (Kept A) KeptEnd) → OpensTo (passage adds old new) book result → Opened {A = A} adds old new b book result
-opened {A} adds old new b book result o = opens_then A adds old o.mid new b book o.found result o.opens o.then
+pub opened : {A D : Type 0} (adds : Adding D) (old new : D) (b : Before) (profile : profiles.Limits) (book : Content) (result : Result (Kept A) KeptEnd) → OpensTo (passage adds old new) profile book result → Opened {A = A} adds old new b profile book result
+opened {A} adds old new b profile book result o = opens_then A adds old o.mid new b profile book o.found result o.opens o.then
 
 -- ---- acts of the site
 
@@ -405,31 +428,32 @@ module _ {D : Type 0} (A : Type 0) (acts_of : D → Option (List Act)) (adds : A
   chain_adds (act ∷ acts) old new (mid, chain, one) =
       adds_then (acts_of old) (acts_of mid) (acts_of new) (on_disk acts) (OnDisk act ∷ []) (chain_adds acts old mid chain) (law mid new act one)
 
-  gives_end : (b : Before) (book : Content) (limits : Limits) (end : KeptEnd) (acts : List DiskAct) (mid : Option (List Act)) → Outcome {A = A} b book acts (Err end) → EndsSo A b book limits end acts mid mid
-  gives_end b book limits (Ended how) acts mid none = absurd none
-  gives_end b book limits (Unopened fault) acts mid refusal = (refusal, refl)
-  gives_end b book limits Unready acts mid none = absurd none
-  gives_end b book limits Memory acts mid done = refl
-  gives_end b book limits Exhausted acts mid done = refl
+  gives_end : (b : Before) (profile : profiles.Limits) (book : Content) (limits : Limits) (end : KeptEnd) (acts : List DiskAct) (mid : Option (List Act)) → Outcome {A = A} b profile book acts (Err end) → EndsSo A b profile book limits end acts mid mid
+  gives_end b profile book limits (Ended how) acts mid none = absurd none
+  gives_end b profile book limits (Unopened fault) acts mid refusal = (refusal, refl)
+  gives_end b profile book limits Unready acts mid none = absurd none
+  gives_end b profile book limits Memory acts mid done = refl
+  gives_end b profile book limits Exhausted acts mid done = refl
+  gives_end b profile book limits OtherProfile acts mid other = (other, refl)
 
   -- the store wasn't opened
-  pub refused : (old new : D) (b : Before) (book : Content) (limits : Limits) (end : KeptEnd) → Opened {A = A} adds old new b book (Err end) → ServesKept A b book limits end (acts_of old) (acts_of new)
-  refused old new b book limits end o = record {
+  pub refused : (old new : D) (b : Before) (profile : profiles.Limits) (book : Content) (limits : Limits) (end : KeptEnd) → Opened {A = A} adds old new b profile book (Err end) → ServesKept A b profile book limits end (acts_of old) (acts_of new)
+  refused old new b profile book limits end o = record {
     acts = o.acts;
     mid = acts_of new;
     adds = chain_adds o.acts old new o.chain;
-    goes = λ honest. map_left (λ st. record { meanwhile = st.0; ends = gives_end b book limits end o.acts (acts_of new) st.1 }) (o.then honest);
+    goes = λ honest. map_left (λ st. record { meanwhile = st.0; ends = gives_end b profile book limits end o.acts (acts_of new) st.1 }) (o.then honest);
   }
 
   -- the site can't begin
-  pub unready : (old mid new : D) (b : Before) (book : Content) (limits : Limits) (kept : Kept A) → Opened {A = A} adds old mid b book (Ok kept) → Adds (acts_of mid) (acts_of new) [] → ServesKept A b book limits Unready (acts_of old) (acts_of new)
-  unready old mid new b book limits kept o stays = record {
+  pub unready : (old mid new : D) (b : Before) (profile : profiles.Limits) (book : Content) (limits : Limits) (kept : Kept A) → Opened {A = A} adds old mid b profile book (Ok kept) → Adds (acts_of mid) (acts_of new) [] → ServesKept A b profile book limits Unready (acts_of old) (acts_of new)
+  unready old mid new b profile book limits kept o stays = record {
     acts = o.acts;
     mid = acts_of mid;
     adds = chain_adds o.acts old mid o.chain;
     goes = λ honest. map_left (λ st. record {
       meanwhile = st.0;
-      ends = (stays, (st.1.state.served.state, record { store = kept.store; serving = st.1.serving; book_is = st.1.book_is }));
+      ends = (stays, (st.1.state.served.state, record { store = kept.store; serving = st.1.serving; profile_is = st.1.profile_is; book_is = st.1.book_is }));
     }) (o.then honest);
   }
 
@@ -438,16 +462,16 @@ module _ {D : Type 0} (A : Type 0) (acts_of : D → Option (List Act)) (adds : A
       (first : Served) (events : List Event) → IsHistoryOf first events kept.hub → (history : List DiskAct) → ServesOpen history kept.store kept.hub
       → ServesAll first events (record { limits = limits; store = Some kept.store; history = history }) end (record { hub = kept.hub; acts = before }) (record { hub = hub'; acts = after })
 
-  pub served : (old mid begun_site new : D) (b : Before) (book : Content) (limits : Limits) (end : AllEnd) (kept : Kept A) (hub' : Hub A) → Opened {A = A} adds old mid b book (Ok kept) → Adds (acts_of mid) (acts_of begun_site) []
-      → ServesOver limits end kept hub' (acts_of begun_site) (acts_of new) → ServesKept A b book limits (Ended end) (acts_of old) (acts_of new)
-  served old mid begun_site new b book limits end kept hub' o stays serves = record {
+  pub served : (old mid begun_site new : D) (b : Before) (profile : profiles.Limits) (book : Content) (limits : Limits) (end : AllEnd) (kept : Kept A) (hub' : Hub A) → Opened {A = A} adds old mid b profile book (Ok kept) → Adds (acts_of mid) (acts_of begun_site) []
+      → ServesOver limits end kept hub' (acts_of begun_site) (acts_of new) → ServesKept A b profile book limits (Ended end) (acts_of old) (acts_of new)
+  served old mid begun_site new b profile book limits end kept hub' o stays serves = record {
     acts = o.acts;
     mid = acts_of begun_site;
     adds = adds_then (acts_of old) (acts_of mid) (acts_of begun_site) (on_disk o.acts) [] (chain_adds o.acts old mid o.chain) stays;
     goes = λ honest. map_left (λ st. record { meanwhile = st.0; ends = ends st.1 }) (o.then honest);
   }
     where
-      ends : Ready b book o.acts kept → Serves A b book limits end o.acts (acts_of begun_site) (acts_of new)
+      ends : Ready b profile book o.acts kept → Serves A b profile book limits end o.acts (acts_of begun_site) (acts_of new)
       ends r =
           let history = o.acts ++ b.history in
           let is = r.is.served in
@@ -471,6 +495,7 @@ module _ {D : Type 0} (A : Type 0) (acts_of : D → Option (List Act)) (adds : A
             opened = record {
               store = kept.store;
               serving = subst (λ (x : Served). Serving kept.store x.state history) (sym again) r.serving;
+              profile_is = ap (λ (x : Served). x.state.realm.world.limits) again ∙ r.profile_is;
               book_is = ap (λ (x : Served). x.state.settings.book) again ∙ r.book_is;
             };
           }

@@ -2,6 +2,7 @@
 use Rattle.std.specs.Prelude.{◌≡◌, ◌⊎◌, List, [], ◌∷◌, ◌++◌, Option, Some, None}
 use Rattle.store_journal.specs.Disk.{Act as DiskAct}
 use Rattle.store_journal.specs.Journaled.{Log, IsIn}
+use Rattle.nfs_types.specs.Limits as profiles
 use Rattle.who_book.specs.Content.{Content}
 use Rattle.compound_run.specs.Covering.{Covers}
 use Rattle.compound_run.specs.State.{State, with_book}
@@ -17,16 +18,16 @@ pub record Before : Type 0 where
   pub holds : LogsRepresent states logs history
 
 -- **The first server of a run covers one of the states that the disk represented.** Or no checkpoint was finished yet.
--- Then the server has only a root, and the book of this start.
-abbrev pub BeginsWith : Before → Content → Served → Type 0
-BeginsWith before book first =
+-- Then the server has only a root, with the profile and the book of this start.
+abbrev pub BeginsWith : Before → profiles.Limits → Content → Served → Type 0
+BeginsWith before profile book first =
     ((s : State) × IsIn s before.states × Covers first.state s)
-    ⊎ (IsIn None before.logs × (first ≡ with_lasting_sessions book))
+    ⊎ (IsIn None before.logs × (first ≡ with_lasting_sessions profile book))
 
 -- the state with which a run begins, or that state with the book of this start
-pub record IsBegun (before : Before) (book : Content) (t : State) : Type 0 where
+pub record IsBegun (before : Before) (profile : profiles.Limits) (book : Content) (t : State) : Type 0 where
   pub first : Served
-  pub begins : BeginsWith before book first
+  pub begins : BeginsWith before profile book first
   pub is : (t ≡ first.state) ⊎ (t ≡ with_book book first.state)
 
 -- After each of these acts of the disk, and before the first, some logs represent these states. `None` is among them
@@ -37,7 +38,8 @@ AlwaysRepresent before states (act ∷ acts) =
     RepresentAfter before.logs states (act ∷ acts ++ before.history) × AlwaysRepresent before states acts
 
 -- **Until the first reply a crash leaves a state from before this run, or the one with which this run begins.**
-pub record RepresentsMeanwhile (before : Before) (book : Content) (acts : List DiskAct) : Type 0 where
+pub record RepresentsMeanwhile (before : Before) (profile : profiles.Limits) (book : Content) (acts : List DiskAct)
+    : Type 0 where
   pub states : List State
-  pub each : (t : State) → IsIn t states → IsIn t before.states ⊎ IsBegun before book t
+  pub each : (t : State) → IsIn t states → IsIn t before.states ⊎ IsBegun before profile book t
   pub always : AlwaysRepresent before states acts

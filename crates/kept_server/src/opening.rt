@@ -1,11 +1,12 @@
 //! Opens the store of a disk, and makes a hub from its content.
-ghost use Rattle.std.specs.Prelude.{◌≡◌, ◌⊎◌, true, Option, MatchOption};
+ghost use Rattle.std.specs.Prelude.{◌≡◌, ◌≢◌, ◌⊎◌, true, Option, MatchBool, MatchOption};
 ghost use Rattle.store_journal.specs.Passage.{passage};
-ghost use Rattle.kept_server.specs.Steps.{BeginsAnew, GoesOnFrom, IsCurrent, KeepsLogged, OpensTo};
+ghost use Rattle.kept_server.specs.Steps.{BeginsAnew, GoesOnFrom, GoesOnIf, IsCurrent, KeepsLogged, OpensTo};
 
 use crate::serving::KeptEnd;
 use call_store::{MACHINE, Opened, Restarted, Store, StoreFault, open};
-use nfs_hub::{Hub, HubFault};
+use nfs_hub::{Hub, HubFault, Restart};
+use nfs_types::Limits;
 use std::alloc::{Allocator, Global};
 use std::hash::RandomState;
 use store_journal::{Current, Disk, Identity};
@@ -14,6 +15,8 @@ use who_book::Book;
 /// The inputs of a server's start.
 #[derive(Drop)]
 pub struct Start {
+    /// The limits of the profile. A new store is of this profile, and one of another profile is refused.
+    pub limits: Limits,
     /// The book of names. It judges each call until another book is loaded.
     pub book: Book,
     /// The identity of a new store, drawn at random. `None`: none could be drawn, and no store is begun.
@@ -41,17 +44,18 @@ fn unloaded_end(fault: HubFault) -> KeptEnd
     }
 }
 
-/// Begins a new store of a server that has only a root.
+/// Begins a new store of a server that has only a root, under these limits.
 fn begin_store<D: Disk, A: Allocator + Copy>(
     disk: &mut D,
     alloc: A,
     current: Current,
+    limits: Limits,
     book: Book,
     hasher: RandomState,
 ) -> Result<Kept<A>, KeptEnd>
-    ensures { BeginsAnew (passage D.adds disk.old disk.new) current book result }
+    ensures { BeginsAnew (passage D.adds disk.old disk.new) current limits book result }
 {
-    let Ok(mut hub) = Hub::lasting(alloc, book, hasher) else {
+    let Ok(mut hub) = Hub::lasting(alloc, limits, book, hasher) else {
         return Err(KeptEnd::Memory);
     };
     hub.begin_log();
@@ -116,6 +120,33 @@ fn go_on<D: Disk, A: Allocator + Copy>(
     }
 }
 
+/// Whether a server has these limits: profiles with equal numbers have equal limits.
+fn has_limits<A: Allocator + Copy>(restart: &Restart<A>, limits: Limits) -> bool
+    ensures { MatchBool result (restart.now.realm.world.limits ≡ limits) (restart.now.realm.world.limits ≢ limits) }
+{
+    let kept = restart.server().tree().limits();
+    if kept.profile() == limits.profile() {
+        return true;
+    }
+    false
+}
+
+/// Resumes from what was kept, if it is of this profile.
+fn go_on_if<D: Disk, A: Allocator + Copy>(
+    disk: &mut D,
+    alloc: A,
+    found: Restarted<A>,
+    limits: Limits,
+    book: Book,
+) -> Result<Kept<A>, KeptEnd>
+    ensures { GoesOnIf (passage D.adds disk.old disk.new) found.store found.restart limits book result }
+{
+    if !has_limits(&found.restart, limits) {
+        return Err(KeptEnd::OtherProfile);
+    }
+    go_on(disk, alloc, found, book)
+}
+
 /// The CURRENT of a new store: the one that was found, or a new one of this identity.
 fn new_current(current: Option<Current>, identity: Option<Identity>) -> Option<Current>
     ensures { MatchOption result (Unit {0}) (λ c. IsCurrent current c) }
@@ -136,14 +167,21 @@ pub(crate) fn open_kept<D: Disk, A: Allocator + Copy>(
     second: u64,
     start: Start,
 ) -> Result<Kept<A>, KeptEnd>
-    ensures { OpensTo (passage D.adds disk.old disk.new) start.book result }
+    ensures { OpensTo (passage D.adds disk.old disk.new) start.limits start.book result }
 {
     match open(disk, alloc, global, start.hasher, second) {
         Ok(Opened::New(current)) => match new_current(current, start.identity) {
-            Some(current) => begin_store(disk, alloc, current, start.book, start.hasher),
+            Some(current) => begin_store(
+                disk,
+                alloc,
+                current,
+                start.limits,
+                start.book,
+                start.hasher,
+            ),
             None => Err(KeptEnd::Unopened(StoreFault::Failed)),
         },
-        Ok(Opened::Kept(found)) => go_on(disk, alloc, found, start.book),
+        Ok(Opened::Kept(found)) => go_on_if(disk, alloc, found, start.limits, start.book),
         Err(fault) => Err(KeptEnd::Unopened(fault)),
     }
 }

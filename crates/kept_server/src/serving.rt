@@ -24,6 +24,9 @@ pub enum KeptEnd {
     Memory,
     /// No epoch is left for a book other than the kept one. Nothing was answered.
     Exhausted,
+    /// The store is of another profile than this start's. Nothing was answered, and what is kept is
+    /// unchanged.
+    OtherProfile,
 }
 
 /// Opens the store of a site's disk, and serves the site's streams over it. A new store begins with only a root. If
@@ -40,7 +43,7 @@ pub fn serve_kept<A: Allocator + Copy, S: Site<A>, C: Clock>(
     start: Start,
     limits: Limits,
 ) -> KeptEnd
-    ensures { (before : Before) → ServesKept A before start.book limits result (S.acts site.old) (S.acts site.new) }
+    ensures { (before : Before) → ServesKept A before start.limits start.book limits result (S.acts site.old) (S.acts site.new) }
 {
     let mut kept = match open_kept(site, alloc, global, clock.second(), start) {
         Ok(kept) => kept,

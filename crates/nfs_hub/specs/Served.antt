@@ -10,7 +10,7 @@ use Rattle.nfs_hub.specs.declared.serving.ServeEnd.TheVariants.{Turns as TurnsUs
 use Rattle.nfs_hub.specs.Answer.{Served}
 use Rattle.nfs_hub.specs.Connection.{Read_at}
 use Rattle.nfs_hub.specs.Machine.{Connected, State, Event, Connect, Piece, Take, Close, ReachedBreak, Step, IsHistory}
-use Rattle.nfs_hub.specs.Hub.{IsHub, IsHistoryOf, IsUnchanged, MAX_CONNECTIONS, open_count, next_number}
+use Rattle.nfs_hub.specs.Hub.{IsHub, IsHistoryOf, IsUnchanged, most_connections, open_count, next_number}
 
 -- the bytes that wait to be taken from a connection; none if it isn't open
 abbrev pub IsPending : Option Connected → List ℕ → Type 0
@@ -124,8 +124,8 @@ pub record Serving (A : Type 0) : Type 0 where
 -- a connection is refused: the limit of open connections is reached, or no number is left; or an allocation
 -- fails
 abbrev pub RefusedWith : {A : Type 0} → ServeEnd → Hub A → Type 0
-RefusedWith TooMany old = (MAX_CONNECTIONS ≤ open_count old) ⊎ (2 ^ 63 ≤ next_number old)
-RefusedWith Memory old = (open_count old < MAX_CONNECTIONS) × (next_number old < 2 ^ 63)
+RefusedWith TooMany old = (most_connections old ≤ open_count old) ⊎ (2 ^ 63 ≤ next_number old)
+RefusedWith Memory old = (open_count old < most_connections old) × (next_number old < 2 ^ 63)
 RefusedWith Ended old = ⊥
 RefusedWith Inside old = ⊥
 RefusedWith Broken old = ⊥

@@ -2,6 +2,7 @@
 ghost use Rattle.std.specs.Prelude.{◌≡◌, ◌≢◌, ◌↔◌, ◌≤◌, ◌<◌, ◌^◌, ℕ, List, [], ◌∷◌, ◌++◌, min, length, take, drop};
 ghost use Rattle.std.specs.Prelude.{true, false, Some, None, Ok, Err, IfOk, IsErrOf, IsNone, IsOkUnless, MatchOption};
 ghost use Rattle.std.specs.Prelude.{IfSome, IsTrue, OnOk, OnErr, option_map, is_err};
+ghost use Rattle.nfs_types.specs.Limits.{standard};
 ghost use Rattle.compound_run.specs.ClientState.{opens_fit};
 ghost use Rattle.nfs_hub.specs.Answer.{Served, restored, started, with_lasting_sessions, with_sessions};
 ghost use Rattle.nfs_hub.specs.Answer.{without_sessions};
@@ -12,7 +13,7 @@ use crate::fault::{HubFault, Unloaded};
 use crate::restart::Restart;
 use crate::server::Service;
 use compound_run::{ClientState, Server};
-use nfs_types::Moment;
+use nfs_types::{Limits, Moment};
 use node_tree::Tree;
 use session_slots::RestoreFault;
 use std::alloc::{AllocError, Allocator, Global};
@@ -21,8 +22,9 @@ use std::hash::RandomState;
 use std::marker::Model;
 use who_book::Book;
 
-/// The most connections that are open at once, broken ones included.
-pub const MAX_CONNECTIONS: usize = 16;
+/// The most connections that are open at once in any profile, broken ones included. The limit of a
+/// hub is that of its profile, [`Limits::connections`].
+pub const MAX_CONNECTIONS: usize = 256;
 
 /// A bound above the numbers of all connections.
 const NUMBERS: u64 = 1 << 63;
@@ -57,6 +59,7 @@ impl<A: Allocator + Copy> Hub<A> {
     ghost use Rattle.nfs_hub.specs.Connection.{taken_of};
     ghost use Rattle.nfs_hub.specs.Hub.{IsHub, IsUnchanged, IsHistoryOf, Goes, PrefixGives, ConnectGives};
     ghost use Rattle.nfs_hub.specs.Hub.{ReloadGives, TakeGives, ConsumeGives, BreaksInPiece, broken_at, pending_at};
+    ghost use Rattle.nfs_hub.specs.Hub.{most_connections};
 
     /// A hub of this server, with no connection open.
     fn over(alloc: A, service: Service<A>) -> Self
@@ -80,22 +83,43 @@ impl<A: Allocator + Copy> Hub<A> {
         Ok(Hub::over(alloc, Service::without_sessions(alloc, global, hasher)?))
     }
 
-    /// A hub over a root directory alone, with sessions. The root's owner, group and mode are those
-    /// of the book. `hasher` hashes the keys of the server's permission summaries. `Err`: there is
-    /// no memory for the hub.
+    /// A hub over a root directory alone, with sessions, under the limits of the standard profile.
+    /// The root's owner, group and mode are those of the book. `hasher` hashes the keys of the
+    /// server's permission summaries. `Err`: there is no memory for the hub.
     pub fn new(alloc: A, book: Book, hasher: RandomState) -> Result<Self, AllocError>
-        ensures { IfOk result (λ hub. IsHistoryOf (with_sessions book) [] hub) }
+        ensures { IfOk result (λ hub. IsHistoryOf (with_sessions standard book) [] hub) }
     {
-        Ok(Hub::over(alloc, Service::with_sessions(alloc, book, hasher)?))
+        Hub::with_limits(alloc, Limits::standard(), book, hasher)
+    }
+
+    /// A hub as that of [`Hub::new`], under the limits of a profile.
+    pub fn with_limits(
+        alloc: A,
+        limits: Limits,
+        book: Book,
+        hasher: RandomState,
+    ) -> Result<Self, AllocError>
+        ensures { IfOk result (λ hub. IsHistoryOf (with_sessions limits book) [] hub) }
+    {
+        Ok(Hub::over(alloc, Service::with_sessions(alloc, limits, book, hasher)?))
     }
 
     /// A hub over a root directory alone, with sessions that persist over a restart, for a store
-    /// that begins. Otherwise it is that of [`Hub::new`]. `Err`: there is no memory for the hub.
-    pub fn lasting(alloc: A, book: Book, hasher: RandomState) -> Result<Self, RestoreFault>
-        ensures ok { IfOk result (λ hub. IsHistoryOf (with_lasting_sessions book) [] hub) }
+    /// that begins. Otherwise it is that of [`Hub::with_limits`]. `Err`: there is no memory for the
+    /// hub.
+    pub fn lasting(
+        alloc: A,
+        limits: Limits,
+        book: Book,
+        hasher: RandomState,
+    ) -> Result<Self, RestoreFault>
+        ensures ok { IfOk result (λ hub. IsHistoryOf (with_lasting_sessions limits book) [] hub) }
         ensures err { IsOkUnless result RestoreFault.Memory }
     {
-        Ok(Hub::over(alloc, Service::with_lasting_sessions(alloc, book, hasher)?))
+        Ok(Hub::over(
+            alloc,
+            Service::with_lasting_sessions(alloc, limits, book, hasher)?,
+        ))
     }
 
     /// The hub of a server that was restarted, over everything that was kept. That is the tree, the
@@ -200,7 +224,15 @@ impl<A: Allocator + Copy> Hub<A> {
         Hub::over(alloc, restart.into_service())
     }
 
-    /// Opens a connection. `TooMany` if and only if the limit of open connections is reached. Else
+    /// The most connections that are open at once, broken ones included.
+    pub fn most_connections(&self) -> usize
+        ensures { result ≡ most_connections self.now }
+    {
+        self.service.server().tree().limits().connections()
+    }
+
+    /// Opens a connection. `TooMany` if and only if the limit of open connections is reached, which
+    /// is that of the profile. Else
     /// `Exhausted` if and only if no number below 2^63 is left. Else `Memory` if an allocation
     /// fails. A refusal changes nothing.
     pub fn connect(&mut self) -> Result<ConnId, HubFault>
@@ -209,7 +241,7 @@ impl<A: Allocator + Copy> Hub<A> {
         ensures goes { Goes Connect self.old self.new }
         ensures gives { ConnectGives result self.old self.new }
     {
-        if self.connections.len() >= MAX_CONNECTIONS {
+        if self.connections.len() >= self.most_connections() {
             return Err(HubFault::TooMany);
         }
         if self.next >= NUMBERS {

@@ -25,7 +25,7 @@ use Rattle.nfs_streams.specs.declared.streams.StreamEnd.{StreamEnd}
 use Rattle.nfs_streams.specs.declared.streams.StreamEnd.TheVariants as end
 use Rattle.nfs_streams.specs.declared.serving.AllEnd.TheVariants.{Served, Turns, Wait, Keep}
 use Rattle.nfs_streams.specs.Acts.{Act, Just, IsAsked, IsSettled, IsStored, book_waiting, Waited, Arrived, Admitted, Closed, Received, Ended, Unread, Looked, Brought, Loaded, Begun, Given, Kept, Lost, Expired, Sent, Unwritten, Adds, conn_at, open_in, ahead, fault_at, of_streams, write_acts}
-use Rattle.nfs_streams.specs.Runs.{Runs, HasKept, On, StepAt, AnswersOne, FaultIs, CanBegin, CanReceive, IsSpent, IsWaiting, MayReceive, MayClose, most_open}
+use Rattle.nfs_streams.specs.Runs.{Runs, HasKept, On, StepAt, AnswersOne, FaultIs, CanBegin, CanReceive, IsSpent, IsWaiting, MayReceive, MayClose, MOST_PLACES, most_open}
 use Rattle.nfs_streams.specs.Seats.{AreSeats, AreWaiting, FewAreWaiting, Knows, IsSeated, IsFresh, place_at, taken}
 use Rattle.nfs_streams.specs.Stages.{Origin, Left, Keeping, Stage, Listening, Arriving, Full, Trailing, Looking, Giving, Piecing, Unkept, Answering, Stopped, Ending, Way, AtStage, StreamEnds, IsClosing, BookLoads, ends_at, broken_end, closed_stage, looked_stage, kept_stage, given_all_stage}
 use Rattle.nfs_streams.proofs.Lists.{none_some, set_here, set_there, set_back, taken_swap, adds_on, closed_here, closed_there, admitted_here, admitted_there, ahead_received, turns_received, ahead_received_there, turns_received_there, ahead_given, fault_given, left_given, ahead_given_there, fault_given_there, left_begun, ahead_admitted, turns_admitted, fault_admitted, ahead_admitted_there, turns_admitted_there, fault_admitted_there}
@@ -539,7 +539,7 @@ opened hub hub' t id is is_fresh gives g =
       | inr new ↦ (next, new.0, new.1, new.2)
     ]
 
-pub admits : {A : Type 0} {n : ℕ} {o : Origin} {hub : Hub A} {left : Left} {before : Option (List Act)} (ps : List (Option (Peer A))) (i id more : ℕ) (peer : Peer A) (hub' : Hub A) (after : Option (List Act)) → i < length ps → i < 16 → AtStage (Arriving n) o hub (set ps i None) left before → taken (set ps i None) < most_open o.limits → left.more ≡ more + 1
+pub admits : {A : Type 0} {n : ℕ} {o : Origin} {hub : Hub A} {left : Left} {before : Option (List Act)} (ps : List (Option (Peer A))) (i id more : ℕ) (peer : Peer A) (hub' : Hub A) (after : Option (List Act)) → i < length ps → i < MOST_PLACES → AtStage (Arriving n) o hub (set ps i None) left before → taken (set ps i None) < most_open o.limits → left.more ≡ more + 1
     → peer.conn ≡ id → peer.turns ≡ 0 → peer.fault ≡ None → peer.ahead ≡ []
     → Goes Connect hub hub' → ConnectGives (Ok id) hub hub' → Adds before after (Admitted i id ∷ []) → AtStage (Listening n) o hub' (set ps i (Some peer)) (record left { more = more }) after
 admits {o = o} {hub = hub} {left = left} {before = before} ps i id more peer hub' after lt below st few less conn turns fault is goes gives admit_next =
@@ -916,7 +916,7 @@ pub closed_at : {A : Type 0} (stage : Stage) (o : Origin) (new : Hub A) (ps : Li
 closed_at stage o new ps i left x y after st = subst (λ (l : List (Option (Peer _))). AtStage stage o new l left after) (sym (set-set ps i x y)) st
 
 -- a stream is admitted at a free place
-pub admits_at : {A : Type 0} {n : ℕ} {o : Origin} {hub : Hub A} {left : Left} {before : Option (List Act)} (ps : List (Option (Peer A))) (i id more : ℕ) (peer : Peer A) (hub' : Hub A) (after : Option (List Act)) → i < length ps → i < 16 → place_at ps i ≡ None → AtStage (Arriving n) o hub ps left before → taken ps < most_open o.limits → left.more ≡ more + 1
+pub admits_at : {A : Type 0} {n : ℕ} {o : Origin} {hub : Hub A} {left : Left} {before : Option (List Act)} (ps : List (Option (Peer A))) (i id more : ℕ) (peer : Peer A) (hub' : Hub A) (after : Option (List Act)) → i < length ps → i < MOST_PLACES → place_at ps i ≡ None → AtStage (Arriving n) o hub ps left before → taken ps < most_open o.limits → left.more ≡ more + 1
     → peer.conn ≡ id → peer.turns ≡ 0 → peer.fault ≡ None → peer.ahead ≡ []
     → Goes Connect hub hub' → ConnectGives (Ok id) hub hub' → Adds before after (Admitted i id ∷ []) → AtStage (Listening n) o hub' (set ps i (Some peer)) (record left { more = more }) after
 admits_at {n = n} {o = o} {hub = hub} {left = left} {before = before} ps i id more peer hub' after lt below free st few less conn turns fault is goes gives admit_next =

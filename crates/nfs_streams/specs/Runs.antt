@@ -30,9 +30,9 @@ MAX_WRITTEN = 131072
 abbrev pub MAX_WAITING : ℕ
 MAX_WAITING = 4096
 
--- the most connections that are open at once, and the number of places
+-- the most connections that are open at once, and of places, in any profile
 abbrev pub MOST_PLACES : ℕ
-MOST_PLACES = 16
+MOST_PLACES = 256
 
 -- the most connections that may be open at once
 abbrev pub most_open : Limits → ℕ
@@ -152,7 +152,7 @@ IsKept earlier s = HasKept s.served.state.trail s.served.state.total earlier
 -- The acts that are allowed after earlier acts.
 -- - After an end or a failure of a stream only its closing is allowed. After a failed wait, a trail that couldn't be
 --   kept, or a store that failed, nothing is.
--- - A stream is admitted only just after it has arrived. Its place is free and below 16, and fewer connections are open
+-- - A stream is admitted only just after it has arrived. Its place is free and below 256, and fewer connections are open
 --   than the limit.
 -- - At most 131,072 bytes are read at once. By then everything that was read from that stream before is given, no bytes
 --   are pending on its connection, and its turns aren't used up.

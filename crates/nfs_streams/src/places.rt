@@ -7,7 +7,7 @@ ghost use Rattle.nfs_streams.specs.Seats.{place_at, taken};
 ghost use Rattle.nfs_streams.specs.declared.serving.Limits.{Limits};
 ghost use Rattle.nfs_streams.specs.declared.streams.StreamEnd.{StreamEnd};
 ghost use Rattle.nfs_streams.specs.declared.streams.StreamEnd.TheVariants as end;
-ghost use Rattle.nfs_streams.specs.Runs.{most_open};
+ghost use Rattle.nfs_streams.specs.Runs.{MOST_PLACES, most_open};
 ghost use Rattle.nfs_streams.specs.Stages.{Stage, Left, left_of, Listening, Arriving, Giving, Full, Answering};
 ghost use Rattle.nfs_streams.specs.Stages.{Ending, IsClosing, closed_stage, kept_stage, Moves};
 
@@ -42,7 +42,7 @@ pub(crate) struct AcceptState<A: Allocator + Copy> {
 }
 
 /// The most connections that may be open at once.
-fn most_places(limits: Limits) -> usize
+pub(crate) fn most_places(limits: Limits) -> usize
     ensures { result ≡ most_open limits }
 {
     limits.places.min(MAX_CONNECTIONS)
@@ -72,7 +72,7 @@ fn admit<A: Allocator + Copy, S: Streams<A>, C: Clock>(
     accept: &mut AcceptState<A>,
 ) -> bool
     requires within { index < length places.old }
-    requires sixteen { length places.old ≤ 16 }
+    requires few_places { length places.old ≤ MOST_PLACES }
     requires free { place_at places.old index ≡ None }
     requires some { 0 < accept.old.left }
     requires few { taken places.old < most_open accept.old.limits }
@@ -113,7 +113,7 @@ fn admit_next<A: Allocator + Copy, S: Streams<A>, C: Clock>(
     accept: &mut AcceptState<A>,
 ) -> bool
     requires within { index < length places.old }
-    requires sixteen { length places.old ≤ 16 }
+    requires few_places { length places.old ≤ MOST_PLACES }
     requires free { place_at places.old index ≡ None }
     ensures moves { (n : ℕ) → Moves (Listening n) (Listening n) accept.old.limits
         (record { hub = hub.old; places = places.old; left = left_of accept.old; acts = S.acts streams.old })
@@ -150,7 +150,7 @@ fn listen_at<A: Allocator + Copy, S: Streams<A>, C: Clock>(
     accept: &mut AcceptState<A>,
 ) -> bool
     requires within { index < length places.old }
-    requires sixteen { length places.old ≤ 16 }
+    requires few_places { length places.old ≤ MOST_PLACES }
     ensures moves { (n : ℕ) → Moves (Listening n) (Listening n) accept.old.limits
         (record { hub = hub.old; places = places.old; left = left_of accept.old; acts = S.acts streams.old })
         (record { hub = hub.new; places = places.new; left = left_of accept.new; acts = S.acts streams.new }) }
@@ -178,7 +178,7 @@ pub(crate) fn listen_all<A: Allocator + Copy, S: Streams<A>, C: Clock>(
     places: &mut [Option<Peer<A>>],
     accept: &mut AcceptState<A>,
 ) -> bool
-    requires { length places.old ≤ 16 }
+    requires { length places.old ≤ MOST_PLACES }
     ensures moves { (n : ℕ) → Moves (Listening n) (Listening n) accept.old.limits
         (record { hub = hub.old; places = places.old; left = left_of accept.old; acts = S.acts streams.old })
         (record { hub = hub.new; places = places.new; left = left_of accept.new; acts = S.acts streams.new }) }

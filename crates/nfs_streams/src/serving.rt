@@ -7,6 +7,7 @@ ghost use Rattle.nfs_hub.specs.Answer.{Served as ServedState};
 ghost use Rattle.nfs_hub.specs.Machine.{Event};
 ghost use Rattle.nfs_hub.specs.Hub.{IsUnchanged, IsHistoryOf};
 ghost use Rattle.nfs_streams.specs.Acts.{Act};
+ghost use Rattle.nfs_streams.specs.Runs.{MOST_PLACES};
 ghost use Rattle.nfs_streams.specs.Seats.{taken};
 ghost use Rattle.nfs_streams.specs.Keeping.{IsOpen, KeepsLog, MarksStore};
 ghost use Rattle.nfs_streams.specs.Stages.{BookLoads, Left, left_of, Listening, Trailing, Answering, Moves, RunGives};
@@ -15,18 +16,19 @@ ghost use Rattle.nfs_streams.specs.All.{ServesAll};
 
 use crate::peer::Peer;
 use crate::places::{
-    AcceptState, answer_all, are_served, give_all, listen_all, make_room, shut_all,
+    AcceptState, answer_all, are_served, give_all, listen_all, make_room, most_places, shut_all,
 };
 use crate::streams::{Streams, Wait};
 use call_store::Store;
-use nfs_hub::{Clock, Hub, HubFault, MAX_CONNECTIONS};
+use nfs_hub::{Clock, Hub, HubFault};
 use std::alloc::{AllocError, Allocator};
 use who_book::Book;
 
 /// The limits of serving.
 #[derive(Clone, Copy, Debug)]
 pub struct Limits {
-    /// The most connections that are open at once. More than 16 count as 16.
+    /// The most connections that are open at once. More than 256 count as 256. The hub refuses what is
+    /// above the limit of its profile ([`Hub::most_connections`]): then the stream that arrived waits.
     pub places: usize,
     /// The total number of connections that are opened.
     pub connections: u64,
@@ -314,7 +316,7 @@ fn turn<A: Allocator + Copy, S: Streams<A>, C: Clock>(
     places: &mut [Option<Peer<A>>],
     accept: &mut AcceptState<A>,
 ) -> Result<Wait, Halt>
-    requires { length places.old ≤ 16 }
+    requires { length places.old ≤ MOST_PLACES }
     ensures moves { (n : ℕ) → Moves (Listening n) (turned_stage result n) accept.old.limits
         (record { hub = hub.old; places = places.old; left = left_of accept.old; acts = S.acts streams.old })
         (record { hub = hub.new; places = places.new; left = left_of accept.new; acts = S.acts streams.new }) }
@@ -344,7 +346,7 @@ fn run<A: Allocator + Copy, S: Streams<A>, C: Clock>(
     places: &mut [Option<Peer<A>>],
     accept: &mut AcceptState<A>,
 ) -> AllEnd
-    requires { length places.old ≤ 16 }
+    requires { length places.old ≤ MOST_PLACES }
     ensures { RunGives result accept.old.limits
         (record { hub = hub.old; places = places.old; left = left_of accept.old; acts = S.acts streams.old })
         (record { hub = hub.new; places = places.new; left = left_of accept.new; acts = S.acts streams.new }) }
@@ -374,7 +376,7 @@ fn serve_at<A: Allocator + Copy, S: Streams<A>, C: Clock>(
     places: &mut [Option<Peer<A>>],
     mut accept: AcceptState<A>,
 ) -> AllEnd
-    requires sixteen { length places.old ≤ 16 }
+    requires few_places { length places.old ≤ MOST_PLACES }
     requires free { taken places.old ≡ 0 }
     requires all { accept.left ≡ accept.limits.connections }
     requires none { accept.book ≡ None }
@@ -397,11 +399,14 @@ fn first_mark<C: Clock>(store: &Option<Store>, clock: &C) -> Option<u64> {
 }
 
 /// One free place for each connection that may be open at the same time.
-fn free_places<A: Allocator + Copy>(alloc: A) -> Result<Vec<Option<Peer<A>>, A>, AllocError>
-    ensures { IfOk result (λ places. (length places.items ≤ 16) × (taken places.items ≡ 0)) }
+fn free_places<A: Allocator + Copy>(
+    alloc: A,
+    limits: Limits,
+) -> Result<Vec<Option<Peer<A>>, A>, AllocError>
+    ensures { IfOk result (λ places. (length places.items ≤ MOST_PLACES) × (taken places.items ≡ 0)) }
 {
     let mut places = Vec::new(alloc);
-    for _place in 0..MAX_CONNECTIONS {
+    for _place in 0..most_places(limits) {
         places.push(None)?;
     }
     Ok(places)
@@ -452,7 +457,7 @@ pub fn serve_all<A: Allocator + Copy, S: Streams<A>, C: Clock>(
         ServesAll first events (record { limits = limits; store = store; history = history }) result
         (record { hub = hub.old; acts = S.acts streams.old }) (record { hub = hub.new; acts = S.acts streams.new }) }
 {
-    let Ok(mut places) = free_places(alloc) else {
+    let Ok(mut places) = free_places(alloc, limits) else {
         return AllEnd::Memory;
     };
     let accept = AcceptState {

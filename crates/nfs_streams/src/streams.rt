@@ -70,7 +70,7 @@ pub enum StreamEnd {
     Stopped = 10,
 }
 
-/// The streams of a server over the allocator `A`, each at a place, whose number is below 16. Beside them the trait has
+/// The streams of a server over the allocator `A`, each at a place, whose number is below 256. Beside them the trait has
 /// the file, or another medium, in which the server's trail is kept. It has the files of the store, if any (`Disk`),
 /// and the source of other books of names. A place has one stream at a time, from `admit` to `close`. No other call is
 /// made for a place without a stream. Only `wait` waits for a peer.

@@ -152,6 +152,8 @@ pub record Facts : Type 0 where
   pub group : ℕ
   pub metadata : Moment
   pub modify : Moment
+  -- the most bytes of a file
+  pub most_bytes : ℕ
 
 -- nfs_ftype4
 abbrev pub type_number : Kind → ℕ
@@ -189,7 +191,7 @@ value_of book o Acl = typed acl (map (ace_of book) o.list)
 value_of book o AclSupport = typed uint 15
 value_of book o FileHandle = typed handle (object_handle o.number)
 value_of book o FileId = typed hyper o.number
-value_of book o MaxFileSize = typed hyper 1048576
+value_of book o MaxFileSize = typed hyper o.most_bytes
 value_of book o MaxName = typed uint MAX_NAME
 value_of book o MaxRead = typed hyper 32768
 value_of book o MaxWrite = typed hyper 61440

@@ -16,4 +16,5 @@ facts_value f = record {
   group = f.group;
   metadata = f.metadata;
   modify = f.modify;
+  most_bytes = f.most_bytes;
 }

@@ -1,5 +1,6 @@
 pub mod Status
 pub mod Name
+pub mod Limits
 pub mod Forms
 pub mod Handles
 pub mod StateIds

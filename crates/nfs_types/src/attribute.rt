@@ -189,6 +189,8 @@ pub struct ObjectFacts<'a> {
     pub metadata: Moment,
     /// The time of the last change of the content.
     pub modify: Moment,
+    /// The most bytes that a file may have.
+    pub most_bytes: u64,
     ghost few: { length entries.now ≤ 64 },
 }
 
@@ -256,7 +258,7 @@ impl<'a> ObjectFacts<'a> {
             Attribute::AclSupport => put(15u32, writer),
             Attribute::FileHandle => put(Handle::Object(self.number), writer),
             Attribute::FileId => put(self.number, writer),
-            Attribute::MaxFileSize => put(1_048_576u64, writer),
+            Attribute::MaxFileSize => put(self.most_bytes, writer),
             Attribute::MaxName => put(255u32, writer),
             Attribute::MaxRead => put(32_768u64, writer),
             Attribute::MaxWrite => put(61_440u64, writer),

@@ -2,12 +2,13 @@
 use crate::book_file::BookFile;
 use crate::clock::SystemClock;
 use crate::home::home_fault;
+use crate::profile::{NotOf, limits_of};
 use crate::stored::open_folder;
 use crate::streams::Served;
 use crate::trail_file::TrailFile;
 use crate::{Fault, TURNS, ended, hub_fault};
 use kept_server::{KeptEnd, Site, Start, serve_kept};
-use nfs_hub::{Hub, HubFault, MAX_CONNECTIONS, ServeEnd};
+use nfs_hub::{Hub, HubFault, ServeEnd};
 use nfs_streams::{AllEnd, Limits, serve_all};
 use nfsd_options::Options;
 use std::alloc::Global;
@@ -29,12 +30,13 @@ pub(crate) fn open_trail<'a, R: Files + Alloc + Clock>(
     }
 }
 
-/// The limits of serving. Several connections are served at a time, or one after the other in one place. In the first
+/// The limits of serving. Several connections are served at a time, as many as the profile permits, or one after the
+/// other in one place. In the first
 /// case a quiet connection is closed if another one waits.
 fn limits(options: &Options<'_>) -> Limits {
     Limits {
         places: if options.concurrent {
-            MAX_CONNECTIONS
+            limits_of(options.profile).connections()
         } else {
             1
         },
@@ -83,6 +85,7 @@ pub(crate) fn serve_stored<'r>(
     };
     let mut served = Served::new(rt, alloc, options, Some(folder), file);
     let start = Start {
+        limits: limits_of(options.profile),
         book,
         identity: served.new_identity(),
         hasher,
@@ -95,6 +98,7 @@ pub(crate) fn serve_stored<'r>(
         KeptEnd::Unready => Err(served.unready()),
         KeptEnd::Exhausted => Err(Fault::Hub(HubFault::Exhausted as u8)),
         KeptEnd::Memory => Err(hub_fault()),
+        KeptEnd::OtherProfile => Err(Fault::Profile(NotOf(options.profile))),
     }
 }
 
@@ -107,7 +111,7 @@ pub(crate) fn serve_unstored<'r>(
     book: Book,
     hasher: RandomState,
 ) -> Result<bool, Fault> {
-    let Ok(mut hub) = Hub::new(alloc, book, hasher) else {
+    let Ok(mut hub) = Hub::with_limits(alloc, limits_of(options.profile), book, hasher) else {
         return Err(hub_fault());
     };
     let mut served = Served::new(rt, alloc, options, None, file);

@@ -12,6 +12,8 @@ mod book_rule;
 mod clock;
 mod home;
 mod listening;
+mod near_limits;
+mod profile;
 mod slips;
 mod sockets;
 mod stored;
@@ -29,6 +31,7 @@ use home::{Home, Unmade};
 use listening::{serve_stored, serve_unstored};
 use nfs_hub::{Hub, HubFault, ServeEnd, serve};
 use nfsd_options::Options;
+use profile::NotOf;
 use std::alloc::Global;
 use std::fmt::{Display, Formatter};
 use std::fs::{File, OpenOptions};
@@ -64,6 +67,8 @@ enum Fault {
     Home(Unmade),
     /// The store can't be used.
     Store(Stop),
+    /// The store is of another profile.
+    Profile(NotOf),
     /// The trail can't be kept in its file.
     Trail(TrailFault),
     /// The server can't listen on this address.
@@ -85,6 +90,7 @@ impl Display for Fault {
             Fault::Hub(number) => write!(f, "hub {number}"),
             Fault::Home(_) => f.write_str("store 2"),
             Fault::Store(stop) => write!(f, "store {}", stop.number()),
+            Fault::Profile(_) => f.write_str("store 3"),
             Fault::Trail(_) => f.write_str("trail"),
             Fault::Address(..) | Fault::Sockets(_) | Fault::Waiting(_) => f.write_str("socket"),
             Fault::Output(error) => write!(f, "standard output: {error}"),

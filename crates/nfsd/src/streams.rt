@@ -3,6 +3,7 @@ use crate::Fault;
 use crate::addresses::{announce, listen_on_all};
 use crate::book_file::BookFile;
 use crate::listening::open_trail;
+use crate::near_limits::NearLimits;
 use crate::sockets::Sockets;
 use crate::stored::{Folder, stop_of};
 use crate::trail_file::{TrailFault, TrailFile};
@@ -11,7 +12,7 @@ use compound_run::Server;
 use kept_server::Site;
 use nfs_hub::ConnId;
 use nfs_streams::{Arrival, Moved, StreamEnd, Streams, Wait};
-use nfsd_options::Options;
+use nfsd_options::{Options, Profile};
 use std::alloc::{Allocator, Global};
 use std::io;
 use std::net::Net;
@@ -33,10 +34,22 @@ pub(crate) struct Served<'a, R: Files> {
     folder: Option<Folder<'a>>,
     trail: Option<TrailFile<'a, R>>,
     book: BookFile<'a, R>,
+    /// How many connections are open.
+    open: usize,
+    /// `None`: no limit is reported as nearly reached, as in the standard profile.
+    near: Option<NearLimits>,
     /// Each connection so far ended after a whole record.
     are_whole: bool,
     /// Why the server can't listen.
     unready: Option<Fault>,
+}
+
+/// The limits that are reported as nearly reached: those of the office profile.
+fn near_limits(profile: Profile) -> Option<NearLimits> {
+    match profile {
+        Profile::Standard => None,
+        Profile::Office => Some(NearLimits::new()),
+    }
 }
 
 impl<'a, R: Files + Eprint> Served<'a, R> {
@@ -56,6 +69,8 @@ impl<'a, R: Files + Eprint> Served<'a, R> {
             folder,
             trail: None,
             book,
+            open: 0,
+            near: near_limits(options.profile),
             are_whole: true,
             unready: None,
         }
@@ -232,12 +247,14 @@ impl<R: Files + Alloc + Eprint + Clock> Streams<Global> for Served<'_, R> {
     }
 
     fn admit(&mut self, place: usize, _conn: ConnId) {
+        self.open = self.open.saturating_add(1);
         if let Some(sockets) = &mut self.sockets {
             sockets.admit(place);
         }
     }
 
     fn close(&mut self, place: usize, end: StreamEnd) {
+        self.open = self.open.saturating_sub(1);
         if let Some(sockets) = &mut self.sockets {
             sockets.close(place);
         }
@@ -259,6 +276,9 @@ impl<R: Files + Alloc + Eprint + Clock> Streams<Global> for Served<'_, R> {
     }
 
     fn keep(&mut self, server: &Server) -> bool {
+        if let Some(near) = &mut self.near {
+            near.report(self.rt, self.open, server);
+        }
         match &mut self.trail {
             Some(trail) => trail.keep(server.guard()),
             None => true,

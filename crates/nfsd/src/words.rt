@@ -119,6 +119,7 @@ pub(crate) fn report<R: Files + Alloc + Eprint>(
         }
         Fault::Home(why) => report_path(rt, options.home, why),
         Fault::Store(stop) => report_path(rt, options.store, stop),
+        Fault::Profile(why) => report_path(rt, options.store, why),
         Fault::Trail(why) => report_path(rt, options.trail, why),
         Fault::Address(address, error) => report_address(rt, *address, error),
         Fault::Sockets(error) => {

@@ -1,4 +1,4 @@
--- The fourteen options by their places, and the rules of each that building keeps.
+-- The fifteen options by their places, and the rules of each that building keeps.
 use Rattle.std.proofs.Common.{◌≡◌, ◌∙◌, ◌<◌, ap, ap₂, ℕ, true, false, List, [], length, zero, suc, Some, refl, sym, inl, inr, arith, codes}
 use Rattle.std.specs.List.{slice_index_or}
 use Rattle.std.specs.Str.{bytes_eq}
@@ -27,16 +27,16 @@ differ a b other same =
 
 -- the option at place k has the rule r and the parser q, and an id that no other argument of the command has
 pub record IsRuleAt (k : ℕ) (r : Rule) (q : ValueParser) : Type 0 where
-  pub here : k < 14
+  pub here : k < 15
   pub place : (e : Rule) → slice_index_or nfsd_rules k e ≡ r
   pub parser : r.parser ≡ Some q
   pub exact : r.ignore_case ≡ false
-  pub alone : (j : ℕ) (e : Rule) → j < 14 → bytes_eq (slice_index_or nfsd_rules j e).id r.id ≡ true → j ≡ k
+  pub alone : (j : ℕ) (e : Rule) → j < 15 → bytes_eq (slice_index_or nfsd_rules j e).id r.id ≡ true → j ≡ k
   pub named : bytes_eq r.id [] ≡ false
   pub no_help : bytes_eq r.id (codes "help") ≡ false
   pub no_version : bytes_eq r.id (codes "version") ≡ false
 
-bare_alone : (j : ℕ) (e : Rule) → j < 14 → bytes_eq (slice_index_or nfsd_rules j e).id (codes "bare") ≡ true → j ≡ 1
+bare_alone : (j : ℕ) (e : Rule) → j < 15 → bytes_eq (slice_index_or nfsd_rules j e).id (codes "bare") ≡ true → j ≡ 1
 bare_alone zero e lt same = cc
 bare_alone (suc zero) e lt same = refl
 bare_alone (suc (suc zero)) e lt same = cc
@@ -51,9 +51,10 @@ bare_alone (suc (suc (suc (suc (suc (suc (suc (suc (suc (suc zero)))))))))) e lt
 bare_alone (suc (suc (suc (suc (suc (suc (suc (suc (suc (suc (suc zero))))))))))) e lt same = cc
 bare_alone (suc (suc (suc (suc (suc (suc (suc (suc (suc (suc (suc (suc zero)))))))))))) e lt same = cc
 bare_alone (suc (suc (suc (suc (suc (suc (suc (suc (suc (suc (suc (suc (suc zero))))))))))))) e lt same = cc
-bare_alone (suc (suc (suc (suc (suc (suc (suc (suc (suc (suc (suc (suc (suc (suc j)))))))))))))) e lt same = absurd (omega arith)
+bare_alone (suc (suc (suc (suc (suc (suc (suc (suc (suc (suc (suc (suc (suc (suc zero)))))))))))))) e lt same = cc
+bare_alone (suc (suc (suc (suc (suc (suc (suc (suc (suc (suc (suc (suc (suc (suc (suc j))))))))))))))) e lt same = absurd (omega arith)
 
-port_alone : (j : ℕ) (e : Rule) → j < 14 → bytes_eq (slice_index_or nfsd_rules j e).id (codes "port") ≡ true → j ≡ 2
+port_alone : (j : ℕ) (e : Rule) → j < 15 → bytes_eq (slice_index_or nfsd_rules j e).id (codes "port") ≡ true → j ≡ 2
 port_alone zero e lt same = cc
 port_alone (suc zero) e lt same = cc
 port_alone (suc (suc zero)) e lt same = refl
@@ -68,9 +69,10 @@ port_alone (suc (suc (suc (suc (suc (suc (suc (suc (suc (suc zero)))))))))) e lt
 port_alone (suc (suc (suc (suc (suc (suc (suc (suc (suc (suc (suc zero))))))))))) e lt same = cc
 port_alone (suc (suc (suc (suc (suc (suc (suc (suc (suc (suc (suc (suc zero)))))))))))) e lt same = cc
 port_alone (suc (suc (suc (suc (suc (suc (suc (suc (suc (suc (suc (suc (suc zero))))))))))))) e lt same = cc
-port_alone (suc (suc (suc (suc (suc (suc (suc (suc (suc (suc (suc (suc (suc (suc j)))))))))))))) e lt same = absurd (omega arith)
+port_alone (suc (suc (suc (suc (suc (suc (suc (suc (suc (suc (suc (suc (suc (suc zero)))))))))))))) e lt same = cc
+port_alone (suc (suc (suc (suc (suc (suc (suc (suc (suc (suc (suc (suc (suc (suc (suc j))))))))))))))) e lt same = absurd (omega arith)
 
-connections_alone : (j : ℕ) (e : Rule) → j < 14 → bytes_eq (slice_index_or nfsd_rules j e).id (codes "connections") ≡ true → j ≡ 3
+connections_alone : (j : ℕ) (e : Rule) → j < 15 → bytes_eq (slice_index_or nfsd_rules j e).id (codes "connections") ≡ true → j ≡ 3
 connections_alone zero e lt same = cc
 connections_alone (suc zero) e lt same = cc
 connections_alone (suc (suc zero)) e lt same = cc
@@ -85,9 +87,10 @@ connections_alone (suc (suc (suc (suc (suc (suc (suc (suc (suc (suc zero))))))))
 connections_alone (suc (suc (suc (suc (suc (suc (suc (suc (suc (suc (suc zero))))))))))) e lt same = cc
 connections_alone (suc (suc (suc (suc (suc (suc (suc (suc (suc (suc (suc (suc zero)))))))))))) e lt same = cc
 connections_alone (suc (suc (suc (suc (suc (suc (suc (suc (suc (suc (suc (suc (suc zero))))))))))))) e lt same = cc
-connections_alone (suc (suc (suc (suc (suc (suc (suc (suc (suc (suc (suc (suc (suc (suc j)))))))))))))) e lt same = absurd (omega arith)
+connections_alone (suc (suc (suc (suc (suc (suc (suc (suc (suc (suc (suc (suc (suc (suc zero)))))))))))))) e lt same = cc
+connections_alone (suc (suc (suc (suc (suc (suc (suc (suc (suc (suc (suc (suc (suc (suc (suc j))))))))))))))) e lt same = absurd (omega arith)
 
-concurrent_alone : (j : ℕ) (e : Rule) → j < 14 → bytes_eq (slice_index_or nfsd_rules j e).id (codes "concurrent") ≡ true → j ≡ 4
+concurrent_alone : (j : ℕ) (e : Rule) → j < 15 → bytes_eq (slice_index_or nfsd_rules j e).id (codes "concurrent") ≡ true → j ≡ 4
 concurrent_alone zero e lt same = cc
 concurrent_alone (suc zero) e lt same = cc
 concurrent_alone (suc (suc zero)) e lt same = cc
@@ -102,9 +105,10 @@ concurrent_alone (suc (suc (suc (suc (suc (suc (suc (suc (suc (suc zero)))))))))
 concurrent_alone (suc (suc (suc (suc (suc (suc (suc (suc (suc (suc (suc zero))))))))))) e lt same = cc
 concurrent_alone (suc (suc (suc (suc (suc (suc (suc (suc (suc (suc (suc (suc zero)))))))))))) e lt same = cc
 concurrent_alone (suc (suc (suc (suc (suc (suc (suc (suc (suc (suc (suc (suc (suc zero))))))))))))) e lt same = cc
-concurrent_alone (suc (suc (suc (suc (suc (suc (suc (suc (suc (suc (suc (suc (suc (suc j)))))))))))))) e lt same = absurd (omega arith)
+concurrent_alone (suc (suc (suc (suc (suc (suc (suc (suc (suc (suc (suc (suc (suc (suc zero)))))))))))))) e lt same = cc
+concurrent_alone (suc (suc (suc (suc (suc (suc (suc (suc (suc (suc (suc (suc (suc (suc (suc j))))))))))))))) e lt same = absurd (omega arith)
 
-stamped_alone : (j : ℕ) (e : Rule) → j < 14 → bytes_eq (slice_index_or nfsd_rules j e).id (codes "stamped") ≡ true → j ≡ 6
+stamped_alone : (j : ℕ) (e : Rule) → j < 15 → bytes_eq (slice_index_or nfsd_rules j e).id (codes "stamped") ≡ true → j ≡ 6
 stamped_alone zero e lt same = cc
 stamped_alone (suc zero) e lt same = cc
 stamped_alone (suc (suc zero)) e lt same = cc
@@ -119,9 +123,10 @@ stamped_alone (suc (suc (suc (suc (suc (suc (suc (suc (suc (suc zero)))))))))) e
 stamped_alone (suc (suc (suc (suc (suc (suc (suc (suc (suc (suc (suc zero))))))))))) e lt same = cc
 stamped_alone (suc (suc (suc (suc (suc (suc (suc (suc (suc (suc (suc (suc zero)))))))))))) e lt same = cc
 stamped_alone (suc (suc (suc (suc (suc (suc (suc (suc (suc (suc (suc (suc (suc zero))))))))))))) e lt same = cc
-stamped_alone (suc (suc (suc (suc (suc (suc (suc (suc (suc (suc (suc (suc (suc (suc j)))))))))))))) e lt same = absurd (omega arith)
+stamped_alone (suc (suc (suc (suc (suc (suc (suc (suc (suc (suc (suc (suc (suc (suc zero)))))))))))))) e lt same = cc
+stamped_alone (suc (suc (suc (suc (suc (suc (suc (suc (suc (suc (suc (suc (suc (suc (suc j))))))))))))))) e lt same = absurd (omega arith)
 
-privileged_alone : (j : ℕ) (e : Rule) → j < 14 → bytes_eq (slice_index_or nfsd_rules j e).id (codes "privileged-ports") ≡ true → j ≡ 7
+privileged_alone : (j : ℕ) (e : Rule) → j < 15 → bytes_eq (slice_index_or nfsd_rules j e).id (codes "privileged-ports") ≡ true → j ≡ 7
 privileged_alone zero e lt same = cc
 privileged_alone (suc zero) e lt same = cc
 privileged_alone (suc (suc zero)) e lt same = cc
@@ -136,9 +141,10 @@ privileged_alone (suc (suc (suc (suc (suc (suc (suc (suc (suc (suc zero)))))))))
 privileged_alone (suc (suc (suc (suc (suc (suc (suc (suc (suc (suc (suc zero))))))))))) e lt same = cc
 privileged_alone (suc (suc (suc (suc (suc (suc (suc (suc (suc (suc (suc (suc zero)))))))))))) e lt same = cc
 privileged_alone (suc (suc (suc (suc (suc (suc (suc (suc (suc (suc (suc (suc (suc zero))))))))))))) e lt same = cc
-privileged_alone (suc (suc (suc (suc (suc (suc (suc (suc (suc (suc (suc (suc (suc (suc j)))))))))))))) e lt same = absurd (omega arith)
+privileged_alone (suc (suc (suc (suc (suc (suc (suc (suc (suc (suc (suc (suc (suc (suc zero)))))))))))))) e lt same = cc
+privileged_alone (suc (suc (suc (suc (suc (suc (suc (suc (suc (suc (suc (suc (suc (suc (suc j))))))))))))))) e lt same = absurd (omega arith)
 
-leases_alone : (j : ℕ) (e : Rule) → j < 14 → bytes_eq (slice_index_or nfsd_rules j e).id (codes "leases") ≡ true → j ≡ 9
+leases_alone : (j : ℕ) (e : Rule) → j < 15 → bytes_eq (slice_index_or nfsd_rules j e).id (codes "leases") ≡ true → j ≡ 9
 leases_alone zero e lt same = cc
 leases_alone (suc zero) e lt same = cc
 leases_alone (suc (suc zero)) e lt same = cc
@@ -153,9 +159,10 @@ leases_alone (suc (suc (suc (suc (suc (suc (suc (suc (suc (suc zero)))))))))) e 
 leases_alone (suc (suc (suc (suc (suc (suc (suc (suc (suc (suc (suc zero))))))))))) e lt same = cc
 leases_alone (suc (suc (suc (suc (suc (suc (suc (suc (suc (suc (suc (suc zero)))))))))))) e lt same = cc
 leases_alone (suc (suc (suc (suc (suc (suc (suc (suc (suc (suc (suc (suc (suc zero))))))))))))) e lt same = cc
-leases_alone (suc (suc (suc (suc (suc (suc (suc (suc (suc (suc (suc (suc (suc (suc j)))))))))))))) e lt same = absurd (omega arith)
+leases_alone (suc (suc (suc (suc (suc (suc (suc (suc (suc (suc (suc (suc (suc (suc zero)))))))))))))) e lt same = cc
+leases_alone (suc (suc (suc (suc (suc (suc (suc (suc (suc (suc (suc (suc (suc (suc (suc j))))))))))))))) e lt same = absurd (omega arith)
 
-any_port_alone : (j : ℕ) (e : Rule) → j < 14 → bytes_eq (slice_index_or nfsd_rules j e).id (codes "any-port") ≡ true → j ≡ 13
+any_port_alone : (j : ℕ) (e : Rule) → j < 15 → bytes_eq (slice_index_or nfsd_rules j e).id (codes "any-port") ≡ true → j ≡ 14
 any_port_alone zero e lt same = cc
 any_port_alone (suc zero) e lt same = cc
 any_port_alone (suc (suc zero)) e lt same = cc
@@ -169,8 +176,9 @@ any_port_alone (suc (suc (suc (suc (suc (suc (suc (suc (suc zero))))))))) e lt s
 any_port_alone (suc (suc (suc (suc (suc (suc (suc (suc (suc (suc zero)))))))))) e lt same = cc
 any_port_alone (suc (suc (suc (suc (suc (suc (suc (suc (suc (suc (suc zero))))))))))) e lt same = cc
 any_port_alone (suc (suc (suc (suc (suc (suc (suc (suc (suc (suc (suc (suc zero)))))))))))) e lt same = cc
-any_port_alone (suc (suc (suc (suc (suc (suc (suc (suc (suc (suc (suc (suc (suc zero))))))))))))) e lt same = refl
-any_port_alone (suc (suc (suc (suc (suc (suc (suc (suc (suc (suc (suc (suc (suc (suc j)))))))))))))) e lt same = absurd (omega arith)
+any_port_alone (suc (suc (suc (suc (suc (suc (suc (suc (suc (suc (suc (suc (suc zero))))))))))))) e lt same = cc
+any_port_alone (suc (suc (suc (suc (suc (suc (suc (suc (suc (suc (suc (suc (suc (suc zero)))))))))))))) e lt same = refl
+any_port_alone (suc (suc (suc (suc (suc (suc (suc (suc (suc (suc (suc (suc (suc (suc (suc j))))))))))))))) e lt same = absurd (omega arith)
 
 pub bare_is_at : IsRuleAt 1 bare_rule vp.Bool
 bare_is_at = record {
@@ -256,7 +264,7 @@ leases_is_at = record {
   no_version = refl;
 }
 
-pub any_port_stands : IsRuleAt 13 any_port_rule vp.Bool
+pub any_port_stands : IsRuleAt 14 any_port_rule vp.Bool
 any_port_stands = record {
   here = omega arith;
   place = λ e. refl;
@@ -268,8 +276,8 @@ any_port_stands = record {
   no_version = refl;
 }
 
-fourteen : (c : Command) → app_of c ≡ nfsd → length (args_of c) ≡ 14
-fourteen c is = sym (length-map (args_of c) rule_of) ∙ ap (λ (a : App). length a.top.rules) is
+fifteen : (c : Command) → app_of c ≡ nfsd → length (args_of c) ≡ 15
+fifteen c is = sym (length-map (args_of c) rule_of) ∙ ap (λ (a : App). length a.top.rules) is
 
 rule_at : (c : Command) → app_of c ≡ nfsd → (k : ℕ) (d : Arg) (e : Rule) → k < length (args_of c)
     → rule_of (slice_index_or (args_of c) k d) ≡ slice_index_or nfsd_rules k e
@@ -280,7 +288,7 @@ pub own_parser : (old : Command) (m : ArgMatches) (p : IsParsedFrom old m) → a
     → (j : ℕ) (x : Arg) → j < length (args_of p.built) → slice_index_or (args_of p.built) j x ≡ x → bytes_eq x.id.now r.id ≡ true
     → (parser_of x ≡ q) × (x.ignore_case ≡ false)
 own_parser old m p is k r q s j x lt at same =
-    let count = fourteen old is in
+    let count = fifteen old is in
     let few = s.here in
     let here : k < length (args_of old) = omega arith in
     let mine : rule_of (slice_index_or (args_of old) k x) ≡ r = rule_at old is k x r here ∙ s.place r in

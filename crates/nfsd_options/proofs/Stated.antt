@@ -14,6 +14,7 @@ use Rattle.clap.specs.declared.parser.matches.ArgMatches.{ArgMatches}
 use Rattle.clap.proofs.WalkLemmas.{first_value-rows, raw_values-rows}
 use Rattle.nfsd_options.specs.Given.{AreReadOr, HasUnreadText, IsNumber, given, is_set, listed}
 use Rattle.nfsd_options.specs.Lists.{FailsAtText, texts_of}
+use Rattle.nfsd_options.specs.Profiles.{ReadsProfile}
 use Rattle.nfsd_options.specs.Simple.{nfsd}
 use Rattle.nfsd_options.proofs.Answers.{flag_held, number_held}
 use Rattle.nfsd_options.proofs.Numbers.{number_read}
@@ -61,3 +62,9 @@ pub fails_then : {T X E : Type 0} (gives : Text → Result X E → Type 0) (word
 fails_then gives words texts r e is none (inl memory) unread = subst (λ x. AreReadOr words x) (sym is) (inl (inl memory))
 fails_then gives words texts r e is none (inr wrong) unread =
     subst (λ x. AreReadOr words x) (sym is) (inr (none, wrong.0, unread wrong.1))
+
+-- a name that no profile has
+pub unnamed : {T : Type 0} (words : List Text) (r : Result T Error) (e : Error) → r ≡ Err e → fault_of nfsd words ≡ []
+    → ReadsProfile (given (codes "profile") words) (Err e) → AreReadOr words r
+unnamed words r e is none (inl memory) = subst (λ x. AreReadOr words x) (sym is) (inl (inl memory))
+unnamed words r e is none (inr wrong) = subst (λ x. AreReadOr words x) (sym is) (inr (none, wrong.0, inr (inr wrong.1)))

@@ -1,5 +1,5 @@
 -- The words of `nfsd`: the files, the flags and the numbers that `clap`'s reading gives for them.
-use Rattle.std.specs.Prelude.{◌≡◌, ◌⊎◌, ◌&&◌, ◌||◌, ℕ, Bool, false, not, List, [], Option, Some, None, codes}
+use Rattle.std.specs.Prelude.{◌≡◌, ◌⊎◌, ◌&&◌, ◌||◌, ℕ, Bool, true, false, not, List, [], Option, Some, None, codes}
 use Rattle.std.specs.Prelude.{if◌then◌else◌}
 use Rattle.std.specs.Prelude.{Any, Ok, Err, Result, is_some, length, nat_lt, option_map, pos, unwrap_or}
 use Rattle.std.specs.List.{list_any}
@@ -18,8 +18,11 @@ use Rattle.networks.specs.Address.{is_loopback}
 use Rattle.networks.specs.Text.{HasFault, Writes}
 use Rattle.networks.specs.declared.reading.NetworkError.{NetworkError}
 use Rattle.nfsd_options.specs.Lists.{WriteEach}
+use Rattle.nfsd_options.specs.Profiles.{profile_of}
 use Rattle.nfsd_options.specs.Simple.{nfsd}
 use Rattle.nfsd_options.specs.declared.options.Options.{Options}
+use Rattle.nfsd_options.specs.declared.profile.Profile.{Profile}
+use Rattle.nfsd_options.specs.declared.profile.Profile.TheVariants.{Standard, Office}
 
 -- the text that `clap`'s reading of the words gives for an option; the text of a flag is `true` or `false`
 abbrev pub given : Text → List Text → Option Text
@@ -57,6 +60,7 @@ pub record OptionsOf (words : List Text) (o : Options) : Type 0 where
   pub store : option_map (λ folder. folder.now) o.store ≡ given (codes "store") words
   pub leases : o.leases ≡ is_set (given (codes "leases") words)
   pub home : option_map (λ folder. folder.now) o.home ≡ given (codes "home") words
+  pub profile : profile_of (given (codes "profile") words) ≡ Some o.profile
   pub listen : WriteEach IsIpText (listed (codes "listen") words) o.listen.items
   pub allow : WriteEach Writes (listed (codes "allow") words) o.allow.items
   pub any_port : o.any_port ≡ is_set (given (codes "any-port") words)
@@ -72,6 +76,7 @@ pub record Together : Type 0 where
   pub concurrent : Bool
   pub leases : Bool
   pub home : Bool
+  pub office : Bool
   pub listen : Bool
   pub allow : Bool
   pub any_port : Bool
@@ -88,6 +93,11 @@ is_meant t = t.book || (t.concurrent || (t.trail || (t.stamped || (t.store || t.
 abbrev pub is_for_listening : Together → Bool
 is_for_listening t = t.listen || (t.allow || t.any_port)
 
+-- whether it is the office profile
+abbrev pub is_office : Profile → Bool
+is_office Standard = false
+is_office Office = true
+
 -- Any port is no privileged one. There are at most 8 addresses and 64 networks. Where other machines
 -- reach an address, somebody must be allowed. The lines of a trail that goes to no file have no moments.
 abbrev pub listening_mistake : Together → Option ErrorKind
@@ -99,12 +109,12 @@ listening_mistake t =
     else None
 
 -- Options that can't be given together. A home isn't that of the sample tree, and goes with none of
--- the options that it means. The sample tree has no file of the trail, listens nowhere and has no
--- store.
+-- the options that it means. The sample tree has no file of the trail, listens nowhere, has no store,
+-- and has the limits of the standard profile.
 abbrev pub mistake : Together → Option ErrorKind
 mistake t =
     if t.home && (t.bare || is_meant t) then Some ArgumentConflict
-    else if t.bare && (t.trail || (t.ports || (is_for_listening t || t.store))) then Some ArgumentConflict
+    else if t.bare && (t.trail || (t.ports || (is_for_listening t || (t.store || t.office)))) then Some ArgumentConflict
     else listening_mistake t
 
 abbrev pub together : Options → Together
@@ -118,6 +128,7 @@ together o = record {
   concurrent = o.concurrent;
   leases = o.leases;
   home = is_some o.home;
+  office = is_office o.profile;
   listen = nat_lt 0 (length o.listen.items);
   allow = nat_lt 0 (length o.allow.items);
   any_port = o.any_port;
@@ -125,11 +136,12 @@ together o = record {
   beyond = list_any (λ a. not (is_loopback a)) o.listen.items;
 }
 
--- a text of `--listen` writes no address, or one of `--allow` no network
+-- a text of `--listen` writes no address, or one of `--allow` no network, or no profile has the name of `--profile`
 abbrev pub HasUnreadText : List Text → Type 0
 HasUnreadText words =
     Any (λ text. (a : IpAddr) → ¬ (IsIpText text a)) (listed (codes "listen") words)
     ⊎ Any (λ text. (fault : NetworkError) × HasFault text fault) (listed (codes "allow") words)
+    ⊎ (profile_of (given (codes "profile") words) ≡ None)
 
 -- the words have this fault: one of `clap`'s reading; and else a text that writes no value
 abbrev pub FailsToRead : List Text → Error → Type 0

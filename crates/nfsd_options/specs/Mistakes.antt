@@ -5,7 +5,7 @@ use Rattle.clap.specs.declared.error.kind.ErrorKind.TheVariants.{TooManyValues}
 use Rattle.nfsd_options.specs.declared.mistake.Mistake.{Mistake}
 use Rattle.nfsd_options.specs.declared.mistake.Mistake.TheVariants.{HomeWithOthers, TrailOfBare, PortsOfBare}
 use Rattle.nfsd_options.specs.declared.mistake.Mistake.TheVariants.{StoreOfBare, NothingToStamp}
-use Rattle.nfsd_options.specs.declared.mistake.Mistake.TheVariants.{ListeningOfBare, AnyIsPrivileged, TooMany}
+use Rattle.nfsd_options.specs.declared.mistake.Mistake.TheVariants.{ListeningOfBare, OfficeOfBare, AnyIsPrivileged, TooMany}
 use Rattle.nfsd_options.specs.declared.mistake.Mistake.TheVariants.{NobodyAllowed}
 
 abbrev pub kind_at : Mistake → ErrorKind
@@ -14,6 +14,7 @@ kind_at TrailOfBare = ArgumentConflict
 kind_at PortsOfBare = ArgumentConflict
 kind_at StoreOfBare = ArgumentConflict
 kind_at ListeningOfBare = ArgumentConflict
+kind_at OfficeOfBare = ArgumentConflict
 kind_at AnyIsPrivileged = ArgumentConflict
 kind_at TooMany = TooManyValues
 kind_at NobodyAllowed = MissingRequiredArgument

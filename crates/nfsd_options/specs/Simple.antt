@@ -1,7 +1,7 @@
 -- The command of `nfsd` as `clap` sees a simple command:
 -- `nfsd [--book FILE] [--bare] [--port N] [--connections N] [--concurrent] [--trail FILE]
--- [--stamped] [--privileged-ports] [--store FOLDER] [--leases] [--home FOLDER] [--listen ADDRESS]..
--- [--allow NETWORK].. [--any-port]`, or `nfsd --version`.
+-- [--stamped] [--privileged-ports] [--store FOLDER] [--leases] [--home FOLDER] [--profile NAME]
+-- [--listen ADDRESS].. [--allow NETWORK].. [--any-port]`, or `nfsd --version`.
 use Rattle.std.specs.Prelude.{codes, Some, pos, true}
 use Rattle.clap.specs.Words.{App, Rule, Text, new_app, new_rule, with_rule}
 use Rattle.clap.specs.declared.builder.action.ArgAction.TheVariants.{Append, SetTrue}
@@ -71,6 +71,10 @@ leases_rule = flag_rule (codes "leases")
 abbrev pub home_rule : Rule
 home_rule = file_rule (codes "home")
 
+-- `--profile NAME`
+abbrev pub profile_rule : Rule
+profile_rule = record (new_rule (codes "profile")) { long = Some (codes "profile"); value_names = 1 }
+
 -- `--listen ADDRESS`
 abbrev pub listen_rule : Rule
 listen_rule = list_rule (codes "listen")
@@ -94,4 +98,5 @@ nfsd =
     let serving = with_rule (with_rule numbers concurrent_rule) trail_rule in
     let keeping = with_rule (with_rule (with_rule serving stamped_rule) privileged_rule) store_rule in
     let housed = with_rule (with_rule keeping leases_rule) home_rule in
-    with_rule (with_rule (with_rule housed listen_rule) allow_rule) any_port_rule
+    let limited = with_rule housed profile_rule in
+    with_rule (with_rule (with_rule limited listen_rule) allow_rule) any_port_rule

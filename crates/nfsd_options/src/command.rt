@@ -3,7 +3,7 @@ ghost use Rattle.std.specs.Prelude.{◌≡◌, IfOk, false};
 ghost use Rattle.clap.specs.Words.{app_of, rule_of};
 ghost use Rattle.nfsd_options.specs.Simple.{allow_rule, any_port_rule, bare_rule, book_rule, concurrent_rule};
 ghost use Rattle.nfsd_options.specs.Simple.{connections_rule, file_rule, flag_rule, home_rule, leases_rule};
-ghost use Rattle.nfsd_options.specs.Simple.{list_rule, listen_rule, nfsd, port_rule, privileged_rule};
+ghost use Rattle.nfsd_options.specs.Simple.{list_rule, listen_rule, nfsd, port_rule, privileged_rule, profile_rule};
 ghost use Rattle.nfsd_options.specs.Simple.{stamped_rule, store_rule, trail_rule};
 
 use build_record::version;
@@ -68,6 +68,10 @@ and all of it in one folder, with the book if it is there:
 
     nfsd --home office
 
+and the same with room for an office:
+
+    nfsd --home office --profile office
+
 and the same for the machines of a network. The server trusts each of them about its users, and
 nothing is encrypted on the way:
 
@@ -92,6 +96,7 @@ pub(crate) fn command<'a>(alloc: Global) -> Result<Command<'a>, AllocError>
         .arg(store(alloc))?
         .arg(leases(alloc))?
         .arg(home(alloc))?
+        .arg(profile(alloc))?
         .arg(listen(alloc))?
         .arg(allow(alloc))?
         .arg(any_port(alloc))?;
@@ -175,7 +180,7 @@ fn concurrent<'a>(alloc: Global) -> Arg<'a>
     flag(
         alloc,
         "concurrent",
-        "Serves up to 16 connections at the same time",
+        "Serves up to 16 connections at the same time, or 256 with '--profile office'",
     )
 }
 
@@ -244,6 +249,19 @@ fn home<'a>(alloc: Global) -> Arg<'a>
         "One folder for all: stands for '--concurrent --leases --store FOLDER/store --trail FOLDER/trail.txt \
          --stamped', and '--book FOLDER/book.toml' if that file is there",
     )
+}
+
+fn profile<'a>(alloc: Global) -> Arg<'a>
+    ensures { (rule_of result ≡ profile_rule) × (result.global ≡ false) }
+{
+    Arg::new(alloc, "profile")
+        .long("profile")
+        .value_name("NAME")
+        .help(
+            "The limits, 'standard' or 'office'; of office: files of up to 1 TiB, 1048576 objects and names of a \
+             directory, 256 connections. A store keeps its profile, and is refused with the other; not 'office' with \
+             --bare [default: standard]",
+        )
 }
 
 fn listen<'a>(alloc: Global) -> Arg<'a>

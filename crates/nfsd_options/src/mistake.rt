@@ -8,6 +8,7 @@ ghost use Rattle.nfsd_options.specs.Mistakes.{kind_at};
 
 use crate::command::command;
 use crate::options::Options;
+use crate::profile::Profile;
 use clap::Error;
 use clap::error::ErrorKind;
 use networks::is_loopback;
@@ -27,6 +28,8 @@ pub(crate) enum Mistake {
     StoreOfBare,
     /// `--listen`, `--allow` or `--any-port` with `--bare`.
     ListeningOfBare,
+    /// `--profile office` with `--bare`.
+    OfficeOfBare,
     /// `--any-port` with `--privileged-ports`.
     AnyIsPrivileged,
     /// More addresses or networks than permitted.
@@ -58,6 +61,16 @@ fn is_for_listening(options: &Options<'_>) -> bool
     ensures { result ≡ is_for_listening (together options.now) }
 {
     !options.listen.is_empty() || (!options.allow.is_empty() || options.any_port)
+}
+
+/// Whether the office profile is given.
+fn is_office(options: &Options<'_>) -> bool
+    ensures { result ≡ (together options.now).office }
+{
+    match options.profile {
+        Profile::Standard => false,
+        Profile::Office => true,
+    }
 }
 
 /// Whether there are more addresses or networks than permitted.
@@ -115,6 +128,8 @@ impl Mistake {
             Some(Mistake::ListeningOfBare)
         } else if bare && options.store.is_some() {
             Some(Mistake::StoreOfBare)
+        } else if bare && is_office(options) {
+            Some(Mistake::OfficeOfBare)
         } else {
             Mistake::of_listening(options)
         }
@@ -130,6 +145,7 @@ impl Mistake {
             | Mistake::PortsOfBare
             | Mistake::StoreOfBare
             | Mistake::ListeningOfBare
+            | Mistake::OfficeOfBare
             | Mistake::AnyIsPrivileged => ErrorKind::ArgumentConflict,
             Mistake::TooMany => ErrorKind::TooManyValues,
             Mistake::NobodyAllowed | Mistake::NothingToStamp => ErrorKind::MissingRequiredArgument,
@@ -155,6 +171,10 @@ impl Mistake {
             Mistake::ListeningOfBare => {
                 "the arguments '--listen <ADDRESS>', '--allow <NETWORK>' and '--any-port' cannot be used with \
                  '--bare', which listens on no port"
+            }
+            Mistake::OfficeOfBare => {
+                "the argument '--profile office' cannot be used with '--bare', whose sample tree has the limits of the \
+                 standard profile"
             }
             Mistake::AnyIsPrivileged => {
                 "the argument '--any-port' cannot be used with '--privileged-ports'"

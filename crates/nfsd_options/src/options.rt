@@ -4,6 +4,7 @@ ghost use Rattle.nfsd_options.specs.Given.{AreReadOr, IsTakenOr, OptionsOf, defa
 
 use crate::command::command;
 use crate::mistake::Mistake;
+use crate::profile::{Profile, read_profile};
 use crate::values::values;
 use clap::Error;
 use networks::Network;
@@ -46,6 +47,8 @@ pub struct Options<'a> {
     pub leases: bool,
     /// The folder of the store, the trail and the book.
     pub home: Option<&'a str>,
+    /// The profile. Without `--profile` it is the standard one.
+    pub profile: Profile,
     /// The addresses to listen on, at most 8. If there are none, it is 127.0.0.1.
     pub listen: Vec<IpAddr>,
     /// The networks from which connections are served, at most 64, beside the machine itself.
@@ -89,6 +92,7 @@ impl<'a> Options<'a> {
         let home = matches.get_str("home");
         let many = are_many(concurrent, home);
         let default_count = connections_of(many);
+        let profile = read_profile(alloc, matches.get_str("profile"))?;
         let any_port = matches.get_flag("any-port");
         let listen = values(alloc, "--listen <ADDRESS>", matches.get_strs("listen"))?;
         let allow = values(alloc, "--allow <NETWORK>", matches.get_strs("allow"))?;
@@ -106,6 +110,7 @@ impl<'a> Options<'a> {
             store,
             leases,
             home,
+            profile,
             listen,
             allow,
             any_port,
@@ -115,9 +120,10 @@ impl<'a> Options<'a> {
     /// Reads the words. The first one is the program's name, as in `env::args`.
     ///
     /// An error is `clap`'s own, and its `Display` is the text for the user. These are the errors: a mistake in the
-    /// words, a request for help or for the version, a text that is no address or no network, and a failed allocation.
+    /// words, a request for help or for the version, a name of no profile, a text that is no address or no network, and a
+    /// failed allocation.
     /// So are too many addresses or networks, and options that can't be given together: `--home` with an option that it
-    /// stands for or with `--bare`; `--bare` with `--trail`, `--store` or an option for listening; `--any-port` with
+    /// stands for or with `--bare`; `--bare` with `--trail`, `--store`, the office profile or an option for listening; `--any-port` with
     /// `--privileged-ports`; an address that isn't loopback without `--allow`; `--stamped` without `--trail`.
     pub fn read<S: AsStr>(alloc: Global, words: &'a [S]) -> Result<Options<'a>, Error>
         ensures options_are { IfOk result (OptionsOf (map S.text words.entry.now)) }

@@ -12,7 +12,7 @@ use std::fmt::Display;
 use std::str::FromStr;
 
 /// The error of a text that is no value of an option.
-fn wrong_value<E: Display>(
+pub(crate) fn wrong_value<E: Display>(
     alloc: Global,
     option: &str,
     text: &str,

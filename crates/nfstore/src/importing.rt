@@ -7,7 +7,8 @@ use acl_shape::set_mode;
 use call_store::{MACHINE, Store, StoreFault};
 use compound_run::ClientState;
 use nfs_hub::Hub;
-use node_tree::{Kept, Limits, Moment, NewObject, RestoreFault, Restoring, Tree};
+use nfs_types::Limits;
+use node_tree::{Kept, Moment, NewObject, RestoreFault, Restoring, Tree};
 use session_slots::RestoreFault as Unrestored;
 use std::alloc::Global;
 use std::fs;
@@ -156,7 +157,7 @@ pub(crate) enum Unmade {
 
 /// A server over a tree, which has no client and no book.
 fn hub_over(alloc: Global, tree: Tree, hasher: RandomState) -> Result<Hub, StoreFault> {
-    let nobody = ClientState::nothing(alloc);
+    let nobody = ClientState::nothing(alloc, Limits::standard());
     match Hub::restored(alloc, tree, nobody, Book::default(alloc), hasher) {
         Ok(hub) => Ok(hub),
         Err(Unrestored::Misfit) => Err(StoreFault::Unfit),

@@ -1,7 +1,8 @@
 //! Surveys a directory of this system, and reports what a tree can't have.
 use crate::fault::{Fault, Stopped};
 use acl_list::Kind;
-use node_tree::{Limits, MAX_NAME, MAX_TEXT};
+use nfs_types::Limits;
+use node_tree::{MAX_NAME, MAX_TEXT};
 use std::alloc::Global;
 use std::collections::BTreeMap;
 use std::fs::Metadata;

@@ -9,7 +9,7 @@ use Rattle.std.proofs.Math.Logic.{⊎_elim}
 use Rattle.node_tree.specs.declared.at.At.{At}
 use Rattle.acl_list.specs.declared.entry.Kind.{Kind}
 use Rattle.acl_list.specs.declared.entry.Kind.TheVariants.{File, Directory, Link}
-use Rattle.node_tree.specs.Limits.{Limits, IsAllowed}
+use Rattle.nfs_types.specs.Limits.{Limits, IsAllowed}
 use Rattle.node_tree.specs.World.{Object, Name, has_name}
 use Rattle.node_tree.specs.Changes.{changed, without, touched, retold, released}
 use Rattle.node_tree.specs.Contents.{most_held}

@@ -11,7 +11,8 @@ use Rattle.acl_list.specs.declared.entry.Kind.{Kind}
 use Rattle.acl_list.specs.declared.entry.Kind.TheVariants.{Directory}
 use Rattle.acl_shape.specs.Inherited.{is_directory}
 use Rattle.node_tree.specs.declared.at.At.{At}
-use Rattle.node_tree.specs.Limits.{ROOT, MAX_NAME, Limits}
+use Rattle.nfs_types.specs.Limits.{Limits}
+use Rattle.node_tree.specs.Limits.{ROOT, MAX_NAME}
 use Rattle.node_tree.specs.World.{World, Object, Name, object, kind_of, is_named, has_name, has_entries, child_named, is_one, is_directory_at, parent_of, name_count, link_count}
 use Rattle.node_tree.specs.Ways.{is_within}
 use Rattle.node_tree.specs.Changes.{changed, touched, retold, released, other_names, given_name, with_move}

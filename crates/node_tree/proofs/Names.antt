@@ -7,7 +7,8 @@ use Rattle.std.specs.Cmp.Lexicographic.{pointwise, bytes_decides}
 use Rattle.std.proofs.Math.Logic.{⊎_elim}
 use Rattle.std.proofs.lemmas.Bool.Decides.{Decides-eqb}
 use Rattle.std.proofs.lemmas.List.Sums.{sum_by-cons, length-filter}
-use Rattle.node_tree.specs.Limits.{MAX_NAME, Limits}
+use Rattle.nfs_types.specs.Limits.{Limits}
+use Rattle.node_tree.specs.Limits.{MAX_NAME}
 use Rattle.node_tree.specs.World.{Name, is_named, names_in, child_in, name_count, link_count}
 use Rattle.node_tree.specs.Sound.{IsIn, IsLimited}
 

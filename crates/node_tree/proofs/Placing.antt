@@ -80,3 +80,12 @@ stretch_is f n offset most count is =
     (λ (few : n - offset < most). take_all most (map f (range_with_len offset (n - offset))) (let l : length (map f (range_with_len offset (n - offset))) ≡ n - offset = length-map-range_with_len f offset (n - offset) in omega arith) ∙ ap (λ k. map f (range_with_len offset k)) (let e : n - offset ≡ count = omega arith in e))
     (λ (many : most ≤ n - offset). take-map-range_with_len f offset (n - offset) most many ∙ ap (λ k. map f (range_with_len offset k)) (let e : most ≡ count = omega arith in e))
     (cases_lt (n - offset) most)
+
+-- ---- holes
+
+-- each byte reads as it was made, where those past the end are zeros
+pub reads_all : (f : ℕ → ℕ) (n : ℕ) → ((i : ℕ) → n ≤ i → f i ≡ 0) → (k : ℕ) → slice_index (map f (range_with_len 0 n)) k ≡ f k
+reads_all f n zeros k = reads f n k ∙ by_cases
+  where
+    by_cases : cond {A = ℕ} (nat_lt k n) (f k) 0 ≡ f k
+    by_cases = grind (arith, nat_tests, zeros k)

@@ -5,27 +5,33 @@ use Rattle.std.specs.Prelude.{Option, IsSome, is_some, ◌==◌, find, nat_le, n
 use Rattle.std.specs.Ordering.{nat_cmp, match_ordering, is_eq}
 use Rattle.std.specs.declared.cmp.Ordering.TheVariants.{Less, Equal, Greater}
 use Rattle.std.specs.BTreeSet.{insert_key}
-use Rattle.std.specs.Map.{lookup}
+use Rattle.std.specs.Map.{lookup, set_value}
 use Rattle.std.specs.BTreeMap.{is_at}
 use Rattle.std.specs.List.{list_any, list_all}
 use Rattle.std.specs.Option.{option_map, option_map_or}
 use Rattle.std.proofs.Math.Logic.{⊎_elim}
 use Rattle.std.proofs.lemmas.Bool.{and_parts}
+use Rattle.std.proofs.lemmas.Map.{keys-set_value}
 use Rattle.std.proofs.lemmas.Bool.Decides.{Decides-eqb, Decides-ltb, leb_tells, nat_tests}
 use Rattle.acl_list.specs.declared.entry.Kind.{Kind}
 use Rattle.acl_list.specs.declared.entry.Kind.TheVariants.{File, Directory, Link}
 use Rattle.acl_shape.specs.Inherited.{is_directory}
 use Rattle.acl_shape.specs.Bounds.{fits}
 use Rattle.acl_shape.proofs.Parts.{IsBounded-fits}
-use Rattle.node_tree.specs.Limits.{ROOT, MAX_NAME, Limits, IsAllowed}
-use Rattle.node_tree.specs.World.{World, Object, Name, object, kind_of, child_named, is_directory_at, is_named, has_name, name_count, link_count, parent_of}
+use Rattle.nfs_types.specs.Limits.{Limits, IsAllowed}
+use Rattle.node_tree.specs.Limits.{ROOT, MAX_NAME}
+use Rattle.node_tree.specs.World.{World, Object, Name, object, kind_of, child_named, is_directory_at, is_named, has_name, name_count, link_count, parent_of, is_file, is_file_at, bytes_of}
+use Rattle.node_tree.specs.Changes.{changed, written}
 use Rattle.node_tree.specs.Refusals.{has_room, may_link}
 use Rattle.node_tree.specs.Sound.{IsIn, Climbs, IsStamped, IsFit, IsSound, Rises, stamp_of, most_bytes}
-use Rattle.node_tree.specs.Restored.{Begun, counters_fit, put_object, put_name, has_stamp, is_fit, object_fits, child_fits, name_fits, climbs_to_root, is_placed, is_whole, IsHung, IsBegun}
-use Rattle.node_tree.proofs.Objects.{is_at-same, is_at-apart, is_at-unlike, is_same, by_number, lookup-inserted}
+use Rattle.node_tree.specs.Restored.{Begun, counters_fit, put_object, put_name, put_more, has_stamp, is_fit, object_fits, more_fits, child_fits, name_fits, climbs_to_root, is_placed, is_whole, IsHung, IsBegun}
+use Rattle.node_tree.proofs.Objects.{is_at-same, is_at-apart, is_at-unlike, is_same, by_number, lookup-inserted, option_map-changed}
+use Rattle.node_tree.proofs.Holding.{IsHeld, IsHeld-changed}
+use Rattle.node_tree.proofs.Setting.{length-written}
 use Rattle.node_tree.proofs.Rising.{Rises-push, number-below, inserted_last}
 use Rattle.node_tree.proofs.Names.{Found, found, not_found, from_push, named_at, child_sought, any_passes, none_passes, count_by-none, flipped_back, IsLimited-push}
 use Rattle.node_tree.proofs.Stamps.{Joins}
+use mathlib.Core.Path.{fun_ext}
 
 at_most : (a b : ℕ) → nat_le a b ≡ true → a ≤ b
 at_most a b h = ⊎_elim (λ yes. yes.1) (λ no. let f : nat_le a b ≡ false = no.0 in cc) (leb_tells a b)
@@ -185,6 +191,90 @@ IsBegun-object w number cookie numbers stamps begun k o may more more_stamps num
     there : (b : Bool) (found : Option Object) (q : ℕ) (p : Object) → lookup (is_at (nat_cmp q)) w.objects ≡ found → cond b (Some o) found ≡ Some p → IsFit w.limits w.next_tick p
     there true found q p was_present is = let same : o ≡ p = cc in subst (IsFit w.limits w.next_tick) same may.fit
     there false found q p was_present is = begun.fit q p (was_present ∙ is)
+
+-- ---- further bytes of a file
+
+numbers_kept : (test : ℕ → Bool) (es : List (ℕ × Object)) (o : Object) → map (λ (e : ℕ × Object). e.0) (set_value test es o) ≡ map (λ (e : ℕ × Object). e.0) es
+numbers_kept test es o = keys-set_value test es o
+
+stamps_kept : (number : ℕ) (es : List (ℕ × Object)) (old new : Object) → lookup (is_at (nat_cmp number)) es ≡ Some old → new.stamp ≡ old.stamp → (s : ℕ) → has_stamp (set_value (is_at (nat_cmp number)) es new) s ≡ has_stamp es s
+stamps_kept number [] old new found same s = refl
+stamps_kept number (e ∷ es) old new found same s =
+    elim (is_at (nat_cmp number) e.0) as (λ b. cond b (Some e.1) (lookup (is_at (nat_cmp number)) es) ≡ Some old → has_stamp (cond b ((e.0, new) ∷ es) (e ∷ set_value (is_at (nat_cmp number)) es new)) s ≡ ((s == e.1.stamp) || has_stamp es s)) [
+      | true ↦ λ is. let one : e.1 ≡ old = cc in ap (λ x. (s == x) || has_stamp es s) (same ∙ ap (λ (o : Object). o.stamp) (sym one))
+      | false ↦ λ is. ap (λ b. (s == e.1.stamp) || b) (stamps_kept number es old new is same s)
+    ] found
+
+-- a change of one object that keeps its stamp
+numbers_changed : (number : ℕ) (f : Object → Object) (es : List (ℕ × Object)) → map (λ (e : ℕ × Object). e.0) (changed number f es) ≡ map (λ (e : ℕ × Object). e.0) es
+numbers_changed number f es =
+    elim (lookup (is_at (nat_cmp number)) es) as (λ found. map (λ (e : ℕ × Object). e.0) (option_map_or (λ o. set_value (is_at (nat_cmp number)) es (f o)) found es) ≡ map (λ (e : ℕ × Object). e.0) es) [
+      | Some o ↦ numbers_kept (is_at (nat_cmp number)) es (f o)
+      | None ↦ refl
+    ]
+
+stamps_changed : (number : ℕ) (f : Object → Object) (es : List (ℕ × Object)) → ((o : Object) → (f o).stamp ≡ o.stamp) → (s : ℕ) → has_stamp (changed number f es) s ≡ has_stamp es s
+stamps_changed number f es keeps s =
+    elim (lookup (is_at (nat_cmp number)) es) as (λ found. lookup (is_at (nat_cmp number)) es ≡ found → has_stamp (option_map_or (λ o. set_value (is_at (nat_cmp number)) es (f o)) found es) s ≡ has_stamp es s) [
+      | Some o ↦ λ is. stamps_kept number es o (f o) is (keeps o) s
+      | None ↦ λ _. refl
+    ] refl
+
+pub record MayMore (b : Begun) (number offset : ℕ) (more : List ℕ) : Type 0 where
+  pub file : kind_of b.world number ≡ Some File
+  pub size : length (bytes_of b.world number) ≤ offset
+  pub short : offset + length more ≤ b.world.limits.bytes
+
+of_file : (o : Option Kind) → option_map_or is_file o false ≡ true → o ≡ Some File
+of_file None h = cc
+of_file (Some File) h = refl
+of_file (Some Directory) h = cc
+of_file (Some Link) h = cc
+
+pub may_more : (b : Begun) (number offset : ℕ) (more : List ℕ) → more_fits b number offset more ≡ true → MayMore b number offset more
+may_more b number offset more h =
+    let all = and_parts (is_file_at b.world number) (nat_le (length (bytes_of b.world number)) offset && nat_le (offset + length more) b.world.limits.bytes) h in
+    let rest = and_parts (nat_le (length (bytes_of b.world number)) offset) (nat_le (offset + length more) b.world.limits.bytes) all.1 in
+    record {
+      file = of_file (kind_of b.world number) all.0;
+      size = at_most (length (bytes_of b.world number)) offset rest.0;
+      short = at_most (offset + length more) b.world.limits.bytes rest.1;
+    }
+
+pub IsBegun-more : (w : World) (number cookie : ℕ) (numbers stamps : List ℕ) → IsBegun w number cookie numbers stamps
+    → (file offset : ℕ) (more : List ℕ) → MayMore (record { world = w; number = number; cookie = cookie }) file offset more → IsBegun (put_more w file offset more) number cookie numbers stamps
+IsBegun-more w number cookie numbers stamps begun file offset more may =
+    let f = λ (o : Object). let new : Object = record o { bytes = written o.bytes offset more } in new in
+    let kinds : kind_of (put_more w file offset more) ≡ kind_of w = fun_ext (option_map-changed (λ o. o.kind) file f w.objects (λ o. refl)) in
+    let stamps_same : stamp_of (put_more w file offset more) ≡ stamp_of w = fun_ext (option_map-changed (λ o. o.stamp) file f w.objects (λ o. refl)) in
+    let all : IsHeld w.limits w.objects number w.next_tick = record { numbered = begun.numbered; few = begun.few; fit = begun.fit } in
+    let held = IsHeld-changed file f w.objects number w.next_tick (λ o is fit. record {
+      list = fit.list;
+      bytes = let kind : o.kind ≡ File = is_kind o (sym (ap (option_map (λ (o : Object). o.kind)) is) ∙ may.file) in
+          subst (λ k. length (written o.bytes offset more) ≤ most_bytes w.limits k) (sym kind) (longer o (subst (λ k. length o.bytes ≤ most_bytes w.limits k) kind fit.bytes));
+      change = fit.change;
+    }) all in
+    record {
+      hung = subst (λ k. IsHung k w.names) (sym kinds) begun.hung;
+      stamped = subst (λ s. IsStamped s w.next_stamp) (sym stamps_same) begun.stamped;
+      numbered = held.numbered;
+      listed = begun.listed;
+      numbers_left = begun.numbers_left;
+      cookies_left = begun.cookies_left;
+      few = held.few;
+      fit = held.fit;
+      limited = begun.limited;
+      counted = record { numbers = begun.counted.numbers; ticks = begun.counted.ticks; stamps = begun.counted.stamps; cookies = begun.counted.cookies };
+      allowed = begun.allowed;
+      numbers_are = begun.numbers_are ∙ sym (numbers_changed file f w.objects);
+      stamps_are = λ s. begun.stamps_are s ∙ sym (stamps_changed file f w.objects (λ o. refl) s);
+    }
+  where
+    is_kind : (o : Object) → Some o.kind ≡ Some File → o.kind ≡ File
+    is_kind o is = cc
+
+    longer : (o : Object) → length o.bytes ≤ w.limits.bytes → length (written o.bytes offset more) ≤ w.limits.bytes
+    longer o fits = rw (length-written o.bytes offset more) (omega (arith, fits, may.short))
 
 -- ---- one more name
 

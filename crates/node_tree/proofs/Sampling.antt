@@ -6,7 +6,7 @@ use Rattle.acl_list.specs.declared.entry.Kind.{Kind}
 use Rattle.acl_list.specs.declared.entry.Kind.TheVariants.{File, Directory}
 use Rattle.acl_shape.specs.Bounds.{IsBounded}
 use Rattle.acl_shape.specs.Mode.{set_mode}
-use Rattle.node_tree.specs.Limits.{IsAllowed, standard}
+use Rattle.nfs_types.specs.Limits.{IsAllowed, standard}
 use Rattle.node_tree.specs.World.{World, Object, kind_of}
 use Rattle.node_tree.specs.Changes.{changed, alone, root_of, epoch, with_new}
 use Rattle.node_tree.specs.Sample.{sample}
@@ -41,7 +41,7 @@ IsSound-with_change w number tick sound due =
     }
 
 pub allowed : IsAllowed standard
-allowed = record { profile = refl; root = lit≤ tt; objects = lit< tt; names = lit< tt; links = lit< tt; few_links = lit< tt; bytes = lit< tt }
+allowed = record { known = refl; connections = lit≤ tt; clients = lit≤ tt; sessions = lit≤ tt; opens = lit≤ tt; root = lit≤ tt; objects = lit< tt; names = lit< tt; links = lit< tt; few_links = lit< tt; bytes = lit< tt }
 
 -- the sample with any access control lists, so that none is computed
 module _ (of_root of_notes of_pub : List Entry) (root_bounded : IsBounded of_root) (notes_bounded : IsBounded of_notes) (pub_bounded : IsBounded of_pub) where

@@ -62,7 +62,7 @@ KeepsJudged-with_new_bytes w file bytes at = record {
   same = λ k j is _. sym (option_map-changed judged file (λ o. touched at (record o { bytes = bytes o.bytes })) w.objects (λ o. refl) k) ∙ is;
 }
 
-length-written : (bytes : List ℕ) (offset : ℕ) (more : List ℕ) → length (written bytes offset more) ≡ max (length bytes) (offset + length more)
+pub length-written : (bytes : List ℕ) (offset : ℕ) (more : List ℕ) → length (written bytes offset more) ≡ max (length bytes) (offset + length more)
 length-written bytes offset more = grind (arith, common_steps, length-range_with_len)
 
 pub IsSound-with_bytes : (w : World) (file offset : ℕ) (more : List ℕ) (at : At) → IsSound w → IsTick w at.tick → kind_of w file ≡ Some File → offset + length more ≤ w.limits.bytes → IsSound (with_bytes w file offset more at)

@@ -7,7 +7,7 @@ use Rattle.std.specs.Option.{option_map}
 use Rattle.acl_list.specs.declared.entry.Kind.{Kind}
 use Rattle.acl_list.specs.declared.entry.Kind.TheVariants.{Directory}
 use Rattle.acl_shape.specs.Bounds.{IsBounded}
-use Rattle.node_tree.specs.Limits.{Limits, IsAllowed}
+use Rattle.nfs_types.specs.Limits.{Limits, IsAllowed}
 use Rattle.node_tree.specs.World.{Object, object, kind_of}
 use Rattle.node_tree.specs.Changes.{alone}
 use Rattle.node_tree.specs.Sound.{IsFit, IsSound}

@@ -14,7 +14,7 @@ use Rattle.acl_list.specs.declared.entry.Kind.TheVariants.{Directory}
 use Rattle.nfs_types.specs.declared.moment.Moment.{Moment}
 use Rattle.node_tree.specs.declared.at.At.{At}
 use Rattle.node_tree.specs.declared.node.NewObject.{NewObject}
-use Rattle.node_tree.specs.Limits.{Limits}
+use Rattle.nfs_types.specs.Limits.{Limits}
 use Rattle.node_tree.specs.World.{World, Object, Name, child_named, is_one, is_named, has_name}
 
 -- ---- objects

@@ -9,6 +9,7 @@ pub mod Moving
 pub mod Moves
 pub mod Contents
 pub mod Blocks
+pub mod Holes
 pub mod Groups
 pub mod Indexes
 pub mod Judged

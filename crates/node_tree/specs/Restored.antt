@@ -11,9 +11,11 @@ use Rattle.acl_list.specs.declared.entry.Kind.TheVariants.{Directory}
 use Rattle.acl_shape.specs.Bounds.{fits}
 use Rattle.node_tree.specs.declared.node.NewObject.{NewObject}
 use Rattle.node_tree.specs.declared.node.Kept.{Kept}
-use Rattle.node_tree.specs.Limits.{ROOT, MAX_NAME, Limits, IsAllowed}
+use Rattle.nfs_types.specs.Limits.{Limits, IsAllowed}
+use Rattle.node_tree.specs.Limits.{ROOT, MAX_NAME}
 use Rattle.node_tree.specs.World.{World, Object, Name, object, kind_of, child_named, is_directory_at, has_name}
-use Rattle.node_tree.specs.World.{name_count, link_count, parent_of}
+use Rattle.node_tree.specs.World.{name_count, link_count, parent_of, is_file_at, bytes_of}
+use Rattle.node_tree.specs.Changes.{changed, written}
 use Rattle.node_tree.specs.Refusals.{has_room, may_link}
 use Rattle.node_tree.specs.Sound.{IsIn, IsStamped, IsFit, IsLimited, IsCounted, Rises, stamp_of, most_bytes}
 
@@ -62,11 +64,20 @@ put_object w number o = record w { objects = w.objects ++ (number, o) ∷ [] }
 abbrev pub put_name : World → Name → World
 put_name w n = record w { names = w.names ++ n ∷ [] }
 
+-- further bytes of a file, after zeros up to their offset
+abbrev pub put_more : World → ℕ → ℕ → List ℕ → World
+put_more w number offset more =
+    record w { objects = changed number (λ o. record o { bytes = written o.bytes offset more }) w.objects }
+
 abbrev pub with_object : Begun → ℕ → Object → Begun
 with_object b number o = record { world = put_object b.world number o; number = number + 1; cookie = b.cookie }
 
 abbrev pub with_name : Begun → Name → Begun
 with_name b n = record { world = put_name b.world n; number = b.number; cookie = n.cookie + 1 }
+
+abbrev pub with_more : Begun → ℕ → ℕ → List ℕ → Begun
+with_more b number offset more =
+    record { world = put_more b.world number offset more; number = b.number; cookie = b.cookie }
 
 -- ---- tests
 
@@ -83,13 +94,21 @@ has_stamp objects stamp = list_any (λ e. stamp == e.1.stamp) objects
 -- whether the object is within its limits
 abbrev pub is_fit : Limits → (next_tick next_stamp : ℕ) → Object → Bool
 is_fit l next_tick next_stamp o =
-    nat_le (length o.bytes) (most_bytes l o.kind) && fits o.list && nat_lt o.change next_tick && nat_lt o.stamp next_stamp
+    nat_le (length o.bytes) (most_bytes l o.kind) && fits o.list && nat_lt o.change next_tick
+    && nat_lt o.stamp next_stamp
 
 -- whether an object may come next
 abbrev pub object_fits : Begun → ℕ → Object → Bool
 object_fits b number o =
-    (nat_le b.number number && nat_lt number b.world.next_number && nat_lt (length b.world.objects) b.world.limits.objects)
+    (nat_le b.number number && nat_lt number b.world.next_number
+    && nat_lt (length b.world.objects) b.world.limits.objects)
     && (is_fit b.world.limits b.world.next_tick b.world.next_stamp o && not (has_stamp b.world.objects o.stamp))
+
+-- whether further bytes may come: of a file, at its end or after it, within the limit
+abbrev pub more_fits : Begun → ℕ → ℕ → List ℕ → Bool
+more_fits b number offset more =
+    is_file_at b.world number
+    && (nat_le (length (bytes_of b.world number)) offset && nat_le (offset + length more) b.world.limits.bytes)
 
 -- whether the object may have one more name: a directory only one
 abbrev pub child_fits : World → ℕ → Bool

@@ -3,7 +3,8 @@ use Rattle.std.specs.Prelude.{ℕ, List, [], ◌∷◌, codes}
 use Rattle.acl_list.specs.declared.entry.Kind.{Kind}
 use Rattle.acl_list.specs.declared.entry.Kind.TheVariants.{File, Directory}
 use Rattle.acl_shape.specs.Mode.{set_mode}
-use Rattle.node_tree.specs.Limits.{ROOT, standard}
+use Rattle.nfs_types.specs.Limits.{standard}
+use Rattle.node_tree.specs.Limits.{ROOT}
 use Rattle.node_tree.specs.World.{World, Object}
 use Rattle.node_tree.specs.Changes.{new_object, from_start}
 

@@ -5,7 +5,8 @@ use Rattle.std.specs.Option.{option_map}
 use Rattle.acl_list.specs.declared.entry.Kind.{Kind}
 use Rattle.acl_list.specs.declared.entry.Kind.TheVariants.{File, Directory, Link}
 use Rattle.acl_shape.specs.Bounds.{IsBounded}
-use Rattle.node_tree.specs.Limits.{ROOT, MAX_TEXT, MAX_NAME, Limits, IsAllowed}
+use Rattle.nfs_types.specs.Limits.{Limits, IsAllowed}
+use Rattle.node_tree.specs.Limits.{ROOT, MAX_TEXT, MAX_NAME}
 use Rattle.node_tree.specs.World.{World, Object, Name, object, kind_of, name_count, link_count}
 
 -- the name is one of these

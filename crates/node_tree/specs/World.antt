@@ -13,7 +13,7 @@ use Rattle.acl_list.specs.declared.entry.Kind.{Kind}
 use Rattle.acl_list.specs.declared.entry.Kind.TheVariants as kinds
 use Rattle.acl_shape.specs.Inherited.{is_directory}
 use Rattle.nfs_types.specs.declared.moment.Moment.{Moment}
-use Rattle.node_tree.specs.Limits.{Limits}
+use Rattle.nfs_types.specs.Limits.{Limits}
 
 pub record Object : Type 0 where
   pub kind : Kind

@@ -1,6 +1,7 @@
 //! A block of a file: 4,096 of its bytes.
 ghost use Rattle.std.specs.Prelude.{◌≡◌, ◌+◌, ◌-◌, ◌<◌, ◌≤◌, ◌^◌, ◌&&◌, ◌++◌, ℕ, nat_le, nat_lt, if◌then◌else◌};
-ghost use Rattle.std.specs.Prelude.{slice_index, length, take, drop, IfOk};
+ghost use Rattle.std.specs.Prelude.{slice_index, length, take, drop, IfOk, IfSome, IfNone, ◌≢◌};
+ghost use Rattle.node_tree.specs.Holes.{IsHole};
 
 use std::alloc::{AllocError, Allocator, Global};
 use std::marker::Model;
@@ -54,6 +55,15 @@ impl<A: Allocator> Block<A> {
         clear(&mut self.bytes, at, BLOCK);
     }
 
+    /// The index of the first byte from an index on that isn't 0.
+    pub fn data_from(&self, at: usize) -> Option<usize>
+        ensures data { IfSome result (λ index. (at ≤ index) × (index < 4096) × (slice_index self.now index ≢ 0)) }
+        ensures skipped { IfSome result (λ index. (k : ℕ) → at ≤ k → k < index → slice_index self.now k ≡ 0) }
+        ensures none { IfNone result ((k : ℕ) → at ≤ k → k < 4096 → slice_index self.now k ≡ 0) }
+    {
+        first_data(&self.bytes, at)
+    }
+
     /// Copies the part of the block that is in a range of the file. The block begins at `first`, and the range at
     /// `offset`.
     pub fn read(&self, first: usize, offset: usize, buffer: &mut [u8])
@@ -70,6 +80,21 @@ impl<A: Allocator> Block<A> {
         let end = (offset + buffer.len() - first).min(BLOCK);
         overwrite(buffer, from, part(&self.bytes, start, end));
     }
+}
+
+/// The index of the first byte from an index on that isn't 0.
+pub fn first_data(bytes: &[u8], at: usize) -> Option<usize>
+    ensures data { IfSome result (λ index.
+        (at ≤ index) × (index < length bytes.now) × (slice_index bytes.now index ≢ 0)) }
+    ensures skipped { IfSome result (λ index. IsHole bytes.now at index) }
+    ensures none { IfNone result (IsHole bytes.now at (length bytes.now)) }
+{
+    for index in at..bytes.len() {
+        if bytes[index] != 0 {
+            return Some(index);
+        }
+    }
+    None
 }
 
 /// Sets the part of an absent block that is in a range of the file to zeros.

@@ -1,8 +1,12 @@
 //! The bytes of a file, in blocks by number. A block that was never written is absent, and reads as zeros.
 ghost use Rattle.std.specs.Prelude.{◌≡◌, ◌+◌, ◌-◌, ◌*◌, ◌/◌, ◌%◌, ◌<◌, ◌≤◌, ◌^◌, ◌&&◌, ◌++◌, ◌==◌, ℕ, [], true, false};
 ghost use Rattle.std.specs.Prelude.{nat_le, nat_lt, if◌then◌else◌, slice_index, length, take, drop, IfOk, OnOk, OnErr};
-ghost use Rattle.std.specs.Prelude.{◌≢◌, map};
+ghost use Rattle.std.specs.Prelude.{◌≢◌, map, IfSome, IfNone};
 ghost use Rattle.std.specs.List.{range_with_len};
+ghost use Rattle.std.specs.Map.{lookup};
+ghost use Rattle.std.specs.BTreeMap.{is_at};
+ghost use Rattle.std.specs.Ordering.{nat_cmp};
+ghost use Rattle.node_tree.specs.Holes.{IsHole};
 ghost use Rattle.node_tree.specs.Changes.{written, resized};
 ghost use Rattle.node_tree.specs.Blocks.{byte_at, is_held, AreWithin};
 
@@ -66,17 +70,31 @@ fn put_all_zeros<A: Allocator + Copy>(
     Ok(())
 }
 
-/// Removes blocks: their bytes are zeros then.
-fn remove_all<A: Allocator>(blocks: &mut BTreeMap<usize, Block<A>, A>, from: usize, to: usize)
-    requires { from ≤ to }
-    ensures bytes { (i : ℕ) → byte_at blocks.new.entries i ≡
-        (if nat_le from (i / 4096) && nat_lt (i / 4096) to then 0 else byte_at blocks.old.entries i) }
-    ensures removed { (k : ℕ) → is_held blocks.new.entries k ≡
-        (if nat_le from k && nat_lt k to then false else is_held blocks.old.entries k) }
+/// Removes the last block if its number isn't below another one, and returns whether it did.
+fn remove_last<A: Allocator>(blocks: &mut BTreeMap<usize, Block<A>, A>, from: usize) -> bool
+    ensures fewer { result ≡ true → length blocks.new.entries < length blocks.old.entries }
+    ensures kept { (k : ℕ) → k < from → lookup (is_at (nat_cmp k)) blocks.new.entries ≡
+        lookup (is_at (nat_cmp k)) blocks.old.entries }
+    ensures past { result ≡ false → (k : ℕ) → from ≤ k → is_held blocks.new.entries k ≡ false }
 {
-    for number in from..to {
-        blocks.remove(&number);
+    let Some((last, _)) = blocks.last_key_value() else {
+        return false;
+    };
+    if *last < from {
+        return false;
     }
+    blocks.pop_last();
+    true
+}
+
+/// Removes the blocks from a number on: their bytes are zeros then.
+fn remove_from<A: Allocator>(blocks: &mut BTreeMap<usize, Block<A>, A>, from: usize)
+    ensures bytes { (i : ℕ) → byte_at blocks.new.entries i ≡
+        (if nat_lt (i / 4096) from then byte_at blocks.old.entries i else 0) }
+    ensures removed { (k : ℕ) → is_held blocks.new.entries k ≡
+        (if nat_lt k from then is_held blocks.old.entries k else false) }
+{
+    while remove_last(blocks, from) {}
 }
 
 /// Sets the bytes of a block from an offset of the file on to zeros.
@@ -101,7 +119,7 @@ fn cut<A: Allocator>(blocks: &mut BTreeMap<usize, Block<A>, A>, held: usize, siz
     if held <= size {
         return;
     }
-    remove_all(blocks, size.div_ceil(BLOCK), held.div_ceil(BLOCK));
+    remove_from(blocks, size.div_ceil(BLOCK));
     clear_after(blocks, size);
 }
 
@@ -185,6 +203,62 @@ fn read_blocks<A: Allocator>(
     }
 }
 
+/// The number of the first block from a number on.
+fn block_from<A: Allocator>(blocks: &BTreeMap<usize, Block<A>, A>, number: usize) -> Option<usize>
+    ensures present { IfSome result (λ first. (number ≤ first) × (is_held blocks.now.entries first ≡ true)) }
+    ensures least { IfSome result (λ first. (k : ℕ) → number ≤ k → k < first → is_held blocks.now.entries k ≡ false) }
+    ensures none { IfNone result ((k : ℕ) → number ≤ k → is_held blocks.now.entries k ≡ false) }
+{
+    match blocks.range(number..).next() {
+        Some((first, _)) => Some(*first),
+        None => None,
+    }
+}
+
+/// The first place from an offset on whose byte isn't 0, if it is in this block.
+fn data_in<A: Allocator>(
+    blocks: &BTreeMap<usize, Block<A>, A>,
+    number: usize,
+    offset: usize,
+) -> Option<usize>
+    requires { number * 4096 < 2 ^ 64 }
+    ensures data { IfSome result (λ place. (offset ≤ place) × (place / 4096 ≡ number) ×
+        (byte_at blocks.now.entries place ≢ 0)) }
+    ensures skipped { IfSome result (λ place. (i : ℕ) → offset ≤ i → i / 4096 ≡ number → i < place →
+        byte_at blocks.now.entries i ≡ 0) }
+    ensures none { IfNone result ((i : ℕ) → offset ≤ i → i / 4096 ≡ number → byte_at blocks.now.entries i ≡ 0) }
+{
+    let first = number * BLOCK;
+    let Some(block) = blocks.get(&number) else {
+        return None;
+    };
+    match block.data_from(offset.saturating_sub(first)) {
+        Some(index) => Some(first + index),
+        None => None,
+    }
+}
+
+/// The first place from an offset on whose byte isn't 0. Blocks that are absent aren't visited.
+fn first_data<A: Allocator>(
+    blocks: &BTreeMap<usize, Block<A>, A>,
+    offset: usize,
+    size: usize,
+) -> Option<usize>
+    requires within { AreWithin blocks.now.entries size }
+    ensures data { IfSome result (λ place. (offset ≤ place) × (byte_at blocks.now.entries place ≢ 0)) }
+    ensures skipped { IfSome result (λ place. (i : ℕ) → offset ≤ i → i < place → byte_at blocks.now.entries i ≡ 0) }
+    ensures none { IfNone result ((i : ℕ) → offset ≤ i → byte_at blocks.now.entries i ≡ 0) }
+{
+    let mut number = offset / BLOCK;
+    while let Some(first) = block_from(blocks, number) {
+        if let Some(place) = data_in(blocks, first, offset) {
+            return Some(place);
+        }
+        number = first + 1;
+    }
+    None
+}
+
 impl<A: Allocator> Blocks<A> {
     /// The byte count.
     pub fn len(&self) -> usize
@@ -199,6 +273,15 @@ impl<A: Allocator> Blocks<A> {
     {
         cut(&mut self.blocks, self.size, size);
         self.size = size;
+    }
+
+    /// The first place from an offset on whose byte isn't 0.
+    pub fn data_from(&self, offset: usize) -> Option<usize>
+        ensures data { IfSome result (λ place. (offset ≤ place) × (slice_index self.now place ≢ 0)) }
+        ensures skipped { IfSome result (λ place. IsHole self.now offset place) }
+        ensures none { IfNone result (IsHole self.now offset (length self.now)) }
+    {
+        first_data(&self.blocks, offset, self.size)
     }
 
     /// Copies the bytes at an offset into a buffer, as far as both reach, and returns the count.

@@ -1,9 +1,12 @@
 //! The content of an object.
 ghost use Rattle.std.specs.Prelude.{◌≡◌, ◌+◌, ◌<◌, ◌≤◌, ◌^◌, ◌++◌, length, take, drop, OnOk, OnErr, IfOk};
+ghost use Rattle.std.specs.Prelude.{IfSome, IfNone, slice_index, ◌≢◌};
 ghost use Rattle.acl_list.specs.declared.entry.Kind.TheVariants as kinds;
 ghost use Rattle.node_tree.specs.Changes.{written, resized};
 ghost use Rattle.node_tree.specs.Contents.{kind_held, bytes_held, most_held};
+ghost use Rattle.node_tree.specs.Holes.{IsHole};
 
+use crate::block::first_data;
 use crate::blocks::Blocks;
 use acl_list::Kind;
 use std::alloc::{AllocError, Allocator, Global};
@@ -65,6 +68,19 @@ impl<A: Allocator> Contents<A> {
             Contents::File(blocks) => blocks.read(offset, buffer),
             Contents::Directory => read_text(&[], offset, buffer),
             Contents::Link(text) => read_text(text, offset, buffer),
+        }
+    }
+
+    /// The first place from an offset on whose byte isn't 0.
+    pub fn data_from(&self, offset: usize) -> Option<usize>
+        ensures data { IfSome result (λ place. (offset ≤ place) × (slice_index (bytes_held self.now) place ≢ 0)) }
+        ensures skipped { IfSome result (λ place. IsHole (bytes_held self.now) offset place) }
+        ensures none { IfNone result (IsHole (bytes_held self.now) offset (length (bytes_held self.now))) }
+    {
+        match self {
+            Contents::File(blocks) => blocks.data_from(offset),
+            Contents::Directory => None,
+            Contents::Link(text) => first_data(text, offset),
         }
     }
 

@@ -90,6 +90,28 @@ pub fn write<A: Allocator + Copy>(
     Ok(())
 }
 
+/// Writes data of a checkpoint into a file, and nothing else of it changes. `Err`: an allocation fails, and nothing has
+/// changed.
+#[tactic(auto, using(std::proofs::lemmas::Map::Steps::set_value_same))]
+pub fn extend<A: Allocator + Copy>(
+    objects: &mut NodeTable<A>,
+    alloc: A,
+    number: u64,
+    offset: usize,
+    more: &[u8],
+) -> Result<(), AllocError>
+    requires few { offset + length more.now < 2 ^ 63 }
+    requires file { option_map (λ o. o.kind) (lookup (is_at (nat_cmp number)) objects.old) ≡ Some Kind.File }
+    ensures ok { OnOk result (objects.new ≡
+        changed number (λ o. record o { bytes = written o.bytes offset more.now }) objects.old) }
+    ensures err { OnErr result (objects.new ≡ objects.old) }
+{
+    if let Some(node) = objects.get_mut(number) {
+        node.extend(alloc, offset, more)?;
+    }
+    Ok(())
+}
+
 /// Sets the size of a file. It allocates no memory.
 pub fn resize<A: Allocator>(objects: &mut NodeTable<A>, number: u64, size: usize, at: At)
     requires { option_map (λ o. o.kind) (lookup (is_at (nat_cmp number)) objects.old) ≡ Some Kind.File }

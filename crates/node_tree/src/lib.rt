@@ -30,7 +30,7 @@ pub use at::{At, EPOCH};
 pub use entry::DirEntry;
 pub use fault::TreeFault;
 pub use laws::{parts_are_read_in_order, way_up_shows_what_lies_below};
-pub use limits::{Limits, MAX_NAME, MAX_TEXT, ROOT};
+pub use limits::{MAX_NAME, MAX_TEXT, ROOT, most_bytes};
 pub use moved::{Move, Plan};
 pub use nfs_types::Moment;
 pub use node::{Kept, NewObject, Node};

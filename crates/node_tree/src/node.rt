@@ -1,9 +1,11 @@
 //! An object with the attributes that decide access.
 ghost use Rattle.std.specs.Prelude.{◌≡◌, ◌+◌, ◌<◌, ◌≤◌, ◌^◌, ◌++◌, length, take, drop, OnOk, OnErr, IfOk};
+ghost use Rattle.std.specs.Prelude.{IfSome, IfNone, slice_index, ◌≢◌};
 ghost use Rattle.acl_list.specs.declared.entry.Kind.TheVariants as kinds;
 ghost use Rattle.acl_shape.specs.Inherited.{is_directory};
 ghost use Rattle.node_tree.specs.Restored.{kept_object};
 ghost use Rattle.node_tree.specs.Contents.{most_held};
+ghost use Rattle.node_tree.specs.Holes.{IsHole};
 ghost use Rattle.node_tree.specs.Changes.{made, touched, retold, written, resized};
 
 use crate::at::At;
@@ -163,6 +165,15 @@ impl<A: Allocator> Node<A> {
         self.contents.read(offset, buffer)
     }
 
+    /// The first place from an offset on whose byte isn't 0.
+    pub(crate) fn data_from(&self, offset: usize) -> Option<usize>
+        ensures data { IfSome result (λ place. (offset ≤ place) × (slice_index self.now.bytes place ≢ 0)) }
+        ensures skipped { IfSome result (λ place. IsHole self.now.bytes offset place) }
+        ensures none { IfNone result (IsHole self.now.bytes offset (length self.now.bytes)) }
+    {
+        self.contents.data_from(offset)
+    }
+
     /// A change of bytes, of a size or of a directory's names.
     pub(crate) fn touch(&mut self, at: At)
         ensures { self.new ≡ touched at self.old }
@@ -265,5 +276,16 @@ impl<A: Allocator + Copy> Node<A> {
         self.contents.write(alloc, offset, more)?;
         self.touch(at);
         Ok(())
+    }
+
+    /// Writes data into a file as [`Node::write`] does, and nothing else of it changes.
+    pub(crate) fn extend(&mut self, alloc: A, offset: usize, more: &[u8]) -> Result<(), AllocError>
+        requires few { offset + length more.now < 2 ^ 63 }
+        requires file { self.old.kind ≡ kinds.File }
+        ensures ok { OnOk result (self.new ≡ record self.old { bytes = written self.old.bytes offset more.now }) }
+        ensures err { OnErr result (self.new ≡ self.old) }
+    {
+        let contents = &mut self.contents;
+        contents.write(alloc, offset, more)
     }
 }

@@ -6,15 +6,16 @@ ghost use Rattle.std.specs.BTreeSet.{insert_key};
 ghost use Rattle.std.specs.Ordering.{nat_cmp};
 ghost use Rattle.acl_shape.specs.Bounds.{fits};
 ghost use Rattle.node_tree.specs.Restored.{Begun, begun, kept_object, with_object, with_name, counters_fit, is_fit};
-ghost use Rattle.node_tree.specs.Restored.{object_fits, name_fits, is_whole};
+ghost use Rattle.node_tree.specs.Restored.{object_fits, more_fits, name_fits, is_whole, with_more};
 ghost use Rattle.node_tree.specs.declared.restoring.RestoreFault.TheVariants.{Memory};
 
-use crate::limits::{Limits, MAX_NAME, ROOT};
+use crate::limits::{MAX_NAME, ROOT, most_bytes};
 use crate::node::{Kept, NewObject};
 use crate::store::{END, Store};
 use crate::tree::Tree;
 use acl_list::AclList;
 use acl_shape::is_bounded;
+use nfs_types::Limits;
 use std::alloc::{AllocError, Allocator, Global};
 use std::collections::BTreeSet;
 use std::marker::Model;
@@ -100,7 +101,7 @@ fn is_fit<A: Allocator>(
 ) -> bool
     ensures { result ≡ is_fit limits next_tick next_stamp (kept_object new.now kept.now) }
 {
-    new.bytes.len() as u64 <= limits.most_bytes(new.kind)
+    new.bytes.len() as u64 <= most_bytes(limits, new.kind)
         && list_fits(&new.list)
         && kept.change < next_tick
         && kept.stamp < next_stamp
@@ -128,7 +129,7 @@ impl<A: Allocator + Copy> Restoring<A> {
         {
             return None;
         }
-        let _room_for_the_root = limits.objects;
+        let _profile = limits.profile();
         Some(Restoring {
             store: Store::empty(
                 alloc,
@@ -178,6 +179,31 @@ impl<A: Allocator + Copy> Restoring<A> {
         note_stamp(&mut self.stamps, kept.stamp)?;
         self.store.put_object(number, new, kept)?;
         self.number = number + 1;
+        Ok(self)
+    }
+
+    /// Whether further bytes of a file may come.
+    fn more_fits(&self, number: u64, offset: u64, bytes: &[u8]) -> bool
+        ensures { result ≡ more_fits self.now number offset bytes.now }
+    {
+        let Some(size) = self.store.file_size(number) else {
+            return false;
+        };
+        let most = self.store.limits().bytes();
+        size <= offset && (offset <= most && bytes.len() as u64 <= most - offset)
+    }
+
+    /// Adds bytes to a file that was added before, after zeros up to their offset. Nothing else of it changes.
+    /// `Unsound`: the number isn't a file's, the file already has bytes after the offset, or it would exceed its limit.
+    pub fn more(mut self, number: u64, offset: u64, bytes: &[u8]) -> Result<Self, RestoreFault>
+        ensures refused { more_fits self number offset bytes.now ≡ false → result ≡ Err RestoreFault.Unsound }
+        ensures taken { more_fits self number offset bytes.now ≡ true → IsOkUnless result RestoreFault.Memory }
+        ensures ok { IfOk result (λ r. r ≡ with_more self number offset bytes.now) }
+    {
+        if !self.more_fits(number, offset, bytes) {
+            return Err(RestoreFault::Unsound);
+        }
+        self.store.put_more(number, offset as usize, bytes)?;
         Ok(self)
     }
 

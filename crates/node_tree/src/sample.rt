@@ -3,13 +3,14 @@ ghost use Rattle.std.specs.Prelude.{◌≡◌, IfOk, [], codes};
 ghost use Rattle.node_tree.specs.Sample.{sample, sample_object};
 
 use crate::at::from_start;
-use crate::limits::{Limits, ROOT};
+use crate::limits::ROOT;
 use crate::name_table::NameTable;
 use crate::node::{NewObject, Node};
 use crate::node_table::NodeTable;
 use crate::store::Store;
 use acl_list::{AclList, Kind};
 use acl_shape::set_mode;
+use nfs_types::Limits;
 use std::alloc::{AllocError, Allocator};
 
 /// The file of the sample. Its stamp and its last change are its number.

@@ -2,12 +2,15 @@
 //! objects and names; [`crate::Tree`] keeps them a tree.
 ghost use Rattle.std.specs.Prelude.{◌≡◌, ◌∷◌, [], ◌+◌, ◌-◌, ◌<◌, ◌≤◌, ◌^◌, ◌&&◌, ◌++◌, ℕ, nat_le, nat_lt};
 ghost use Rattle.std.specs.Prelude.{if◌then◌else◌, slice_index, length, drop, filter, not, None, OnOk, OnErr, IfOk};
-ghost use Rattle.std.specs.Prelude.{MatchOption, Some, true, false, ◌≢◌, ◌==◌, find};
+ghost use Rattle.std.specs.Prelude.{MatchOption, Some, true, false, ◌≢◌, ◌==◌, find, IfSome, IfNone};
 ghost use Rattle.std.specs.Option.{option_copied, option_map_or};
 ghost use Rattle.node_tree.specs.World.{object, kind_of, bytes_at, child_named, name_after, is_named, is_directory_at};
+ghost use Rattle.node_tree.specs.World.{bytes_of, is_file_at};
 ghost use Rattle.node_tree.specs.World.{has_name, has_entries, name_count, link_count, parent_of};
 ghost use Rattle.std.specs.List.{list_all};
-ghost use Rattle.node_tree.specs.Restored.{kept_object, put_object, put_name, child_fits, climbs_to_root, is_placed};
+ghost use Rattle.node_tree.specs.Holes.{IsHole};
+ghost use Rattle.node_tree.specs.Restored.{kept_object, put_object, put_name, put_more, child_fits, climbs_to_root};
+ghost use Rattle.node_tree.specs.Restored.{is_placed};
 ghost use Rattle.node_tree.specs.Parts.{number_after, any_after};
 ghost use Rattle.node_tree.specs.Ways.{is_within};
 ghost use Rattle.node_tree.specs.Contents.{most_held};
@@ -23,11 +26,12 @@ use crate::edits;
 use crate::edits::{move_child, release, retell, touch};
 use crate::entry::DirEntry;
 use crate::fault::TreeFault;
-use crate::limits::{Limits, ROOT};
+use crate::limits::ROOT;
 use crate::name_table::NameTable;
 use crate::node::{Kept, NewObject, Node};
 use crate::node_table::NodeTable;
 use acl_list::{AclList, Kind};
+use nfs_types::Limits;
 use std::alloc::{AllocError, Allocator, Global};
 use std::marker::Model;
 
@@ -469,6 +473,22 @@ impl<A: Allocator + Copy> Store<A> {
         }
     }
 
+    /// The first place of an object's bytes from an offset on whose byte isn't 0.
+    pub fn data_from(&self, number: u64, offset: u64) -> Option<u64>
+        ensures data { IfSome result (λ place.
+            (offset ≤ place) × (slice_index (bytes_of self.now number) place ≢ 0)) }
+        ensures skipped { IfSome result (λ place. IsHole (bytes_of self.now number) offset place) }
+        ensures none { IfNone result (IsHole (bytes_of self.now number) offset (length (bytes_of self.now number))) }
+    {
+        let Some(node) = self.object(number) else {
+            return None;
+        };
+        match node.data_from(offset as usize) {
+            Some(place) => Some(place as u64),
+            None => None,
+        }
+    }
+
     /// Writes bytes into a file, and zeros between its end and them.
     pub fn write(&mut self, file: u64, offset: usize, more: &[u8], at: At) -> Result<(), AllocError>
         requires ticks { at.tick < 2 ^ 63 }
@@ -576,6 +596,28 @@ impl<A: Allocator + Copy> Store<A> {
         let node = Node::kept(self.alloc, new, kept)?;
         self.objects.insert(number, node)?;
         Ok(())
+    }
+
+    /// The size of a file. `None`: the number isn't a file's.
+    pub fn file_size(&self, number: u64) -> Option<u64>
+        ensures { result ≡ (if is_file_at self.now number then Some (length (bytes_of self.now number)) else None) }
+    {
+        let Some(node) = self.object(number) else {
+            return None;
+        };
+        match node.kind() {
+            Kind::File => Some(node.size()),
+            _ => None,
+        }
+    }
+
+    /// Writes bytes into a file, and nothing else of it changes.
+    pub fn put_more(&mut self, number: u64, offset: usize, more: &[u8]) -> Result<(), AllocError>
+        requires few { offset + length more.now < 2 ^ 63 }
+        requires file { kind_of self.old number ≡ Some Kind.File }
+        ensures { OnOk result (self.new ≡ put_more self.old number offset more.now) }
+    {
+        edits::extend(&mut self.objects, self.alloc, number, offset, more)
     }
 
     /// Adds a name that doesn't exist yet, with a cookie above all others.

@@ -1,6 +1,7 @@
 //! The tree: the changes that it refuses, and the invariant that it stays a tree.
 ghost use Rattle.std.specs.Prelude.{◌≡◌, ◌≢◌, ◌<◌, ◌≤◌, ◌^◌, ◌++◌, ◌==◌, [], find, length, drop, MatchOption, OnOk};
-ghost use Rattle.std.specs.Prelude.{OnErr, IfOk, IsOk, IsOkUnless, IfSome, IsSome, Some, true, false};
+ghost use Rattle.std.specs.Prelude.{OnErr, IfOk, IsOk, IsOkUnless, IfSome, IfNone, IsSome, Some, true, false};
+ghost use Rattle.std.specs.Prelude.{slice_index};
 ghost use Rattle.std.specs.Option.{option_copied};
 ghost use Rattle.acl_shape.specs.Bounds.{IsBounded};
 ghost use Rattle.node_tree.specs.Limits.{ROOT, MAX_NAME};
@@ -12,6 +13,7 @@ ghost use Rattle.node_tree.specs.Refusals.{add_refusal, link_refusal, unlink_ref
 ghost use Rattle.node_tree.specs.Refusals.{rename_refusal, write_refusal, resize_refusal};
 ghost use Rattle.node_tree.specs.Moves.{IsMove, IsPlan};
 ghost use Rattle.node_tree.specs.Judged.{KeepsJudged};
+ghost use Rattle.node_tree.specs.Holes.{IsHole};
 ghost use Rattle.node_tree.specs.Parts.{number_after, any_after};
 ghost use Rattle.node_tree.specs.Sample.{sample};
 ghost use Rattle.node_tree.specs.Sound.{IsSound, IsTick, IsNextName, most_bytes};
@@ -19,12 +21,13 @@ ghost use Rattle.node_tree.specs.Sound.{IsSound, IsTick, IsNextName, most_bytes}
 use crate::at::{At, from_start};
 use crate::entry::DirEntry;
 use crate::fault::TreeFault;
-use crate::limits::{Limits, ROOT};
+use crate::limits::ROOT;
 use crate::moved::{Move, Plan, is_one};
 use crate::node::{NewObject, Node};
 use crate::store::Store;
 use acl_list::{AclList, Kind};
 use acl_shape::bounds_are_kept;
+use nfs_types::Limits;
 use std::alloc::{AllocError, Allocator, Global};
 use std::marker::Model;
 
@@ -187,6 +190,17 @@ impl<A: Allocator + Copy> Tree<A> {
     {
         self.store.read(number, offset, buffer)
     }
+
+    /// The first place of a file, or of the text of a symbolic link, from an offset on whose byte isn't 0. `None`: only
+    /// zeros follow. A hole of any length costs one search: only blocks that are present are visited.
+    pub fn data_from(&self, number: u64, offset: u64) -> Option<u64>
+        ensures data { IfSome result (λ place.
+            (offset ≤ place) × (slice_index (bytes_of self.now number) place ≢ 0)) }
+        ensures skipped { IfSome result (λ place. IsHole (bytes_of self.now number) offset place) }
+        ensures none { IfNone result (IsHole (bytes_of self.now number) offset (length (bytes_of self.now number))) }
+    {
+        self.store.data_from(number, offset)
+    }
 }
 
 // The parts in order, as a checkpoint has them. None of these calls allocates memory.
@@ -233,8 +247,8 @@ impl<A: Allocator> Tree<A> {
 
 // Changes. Each allocates first, and a refusal leaves everything unchanged.
 impl<A: Allocator + Copy> Tree<A> {
-    /// A root alone, under these limits, with an ACL within the bounds of [`acl_shape::is_bounded`]. Its times are the epoch. `Err`: an
-    /// allocation fails.
+    /// A root alone, under these limits, with an ACL within the bounds of [`acl_shape::is_bounded`]. Its times are the
+    /// epoch. `Err`: an allocation fails.
     pub fn new(
         alloc: A,
         limits: Limits,
@@ -246,7 +260,7 @@ impl<A: Allocator + Copy> Tree<A> {
         requires { IsBounded list }
         ensures { IfOk result (λ tree. tree ≡ alone limits (root_of owner group list high)) }
     {
-        let _room_for_the_root = limits.objects;
+        let _profile = limits.profile();
         let root = NewObject {
             kind: Kind::Directory,
             bytes: Vec::new(alloc),
@@ -260,8 +274,8 @@ impl<A: Allocator + Copy> Tree<A> {
         })
     }
 
-    /// The sample tree, under the limits of the standard profile: in the root a file `notes` and a directory `pub`, each with the ACL of its mode. Its times are
-    /// the epoch. `Err`: an allocation fails.
+    /// The sample tree, under the limits of the standard profile: in the root a file `notes` and a directory `pub`,
+    /// each with the ACL of its mode. Its times are the epoch. `Err`: an allocation fails.
     pub fn sample(alloc: A) -> Result<Self, AllocError>
         ensures { IfOk result (λ tree. tree ≡ sample) }
     {
@@ -428,8 +442,8 @@ impl<A: Allocator + Copy> Tree<A> {
     pub fn write(&mut self, file: u64, offset: u64, more: &[u8], at: At) -> Result<(), TreeFault>
         requires tick { IsTick self.old at.tick }
         requires file { kind_of self.old file ≡ Some Kind.File }
-        ensures refused { MatchOption (write_refusal self.old.limits offset more.now) (IsOkUnless result TreeFault.Memory)
-            (λ fault. result ≡ Err fault) }
+        ensures refused { MatchOption (write_refusal self.old.limits offset more.now)
+            (IsOkUnless result TreeFault.Memory) (λ fault. result ≡ Err fault) }
         ensures nothing { more.now ≡ [] → IsOk result }
         ensures ok { OnOk result (self.new ≡ with_write self.old file offset more.now at) }
         ensures err { OnErr result (self.new ≡ self.old) }

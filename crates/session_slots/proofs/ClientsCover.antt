@@ -18,7 +18,7 @@ use Rattle.session_slots.specs.declared.exchanging.ExchangeDecision.TheVariants.
 use Rattle.session_slots.specs.Counting.{due, last_number}
 use Rattle.session_slots.specs.Covering.{SessionsCover}
 use Rattle.session_slots.specs.Orderly.{is_cached_refusal}
-use Rattle.session_slots.specs.Limits.{MOST_SESSIONS, LEAST_REPLY, END}
+use Rattle.session_slots.specs.Limits.{LEAST_REPLY, END}
 use Rattle.session_slots.specs.Registry.{Client, Session, Registry, client_at, session_at, confirmed_entry, new_session, without_sessions}
 use Rattle.session_slots.specs.Exchanging.{Exchanging, Exchanges, ExchangesBy, flags_fault, exchange_decision, decision_by_confirmed, decision_unless}
 use Rattle.session_slots.specs.Creating.{Creates, CreatesBy, creation_fault, granted, judged, judged_due, judged_for, judged_unless, number_of, refusing, cached_result}
@@ -74,7 +74,7 @@ abbrev fault_of : ℕ → Client → Registry → Create → Option Status
 fault_of count c r a =
     if not c.confirmed && not (c.uid == a.uid) then Some statuses.ClidInUse
     else if nat_lt a.fore.reply_size LEAST_REPLY then Some statuses.TooSmall
-    else if nat_le MOST_SESSIONS count || nat_le END r.next_session then Some statuses.NoSpc
+    else if nat_le r.limits.sessions count || nat_le END r.next_session then Some statuses.NoSpc
     else None
 
 judged_over : (sessions : List (ℕ × Session)) (r : Registry) (a : Create) → SessionsCover sessions r.sessions → judged (beside sessions r) a ≡ judged r a

@@ -11,7 +11,8 @@ use Rattle.nfs_types.specs.declared.status.Status.TheVariants as statuses
 use Rattle.std.specs.Prelude.{[], ◌∷◌, map}
 use Rattle.std.proofs.lemmas.List.{length-map}
 use Rattle.std.proofs.lemmas.Bool.{leb-false}
-use Rattle.session_slots.specs.Limits.{MOST_CLIENTS, MOST_SESSIONS, MOST_SLOTS, MOST_BYTES, MOST_RESULTS, LEAST_REPLY, MOST_OPERATIONS, MOST_OWNER, END}
+use Rattle.nfs_types.specs.Limits.{Limits}
+use Rattle.session_slots.specs.Limits.{MOST_SLOTS, MOST_BYTES, MOST_RESULTS, LEAST_REPLY, MOST_OPERATIONS, MOST_OWNER, END}
 use Rattle.session_slots.specs.Counting.{due, last_number}
 use Rattle.session_slots.specs.declared.session.Channel.{Channel}
 use Rattle.session_slots.specs.declared.client.Created.{Created}
@@ -33,16 +34,16 @@ use Rattle.session_slots.proofs.Found.{lookup_changed, found_passes}
 use Rattle.session_slots.proofs.Members.{lookup_in, in_filter, found_kept, in_changed, found_beside, in_insert, found_insert, in_remove, lookup_removed, found_entry, none_passes, none_of, length_filter, length_remove, length_changed, length_insert, length_added}
 use Rattle.session_slots.proofs.Creations.{still_there}
 
-pub nobody_is_orderly : (r : Registry) → r ≡ nobody → IsOrderly r
-nobody_is_orderly r is = subst IsOrderly (sym is) (record {
+pub nobody_is_orderly : (r : Registry) (l : Limits) → r ≡ nobody l → IsOrderly r
+nobody_is_orderly r l is = subst IsOrderly (sym is) (record {
   numbered = λ e h. absurd h;
   one_confirmed = λ owner e f h k a b. absurd h;
   given = λ e h. absurd h;
   at_home = λ e h. absurd h;
   within = λ e h. absurd h;
   formed = λ e h. absurd h;
-  few_clients = lit≤ tt;
-  few_sessions = lit≤ tt;
+  few_clients = omega arith;
+  few_sessions = omega arith;
   clients_end = lit≤ tt;
   sessions_end = lit≤ tt;
 })
@@ -72,7 +73,7 @@ with_session_orderly r n f keeps grants o = record {
   ];
   formed = o.formed;
   few_clients = o.few_clients;
-  few_sessions = subst (λ (k : ℕ). k ≤ MOST_SESSIONS) (sym (length_changed (is_at (nat_cmp n)) f r.sessions (lookup (is_at (nat_cmp n)) r.sessions))) o.few_sessions;
+  few_sessions = subst (λ (k : ℕ). k ≤ r.limits.sessions) (sym (length_changed (is_at (nat_cmp n)) f r.sessions (lookup (is_at (nat_cmp n)) r.sessions))) o.few_sessions;
   clients_end = o.clients_end;
   sessions_end = o.sessions_end;
 }
@@ -96,7 +97,7 @@ all_lagged_orderly old new is o = subst IsOrderly (sym is) (record {
       subst (λ (e : ℕ × Session). IsWithin e.1.granted) (sym was.2) (o.within was.0 was.1);
   formed = o.formed;
   few_clients = o.few_clients;
-  few_sessions = subst (λ (k : ℕ). k ≤ MOST_SESSIONS) (sym (length-map old.sessions (λ (e : ℕ × Session). (e.0, session_lagging e.1)))) o.few_sessions;
+  few_sessions = subst (λ (k : ℕ). k ≤ old.limits.sessions) (sym (length-map old.sessions (λ (e : ℕ × Session). (e.0, session_lagging e.1)))) o.few_sessions;
   clients_end = o.clients_end;
   sessions_end = o.sessions_end;
 })
@@ -172,7 +173,7 @@ changed_orderly r n f keeps o = record {
     | inl m ↦ o.formed e m
     | inr x ↦ ap (λ (e : ℕ × Client). has_form e.1) x.2 ∙ keeps.form x.0 (o.formed (n, x.0) (lookup_in n r.clients x.0 x.1))
   ];
-  few_clients = subst (λ (k : ℕ). k ≤ MOST_CLIENTS) (sym (length_changed (is_at (nat_cmp n)) f r.clients (lookup (is_at (nat_cmp n)) r.clients))) o.few_clients;
+  few_clients = subst (λ (k : ℕ). k ≤ r.limits.clients) (sym (length_changed (is_at (nat_cmp n)) f r.clients (lookup (is_at (nat_cmp n)) r.clients))) o.few_clients;
   few_sessions = o.few_sessions;
   clients_end = o.clients_end;
   sessions_end = o.sessions_end;
@@ -360,10 +361,10 @@ made_orderly leaving r a short room o = record {
   within = λ e h. o.within e (session_stays leaving r.sessions e h).0;
   formed = λ e h. elim (was_or_new leaving r a e h) [ inl m ↦ o.formed e m | inr q ↦ ap (λ (e : ℕ × Client). has_form e.1) q ∙ new_form r.next_client a short ];
   few_clients =
-      one_more _ _ MOST_CLIENTS (length_added (stays leaving a.owner) r.clients r.next_client (new_client r.next_client a) (λ e h. (o.numbered e h).1))
-      (leb-false MOST_CLIENTS (length (filter (stays leaving a.owner) r.clients)) (or_false (nat_le MOST_CLIENTS (length (filter (stays leaving a.owner) r.clients))) (nat_le END r.next_client) room).0);
+      one_more _ _ r.limits.clients (length_added (stays leaving a.owner) r.clients r.next_client (new_client r.next_client a) (λ e h. (o.numbered e h).1))
+      (leb-false r.limits.clients (length (filter (stays leaving a.owner) r.clients)) (or_false (nat_le r.limits.clients (length (filter (stays leaving a.owner) r.clients))) (nat_le END r.next_client) room).0);
   few_sessions = at_most _ _ _ (length_stays leaving r.sessions) o.few_sessions;
-  clients_end = next_fits r.next_client END (leb-false END r.next_client (or_false (nat_le MOST_CLIENTS (length (filter (stays leaving a.owner) r.clients))) (nat_le END r.next_client) room).1);
+  clients_end = next_fits r.next_client END (leb-false END r.next_client (or_false (nat_le r.limits.clients (length (filter (stays leaving a.owner) r.clients))) (nat_le END r.next_client) room).1);
   sessions_end = o.sessions_end;
 }
 
@@ -467,7 +468,7 @@ granted_within asked enough = record {
 
 -- there is no room for another session
 abbrev has_no_place : Registry → Bool
-has_no_place r = nat_le MOST_SESSIONS (length r.sessions) || nat_le END r.next_session
+has_no_place r = nat_le r.limits.sessions (length r.sessions) || nat_le END r.next_session
 
 created_orderly : (r : Registry) (a : Create) (c : Client) → client_at r a.client ≡ Some c → has_no_place r ≡ false → nat_lt a.fore.reply_size LEAST_REPLY ≡ false → IsOrderly r → IsOrderly (with_creation r a (other_record c.owner a.client r.clients))
 created_orderly r a c is_c room enough o =
@@ -521,12 +522,12 @@ created_orderly r a c is_c room enough o =
         | inl m ↦ o.formed e (record_stays other r.clients e m).0
         | inr x ↦ ap (λ (e : ℕ × Client). has_form e.1) x.2 ∙ accepted_form x.0 a (Ok (created_of r a)) refl (o.formed (a.client, x.0) (record_stays other r.clients (a.client, x.0) (lookup_in a.client clients x.0 x.1)).0)
       ];
-      few_clients = subst (λ (k : ℕ). k ≤ MOST_CLIENTS) (sym (length_changed (is_at (nat_cmp a.client)) f clients (lookup (is_at (nat_cmp a.client)) clients))) (at_most _ _ _ (length_records other r.clients) o.few_clients);
+      few_clients = subst (λ (k : ℕ). k ≤ r.limits.clients) (sym (length_changed (is_at (nat_cmp a.client)) f clients (lookup (is_at (nat_cmp a.client)) clients))) (at_most _ _ _ (length_records other r.clients) o.few_clients);
       few_sessions =
           at_most _ _ _ (length_stays other added) (at_most _ _ _ (length_insert r.sessions r.next_session (new_session a.client (granted a.fore)))
-          (next_fits (length r.sessions) MOST_SESSIONS (leb-false MOST_SESSIONS (length r.sessions) (or_false (nat_le MOST_SESSIONS (length r.sessions)) (nat_le END r.next_session) room).0)));
+          (next_fits (length r.sessions) r.limits.sessions (leb-false r.limits.sessions (length r.sessions) (or_false (nat_le r.limits.sessions (length r.sessions)) (nat_le END r.next_session) room).0)));
       clients_end = o.clients_end;
-      sessions_end = next_fits r.next_session END (leb-false END r.next_session (or_false (nat_le MOST_SESSIONS (length r.sessions)) (nat_le END r.next_session) room).1);
+      sessions_end = next_fits r.next_session END (leb-false END r.next_session (or_false (nat_le r.limits.sessions (length r.sessions)) (nat_le END r.next_session) room).1);
     }
 
 room_if : (t u v : Bool) (i j k : Status) → (if t then Some i else if u then Some j else if v then Some k else None) ≡ None → v ≡ false

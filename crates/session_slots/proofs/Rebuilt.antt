@@ -13,7 +13,7 @@ use Rattle.std.proofs.lemmas.List.Elements.{All-get_or, All-tail}
 use Rattle.std.proofs.lemmas.Map.Keys.{sorted_head, sorted_tail}
 use Rattle.std.proofs.lemmas.Cmp.{nat_list_eq_equiv}
 use Rattle.session_slots.specs.declared.session.Channel.{Channel}
-use Rattle.session_slots.specs.Limits.{MOST_CLIENTS, MOST_SESSIONS, MOST_SLOTS, MOST_BYTES, LEAST_REPLY, MOST_OPERATIONS}
+use Rattle.session_slots.specs.Limits.{MOST_SLOTS, MOST_BYTES, LEAST_REPLY, MOST_OPERATIONS}
 use Rattle.session_slots.specs.Slots.{Cached, Place, restored}
 use Rattle.session_slots.specs.Registry.{Client, Session, Registry, client_at, session_at, is_confirmed_of, changed_place, changed_session, with_place, cache_size, restored_session}
 use Rattle.session_slots.specs.Orderly.{has_form, IsIn, IsWithin}
@@ -189,12 +189,12 @@ record_is_fit r before after e p is =
     let numbered = p.orderly.numbered e here in
     let below : (f : ℕ × Client) → IsIn f before → f.0 < e.0 = above_before before after e (subst IsRising is p.clients) in
     let given : e.1.number < r.next_client = subst (λ (n : ℕ). n < r.next_client) (sym numbered.0) numbered.1 in
-    let few : length before < MOST_CLIENTS = shorter before after e MOST_CLIENTS (subst (λ (l : List (ℕ × Client)). length l ≤ MOST_CLIENTS) is p.orderly.few_clients) in
+    let few : length before < r.limits.clients = shorter before after e r.limits.clients (subst (λ (l : List (ℕ × Client)). length l ≤ r.limits.clients) is p.orderly.few_clients) in
     let free : lookup (is_at (nat_cmp e.1.number)) before ≡ None = ap (λ (n : ℕ). lookup (is_at (nat_cmp n)) before) numbered.0 ∙ absent before e.0 below in
     let alone : not (e.1.confirmed && is_some (find (is_confirmed_of e.1.owner) (values_of before))) ≡ true =
     not_both e.1.confirmed (find (is_confirmed_of e.1.owner) (values_of before)) (no_other r before after e p is (find (is_confirmed_of e.1.owner) (values_of before)) refl) in
     and_true (nat_lt e.1.number r.next_client) _ (is_less e.1.number r.next_client given)
-    (and_true (nat_lt (length before) MOST_CLIENTS) _ (is_less (length before) MOST_CLIENTS few)
+    (and_true (nat_lt (length before) r.limits.clients) _ (is_less (length before) r.limits.clients few)
     (and_true (is_none (lookup (is_at (nat_cmp e.1.number)) before)) _ (is_none_of (lookup (is_at (nat_cmp e.1.number)) before) free)
     (and_true (not (e.1.confirmed && is_some (find (is_confirmed_of e.1.owner) (values_of before)))) (has_form e.1) alone (p.orderly.formed e here))))
 
@@ -407,12 +407,12 @@ session_is_fit r before after e p is =
     let here : IsIn e r.sessions = subst (λ (l : List (ℕ × Session)). IsIn e l) (sym is) (in_middle before e after) in
     let under : (f : ℕ × Session) → IsIn f before → f.0 < e.0 = above_before before after e (subst IsRising is p.sessions) in
     let below : (f : ℕ × Session) → IsIn f (map lagging_entry before) → f.0 < e.0 = λ f h. let x = in_lagging before f h in subst (λ (k : ℕ). k < e.0) (sym x.2) (under x.0 x.1) in
-    let few : length (map lagging_entry before) < MOST_SESSIONS =
-    subst (λ (n : ℕ). n < MOST_SESSIONS) (sym (entries_lagging before)) (shorter before after e MOST_SESSIONS (subst (λ (l : List (ℕ × Session)). length l ≤ MOST_SESSIONS) is p.orderly.few_sessions)) in
+    let few : length (map lagging_entry before) < r.limits.sessions =
+    subst (λ (n : ℕ). n < r.limits.sessions) (sym (entries_lagging before)) (shorter before after e r.limits.sessions (subst (λ (l : List (ℕ × Session)). length l ≤ r.limits.sessions) is p.orderly.few_sessions)) in
     let home = p.orderly.at_home e here in
     let has = p.slots e.0 e.1 (entry_found r.sessions before after e under is) in
     and_true (nat_lt e.0 r.next_session) _ (is_less e.0 r.next_session (p.orderly.given e here))
-    (and_true (nat_lt (length (map lagging_entry before)) MOST_SESSIONS) _ (is_less (length (map lagging_entry before)) MOST_SESSIONS few)
+    (and_true (nat_lt (length (map lagging_entry before)) r.limits.sessions) _ (is_less (length (map lagging_entry before)) r.limits.sessions few)
     (and_true (is_none (lookup (is_at (nat_cmp e.0)) (map lagging_entry before))) _ (is_none_of (lookup (is_at (nat_cmp e.0)) (map lagging_entry before)) (absent (map lagging_entry before) e.0 below))
     (and_true (is_home (client_at r e.1.client)) (is_within e.1.granted) (home_true (client_at r e.1.client) home.0 home.1 home.2) (within_true e.1.granted (p.orderly.within e here) has.some))))
 

@@ -9,7 +9,7 @@ use Rattle.std.specs.BTreeMap.{is_at}
 use Rattle.std.specs.Ordering.{nat_cmp}
 use Rattle.session_slots.specs.declared.session.Channel.{Channel}
 use Rattle.session_slots.specs.declared.session.Held.{Held}
-use Rattle.session_slots.specs.Limits.{MOST_CLIENTS, MOST_SESSIONS, MOST_SLOTS, MOST_BYTES, LEAST_REPLY, MOST_OPERATIONS, END}
+use Rattle.session_slots.specs.Limits.{MOST_SLOTS, MOST_BYTES, LEAST_REPLY, MOST_OPERATIONS, END}
 use Rattle.session_slots.specs.Slots.{Cached, restored, finished}
 use Rattle.session_slots.specs.Registry.{Client, Session, Registry, client_at, session_at, is_confirmed_of, confirmed_entry, changed_client, cache_size, restored_session, with_session, with_place}
 use Rattle.session_slots.specs.Orderly.{has_form, IsIn, IsWithin, IsOrderly}
@@ -88,7 +88,7 @@ found_is_another es k n x found absent same =
 pub record_orderly : (r : Registry) (c : Client) → record_fits r c ≡ true → IsOrderly r → IsOrderly (with_record r c)
 record_orderly r c fits o =
     let one = both (nat_lt c.number r.next_client) _ fits in
-    let two = both (nat_lt (length r.clients) MOST_CLIENTS) _ one.1 in
+    let two = both (nat_lt (length r.clients) r.limits.clients) _ one.1 in
     let three = both (is_none (client_at r c.number)) _ two.1 in
     let four = both (not (c.confirmed && is_some (confirmed_entry r c.owner))) (has_form c) three.1 in
     let absent : client_at r c.number ≡ None = is_absent (client_at r c.number) three.0 in record {
@@ -117,7 +117,7 @@ record_orderly r c fits o =
         home.2,
       );
       within = o.within;
-      few_clients = one_more _ (length r.clients) MOST_CLIENTS (length_insert r.clients c.number c) (less (length r.clients) MOST_CLIENTS two.0);
+      few_clients = one_more _ (length r.clients) r.limits.clients (length_insert r.clients c.number c) (less (length r.clients) r.limits.clients two.0);
       few_sessions = o.few_sessions;
       clients_end = o.clients_end;
       sessions_end = o.sessions_end;
@@ -149,7 +149,7 @@ home_of (Some c) h = (c, refl, h)
 pub session_orderly : (r : Registry) (number : ℕ) (held : Held) → session_fits r number held ≡ true → IsOrderly r → IsOrderly (with_restored r number held)
 session_orderly r number held fits o =
     let one = both (nat_lt number r.next_session) _ fits in
-    let two = both (nat_lt (length r.sessions) MOST_SESSIONS) _ one.1 in
+    let two = both (nat_lt (length r.sessions) r.limits.sessions) _ one.1 in
     let three = both (is_none (session_at r number)) _ two.1 in
     let four = both (is_home (client_at r held.client)) (is_within held.granted) three.1 in
     let new : Session = restored_session held.client held.granted in record {
@@ -173,7 +173,7 @@ session_orderly r number held fits o =
       ];
       formed = o.formed;
       few_clients = o.few_clients;
-      few_sessions = one_more _ (length r.sessions) MOST_SESSIONS (length_insert r.sessions number new) (less (length r.sessions) MOST_SESSIONS two.0);
+      few_sessions = one_more _ (length r.sessions) r.limits.sessions (length_insert r.sessions number new) (less (length r.sessions) r.limits.sessions two.0);
       clients_end = o.clients_end;
       sessions_end = o.sessions_end;
     }
@@ -181,7 +181,7 @@ session_orderly r number held fits o =
 pub session_has_slots : (r : Registry) (number : ℕ) (held : Held) → session_fits r number held ≡ true → 1 ≤ held.granted.slots
 session_has_slots r number held fits =
     let one = both (nat_lt number r.next_session) _ fits in
-    let two = both (nat_lt (length r.sessions) MOST_SESSIONS) _ one.1 in
+    let two = both (nat_lt (length r.sessions) r.limits.sessions) _ one.1 in
     let three = both (is_none (session_at r number)) _ two.1 in
     let four = both (is_home (client_at r held.client)) (is_within held.granted) three.1 in
     (within_of held.granted four.1).1
@@ -239,7 +239,7 @@ heads_if test f es None same h = refl
 heads_if test f es (Some s) same h = heads_set test es s (f s) (same s) h
 
 heads_stay : (r : Registry) (n : ℕ) (f : Session → Session) → ((s : Session) → held_of (f s) ≡ held_of s) → HeadsStay r (with_session n f r)
-heads_stay r n f same = record { records = refl; sessions = heads_if (is_at (nat_cmp n)) f r.sessions (session_at r n) same refl; next_client = refl; next_session = refl }
+heads_stay r n f same = record { limits = refl; records = refl; sessions = heads_if (is_at (nat_cmp n)) f r.sessions (session_at r n) same refl; next_client = refl; next_session = refl }
 
 begun_held : (f : Option Status) (s : Session) (a : Asked) → held_of (begun_unless f s a) ≡ held_of s
 begun_held None s a = refl
@@ -278,8 +278,8 @@ expire_orderly client r o =
       );
       within = λ e h. o.within e (in_filter q r.sessions e h).0;
       formed = λ e h. o.formed e (in_filter p r.clients e h).0;
-      few_clients = fewer _ _ MOST_CLIENTS (length_filter p r.clients) o.few_clients;
-      few_sessions = fewer _ _ MOST_SESSIONS (length_filter q r.sessions) o.few_sessions;
+      few_clients = fewer _ _ r.limits.clients (length_filter p r.clients) o.few_clients;
+      few_sessions = fewer _ _ r.limits.sessions (length_filter q r.sessions) o.few_sessions;
       clients_end = o.clients_end;
       sessions_end = o.sessions_end;
     }

@@ -14,7 +14,7 @@ use Rattle.session_slots.specs.declared.creating.Create.{Create}
 use Rattle.session_slots.specs.declared.creating.Made.{Made}
 use Rattle.session_slots.specs.declared.creating.Judged.{Judged}
 use Rattle.session_slots.specs.declared.creating.Judged.TheVariants.{Answers, Refuses, Makes}
-use Rattle.session_slots.specs.Limits.{MOST_SESSIONS, MOST_SLOTS, MOST_BYTES, LEAST_REPLY, MOST_OPERATIONS, END}
+use Rattle.session_slots.specs.Limits.{MOST_SLOTS, MOST_BYTES, LEAST_REPLY, MOST_OPERATIONS, END}
 use Rattle.session_slots.specs.Counting.{due, accepted, last_number, RepresentsHistory}
 use Rattle.session_slots.specs.Registry.{Client, Registry, client_at, is_confirmed_of, changed_client, new_session}
 use Rattle.session_slots.specs.Registry.{without_record, without_sessions}
@@ -43,7 +43,7 @@ abbrev pub creation_fault : Client → Registry → Create → Option Status
 creation_fault c r a =
     if not c.confirmed && not (c.uid == a.uid) then Some statuses.ClidInUse
     else if nat_lt a.fore.reply_size LEAST_REPLY then Some statuses.TooSmall
-    else if nat_le MOST_SESSIONS (length r.sessions) || nat_le END r.next_session then Some statuses.NoSpc
+    else if nat_le r.limits.sessions (length r.sessions) || nat_le END r.next_session then Some statuses.NoSpc
     else None
 
 -- the session: it is persistent if that was asked for, and if the server's sessions are persistent

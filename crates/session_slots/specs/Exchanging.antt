@@ -9,7 +9,7 @@ use Rattle.nfs_types.specs.declared.status.Status.TheVariants as statuses
 use Rattle.session_slots.specs.declared.exchanging.Exchanged.{Exchanged}
 use Rattle.session_slots.specs.declared.exchanging.ExchangeDecision.{ExchangeDecision}
 use Rattle.session_slots.specs.declared.exchanging.ExchangeDecision.TheVariants.{Refuses, Knows, Makes}
-use Rattle.session_slots.specs.Limits.{MOST_CLIENTS, END, USE_NON_PNFS, UPDATE_CONFIRMED, CONFIRMED}
+use Rattle.session_slots.specs.Limits.{END, USE_NON_PNFS, UPDATE_CONFIRMED, CONFIRMED}
 use Rattle.session_slots.specs.Counting.{due, last_number}
 use Rattle.session_slots.specs.Creating.{number_of}
 use Rattle.session_slots.specs.Registry.{Client, Registry, confirmed_entry, without_sessions}
@@ -66,7 +66,8 @@ with_client removed r a = record r {
 }
 
 abbrev pub is_full : Option ℕ → Registry → Exchanging → Bool
-is_full removed r a = nat_le MOST_CLIENTS (length (filter (stays removed a.owner) r.clients)) || nat_le END r.next_client
+is_full removed r a =
+    nat_le r.limits.clients (length (filter (stays removed a.owner) r.clients)) || nat_le END r.next_client
 
 -- a new record, unless there are too many, or no client ID is left
 abbrev pub decision_for_new : Option ℕ → Registry → Exchanging → ExchangeDecision

@@ -1,13 +1,5 @@
--- The limits of clients, sessions and slots.
+-- The limits of sessions and slots that no profile sets.
 use Rattle.std.specs.Prelude.{ℕ}
-
--- records of clients
-abbrev pub MOST_CLIENTS : ℕ
-MOST_CLIENTS = 64
-
--- sessions
-abbrev pub MOST_SESSIONS : ℕ
-MOST_SESSIONS = 64
 
 -- slots of a session
 abbrev pub MOST_SLOTS : ℕ

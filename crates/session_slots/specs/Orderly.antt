@@ -5,7 +5,7 @@ use Rattle.nfs_types.specs.declared.status.Status.{Status}
 use Rattle.nfs_types.specs.declared.status.Status.TheVariants as statuses
 use Rattle.session_slots.specs.declared.client.Created.{Created}
 use Rattle.session_slots.specs.declared.client.Creation.{Creation}
-use Rattle.session_slots.specs.Limits.{MOST_CLIENTS, MOST_SESSIONS, MOST_SLOTS, MOST_BYTES, LEAST_REPLY}
+use Rattle.session_slots.specs.Limits.{MOST_SLOTS, MOST_BYTES, LEAST_REPLY}
 use Rattle.session_slots.specs.Limits.{MOST_OPERATIONS, MOST_OWNER, END}
 use Rattle.session_slots.specs.declared.session.Channel.{Channel}
 use Rattle.session_slots.specs.Registry.{Client, Session, Registry, client_at, is_confirmed_of}
@@ -57,7 +57,7 @@ pub record IsOrderly (r : Registry) : Type 0 where
   pub within : (e : ℕ × Session) → IsIn e r.sessions → IsWithin e.1.granted
   pub formed : (e : ℕ × Client) → IsIn e r.clients → has_form e.1 ≡ true
   -- records and sessions are within their limits, and no number is 2 ^ 63
-  pub few_clients : length r.clients ≤ MOST_CLIENTS
-  pub few_sessions : length r.sessions ≤ MOST_SESSIONS
+  pub few_clients : length r.clients ≤ r.limits.clients
+  pub few_sessions : length r.sessions ≤ r.limits.sessions
   pub clients_end : r.next_client ≤ END
   pub sessions_end : r.next_session ≤ END

@@ -6,6 +6,7 @@ use Rattle.std.specs.Map.{lookup, set_value, values_of}
 use Rattle.std.specs.BTreeMap.{is_at}
 use Rattle.std.specs.Ordering.{nat_cmp}
 use Rattle.std.specs.Cmp.Lexicographic.{pointwise}
+use Rattle.nfs_types.specs.Limits.{Limits}
 use Rattle.session_slots.specs.declared.session.Channel.{Channel}
 use Rattle.session_slots.specs.declared.client.Creation.{Creation}
 use Rattle.session_slots.specs.Limits.{REPLY_HEADER}
@@ -30,15 +31,16 @@ pub record Client : Type 0 where
   -- the client has sent RECLAIM_COMPLETE
   pub reclaimed : Bool
 
--- clients and sessions by rising number, and the numbers of the next ones
+-- clients and sessions by rising number, the numbers of the next ones, and the limits, which never change
 pub record Registry : Type 0 where
+  pub limits : Limits
   pub clients : List (ℕ × Client)
   pub sessions : List (ℕ × Session)
   pub next_client : ℕ
   pub next_session : ℕ
 
-abbrev pub nobody : Registry
-nobody = record { clients = []; sessions = []; next_client = 1; next_session = 1 }
+abbrev pub nobody : Limits → Registry
+nobody limits = record { limits = limits; clients = []; sessions = []; next_client = 1; next_session = 1 }
 
 abbrev pub session_at : Registry → ℕ → Option Session
 session_at r number = lookup (is_at (nat_cmp number)) r.sessions

@@ -47,7 +47,7 @@ with_sessions [] r = r
 with_sessions (e ∷ es) r = with_sessions es (with_slots e.0 0 e.1.slots (with_restored r e.0 (held_of e.1)))
 
 abbrev pub with_all : Registry → Registry
-with_all r = with_sessions r.sessions (with_records r.clients (nothing_yet r.next_client r.next_session))
+with_all r = with_sessions r.sessions (with_records r.clients (nothing_yet r.limits r.next_client r.next_session))
 
 -- each part fits when its turn comes
 abbrev pub RecordsFit : List (ℕ × Client) → Registry → Type 0
@@ -83,6 +83,6 @@ all_lagging r = record r { sessions = map lagging_entry r.sessions }
 
 -- Each part fits, and together they make the registry, in which every slot lags.
 pub record IsRestored (r : Registry) : Type 0 where
-  pub records_fit : RecordsFit r.clients (nothing_yet r.next_client r.next_session)
-  pub sessions_fit : SessionsFit r.sessions (with_records r.clients (nothing_yet r.next_client r.next_session))
+  pub records_fit : RecordsFit r.clients (nothing_yet r.limits r.next_client r.next_session)
+  pub sessions_fit : SessionsFit r.sessions (with_records r.clients (nothing_yet r.limits r.next_client r.next_session))
   pub whole : with_all r ≡ all_lagging r

@@ -6,9 +6,10 @@ use Rattle.std.specs.Map.{keys_of}
 use Rattle.std.specs.Option.{option_and_then}
 use Rattle.std.specs.BTreeMap.{insert_entry}
 use Rattle.std.specs.Ordering.{nat_cmp}
+use Rattle.nfs_types.specs.Limits.{Limits}
 use Rattle.session_slots.specs.declared.session.Channel.{Channel}
 use Rattle.session_slots.specs.declared.session.Held.{Held}
-use Rattle.session_slots.specs.Limits.{MOST_CLIENTS, MOST_SESSIONS, MOST_SLOTS, MOST_BYTES, LEAST_REPLY}
+use Rattle.session_slots.specs.Limits.{MOST_SLOTS, MOST_BYTES, LEAST_REPLY}
 use Rattle.session_slots.specs.Limits.{MOST_OPERATIONS, END}
 use Rattle.session_slots.specs.Slots.{Cached, restored}
 use Rattle.session_slots.specs.Orderly.{has_form}
@@ -16,8 +17,9 @@ use Rattle.session_slots.specs.Registry.{Client, Session, Registry, client_at, s
 use Rattle.session_slots.specs.Registry.{cache_size, restored_session, with_session, with_place}
 
 -- nothing is restored yet: the next client and the next session get these numbers
-abbrev pub nothing_yet : ℕ → ℕ → Registry
-nothing_yet next_client next_session = record {
+abbrev pub nothing_yet : Limits → ℕ → ℕ → Registry
+nothing_yet limits next_client next_session = record {
+  limits = limits;
   clients = [];
   sessions = [];
   next_client = next_client;
@@ -40,7 +42,7 @@ with_numbers next_client next_session r = record r { next_client = next_client; 
 abbrev pub record_fits : Registry → Client → Bool
 record_fits r c =
     nat_lt c.number r.next_client
-    && (nat_lt (length r.clients) MOST_CLIENTS
+    && (nat_lt (length r.clients) r.limits.clients
     && (is_none (client_at r c.number) && (not (c.confirmed && is_some (confirmed_entry r c.owner)) && has_form c)))
 
 abbrev pub with_record : Registry → Client → Registry
@@ -64,7 +66,7 @@ is_home (Some c) = c.confirmed
 abbrev pub session_fits : Registry → ℕ → Held → Bool
 session_fits r number held =
     nat_lt number r.next_session
-    && (nat_lt (length r.sessions) MOST_SESSIONS
+    && (nat_lt (length r.sessions) r.limits.sessions
     && (is_none (session_at r number) && (is_home (client_at r held.client) && is_within held.granted)))
 
 abbrev pub with_restored : Registry → ℕ → Held → Registry
@@ -107,8 +109,9 @@ headed e = (e.0, held_of e.1)
 abbrev pub heads : Registry → List (ℕ × Held)
 heads r = map headed r.sessions
 
--- records, sessions and next numbers stay, whatever slots do
+-- limits, records, sessions and next numbers stay, whatever slots do
 pub record HeadsStay (old new : Registry) : Type 0 where
+  pub limits : new.limits ≡ old.limits
   pub records : new.clients ≡ old.clients
   pub sessions : heads new ≡ heads old
   pub next_client : new.next_client ≡ old.next_client

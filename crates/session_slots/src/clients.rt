@@ -29,7 +29,7 @@ use crate::registry::Registry;
 use crate::restoring::RestoreFault;
 use crate::session::{Begin, Held, Sequence};
 use crate::slot::CachedCall;
-use nfs_types::Status;
+use nfs_types::{Limits, Status};
 use std::alloc::{Allocator, Global};
 use std::marker::Model;
 
@@ -51,14 +51,21 @@ impl<A: Allocator> Model for Clients<A> {
 }
 
 impl<A: Allocator + Copy> Clients<A> {
-    /// No client and no session.
+    /// No client and no session, under these limits.
     #[tactic(auto, using(crate::proofs::Orderly::nobody_is_orderly))]
-    pub fn new(alloc: A) -> Self
-        ensures { result ≡ nobody }
+    pub fn new(alloc: A, limits: Limits) -> Self
+        ensures { result ≡ nobody limits }
     {
         Clients {
-            registry: Registry::new(alloc),
+            registry: Registry::new(alloc, limits),
         }
+    }
+
+    /// The limits, which never change.
+    pub fn limits(&self) -> Limits
+        ensures { result ≡ self.now.limits }
+    {
+        self.registry.limits()
     }
 
     /// The client ID of an owner's confirmed record. It allocates no memory.

@@ -8,7 +8,7 @@ ghost use Rattle.session_slots.specs.Creating.{Creates};
 
 use crate::changes::{accept, add_session, confirm, other_in, remove_record, remove_sessions};
 use crate::client::{Client, Created, Creation};
-use crate::limits::{END, LEAST_REPLY, MOST_BYTES, MOST_OPERATIONS, MOST_SESSIONS, MOST_SLOTS};
+use crate::limits::{END, LEAST_REPLY, MOST_BYTES, MOST_OPERATIONS, MOST_SLOTS};
 use crate::registry::Registry;
 use crate::session::{Channel, Session};
 use nfs_types::Status;
@@ -96,7 +96,7 @@ impl<A: Allocator + Copy> Registry<A> {
         if asked.fore.reply_size < LEAST_REPLY {
             return Some(Status::TooSmall);
         }
-        if self.sessions.len() >= MOST_SESSIONS || self.next_session >= END {
+        if self.sessions.len() >= self.limits.sessions() || self.next_session >= END {
             return Some(Status::NoSpc);
         }
         None

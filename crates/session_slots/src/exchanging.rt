@@ -9,7 +9,7 @@ use crate::changes::{
     add_client, confirmed_in, remove_others, remove_sessions, remove_unconfirmed, staying_count,
 };
 use crate::client::Client;
-use crate::limits::{CONFIRMED, END, MOST_CLIENTS, UPDATE_CONFIRMED, USE_NON_PNFS};
+use crate::limits::{CONFIRMED, END, UPDATE_CONFIRMED, USE_NON_PNFS};
 use crate::registry::Registry;
 use nfs_types::Status;
 use std::alloc::Allocator;
@@ -84,7 +84,7 @@ impl<A: Allocator + Copy> Registry<A> {
         ensures { result ≡ decision_for_new removed self.now (exchanging_of asked.entry) }
     {
         let staying = staying_count(&self.clients, asked.owner, removed);
-        if staying >= MOST_CLIENTS || self.next_client >= END {
+        if staying >= self.limits.clients() || self.next_client >= END {
             return ExchangeDecision::Refuses(Status::NoSpc);
         }
         ExchangeDecision::Makes(removed)

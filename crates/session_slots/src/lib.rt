@@ -32,8 +32,8 @@ pub use laws::{
     what_changes_the_world_acts_once, what_is_read_out_is_restored, what_is_written_is_of_one,
 };
 pub use limits::{
-    CONFIRMED, END, LEAST_REPLY, MOST_AHEAD, MOST_BYTES, MOST_CLIENTS, MOST_OPERATIONS, MOST_OWNER,
-    MOST_RESULTS, MOST_SESSIONS, MOST_SLOTS, REPLY_HEADER, UPDATE_CONFIRMED, USE_NON_PNFS,
+    CONFIRMED, END, LEAST_REPLY, MOST_AHEAD, MOST_BYTES, MOST_OPERATIONS, MOST_OWNER, MOST_RESULTS,
+    MOST_SLOTS, REPLY_HEADER, UPDATE_CONFIRMED, USE_NON_PNFS,
 };
 pub use restoring::{NextNumbers, RestoreFault};
 pub use session::{Begin, Channel, Held, NewCall, Sequence};

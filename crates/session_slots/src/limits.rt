@@ -1,10 +1,4 @@
-//! The limits of clients, sessions and slots.
-
-/// The most records of clients.
-pub const MOST_CLIENTS: usize = 64;
-
-/// The most sessions.
-pub const MOST_SESSIONS: usize = 64;
+//! The limits of sessions and slots that no profile sets.
 
 /// The most slots of a session.
 pub const MOST_SLOTS: u32 = 8;

@@ -16,7 +16,7 @@ ghost use Rattle.session_slots.specs.Views.{asked_of, bytes_of};
 use crate::changes::{confirmed_in, lag_each, renew};
 use crate::client::Client;
 use crate::session::{Begin, Sequence, Session};
-use nfs_types::Status;
+use nfs_types::{Limits, Status};
 use std::alloc::{Allocator, Global};
 use std::collections::BTreeMap;
 use std::marker::Model;
@@ -25,6 +25,7 @@ use std::marker::Model;
 #[derive(Drop)]
 pub struct Registry<A: Allocator = Global> {
     pub(crate) alloc: A,
+    pub(crate) limits: Limits,
     pub(crate) clients: BTreeMap<u64, Client<A>, A>,
     pub(crate) sessions: BTreeMap<u64, Session<A>, A>,
     pub(crate) next_client: u64,
@@ -39,6 +40,7 @@ impl<A: Allocator> Model for Registry<A> {
     ghost Value = { Registry };
 
     ghost view = { λ r. record {
+      limits = r.limits;
       clients = r.clients.entries;
       sessions = r.sessions.entries;
       next_client = r.next_client;
@@ -47,18 +49,26 @@ impl<A: Allocator> Model for Registry<A> {
 }
 
 impl<A: Allocator + Copy> Registry<A> {
-    /// No client and no session.
-    pub fn new(alloc: A) -> Self
-        ensures { result ≡ nobody }
+    /// No client and no session, under these limits.
+    pub fn new(alloc: A, limits: Limits) -> Self
+        ensures { result ≡ nobody limits }
     {
         Registry {
             alloc,
+            limits,
             clients: BTreeMap::new(alloc),
             sessions: BTreeMap::new(alloc),
             next_client: 1,
             next_session: 1,
             steady: None,
         }
+    }
+
+    /// The limits, which never change.
+    pub fn limits(&self) -> Limits
+        ensures { result ≡ self.now.limits }
+    {
+        self.limits
     }
 
     /// The client ID of an owner's confirmed record.

@@ -16,10 +16,7 @@ ghost use Rattle.session_slots.specs.declared.restoring.RestoreFault.TheVariants
 
 use crate::changes::{add_client, add_session};
 use crate::client::{Client, Record};
-use crate::limits::{
-    END, LEAST_REPLY, MOST_BYTES, MOST_CLIENTS, MOST_OPERATIONS, MOST_OWNER, MOST_SESSIONS,
-    MOST_SLOTS,
-};
+use crate::limits::{END, LEAST_REPLY, MOST_BYTES, MOST_OPERATIONS, MOST_OWNER, MOST_SLOTS};
 use crate::registry::Registry;
 use crate::session::{Channel, Held, Session};
 use crate::slot::CachedCall;
@@ -142,7 +139,7 @@ impl<A: Allocator + Copy> Registry<A> {
         ensures { result ≡ record_fits self.now (client_of kept.entry) }
     {
         kept.number < self.next_client
-            && (self.clients.len() < MOST_CLIENTS
+            && (self.clients.len() < self.limits.clients()
                 && (!self.clients.contains_key(&kept.number)
                     && (!(kept.confirmed && self.confirmed_of(kept.owner).is_some())
                         && has_form(kept))))
@@ -172,7 +169,7 @@ impl<A: Allocator + Copy> Registry<A> {
         ensures { result ≡ session_fits self.now number held }
     {
         number < self.next_session
-            && (self.sessions.len() < MOST_SESSIONS
+            && (self.sessions.len() < self.limits.sessions()
                 && (!self.sessions.contains_key(&number)
                     && (self.is_home(held.client) && is_within(held.granted))))
     }

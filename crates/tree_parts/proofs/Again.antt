@@ -1,15 +1,15 @@
 -- The parts of a sound world are taken again, in order, and give that world.
-use Rattle.std.proofs.Common.{◌≡◌, ◌≢◌, ℕ, zero, suc, ◌+◌, ◌<◌, ◌≤◌, Bool, true, false, not, cond, ◌&&◌, ◌||◌, List, [], ◌∷◌, ◌++◌, length, map, refl, ap, sym, ◌∙◌, subst, arith, Some, None, inl, inr, length-append, append-nil}
+use Rattle.std.proofs.Common.{◌≡◌, ◌≢◌, ℕ, zero, suc, ◌+◌, ◌-◌, ◌*◌, ◌/◌, ◌<◌, ◌≤◌, Bool, true, false, not, cond, ◌&&◌, ◌||◌, List, [], ◌∷◌, ◌++◌, length, map, refl, ap, sym, ◌∙◌, subst, arith, Some, None, inl, inr, length-append, append-nil, take}
 use Rattle.std.specs.Prelude.{Option, IsSome, is_some, ◌==◌, find, nat_le, nat_lt, count_by, filter}
 use Rattle.std.specs.Ordering.{nat_cmp}
-use Rattle.std.specs.Map.{lookup, keys_of}
+use Rattle.std.specs.Map.{lookup, set_value, keys_of}
 use Rattle.std.specs.BTreeMap.{is_at}
-use Rattle.std.specs.List.{list_any, list_all}
+use Rattle.std.specs.List.{list_any, list_all, flat_map, range_with_len}
 use Rattle.std.specs.Option.{option_map, option_map_or}
 use Rattle.std.proofs.Math.Logic.{⊎_elim}
-use Rattle.std.proofs.lemmas.Bool.{and_from, le-leb, lt-ltb, not_from_false, false_from_ne_true}
+use Rattle.std.proofs.lemmas.Bool.{and_from, le-leb, lt-ltb, not_from_false, false_from_ne_true, cases_lt}
 use Rattle.std.proofs.lemmas.Bool.Decides.{Decides-eqb}
-use Rattle.std.proofs.lemmas.List.{append_assoc, length-map}
+use Rattle.std.proofs.lemmas.List.{append_assoc, length-map, take_all}
 use Rattle.std.proofs.lemmas.List.Sums.{sum_by-append, sum_by-cons, length-filter, count_by-le-length}
 use Rattle.std.proofs.lemmas.Map.Made.{is_some-lookup}
 use Rattle.acl_list.specs.declared.entry.Kind.{Kind}
@@ -17,18 +17,22 @@ use Rattle.acl_list.specs.declared.entry.Kind.TheVariants.{File, Directory, Link
 use Rattle.acl_shape.specs.Inherited.{is_directory}
 use Rattle.acl_shape.specs.Bounds.{fits, keeps}
 use Rattle.xdr_wire.specs.Xdr.{Value}
-use Rattle.node_tree.specs.Limits.{ROOT, MAX_NAME, Limits, standard}
-use Rattle.node_tree.specs.World.{World, Object, Name, object, kind_of, child_named, is_directory_at, is_named, has_name, name_count, link_count, parent_of}
+use Rattle.nfs_types.specs.Limits.{Limits}
+use Rattle.node_tree.specs.Limits.{ROOT, MAX_NAME}
+use Rattle.node_tree.specs.World.{World, Object, Name, object, kind_of, child_named, is_directory_at, is_named, has_name, name_count, link_count, parent_of, is_file, is_file_at, bytes_of}
+use Rattle.node_tree.specs.Changes.{changed, written}
+use Rattle.node_tree.specs.Holes.{IsHole}
 use Rattle.node_tree.specs.Refusals.{has_room, may_link}
 use Rattle.node_tree.specs.Sound.{IsIn, Climbs, IsRooted, IsSound, Rises, most_bytes}
-use Rattle.node_tree.specs.Restored.{Begun, begun, counters_fit, has_stamp, is_fit, object_fits, child_fits, name_fits, climbs_to_root, is_placed, is_whole, with_object, with_name}
+use Rattle.node_tree.specs.Restored.{Begun, begun, counters_fit, has_stamp, is_fit, object_fits, child_fits, name_fits, climbs_to_root, is_placed, is_whole, with_object, with_more, with_name, more_fits}
 use Rattle.node_tree.proofs.Objects.{is_same, is_at-same, is_at-apart}
 use Rattle.node_tree.proofs.Names.{found, not_found, any_passes, in_prefix, child_sought, named_directory, named_name, names_counted}
 use Rattle.node_tree.proofs.Moving.{parents_of, directory_at}
 use Rattle.node_tree.proofs.Restorable.{at_root, one_up, all_left}
-use Rattle.tree_parts.specs.Parts.{part, object_value, name_value}
+use Rattle.tree_parts.specs.Parts.{part, name_value, rest_value, object_parts, PIECE, piece, has_part, rest_offsets}
 use Rattle.tree_parts.specs.Taken.{TakesAll}
 use Rattle.tree_parts.specs.Again.{IsTakenAgain}
+use Rattle.tree_parts.proofs.Pieces.{length_within, skipped, put_on, took_few}
 
 -- ---- places in a list whose keys rise
 
@@ -51,6 +55,32 @@ is_at_place low high (y ∷ prefix) e back rises =
     let above : y.0 + 1 ≤ e.0 = rises_to (λ (e : ℕ × Object). e.0) (y.0 + 1) high prefix e back rises.1 in
     ap (λ b. cond b (Some y.1) (lookup (is_at (nat_cmp e.0)) (prefix ++ e ∷ back))) (is_at-apart e.0 y.0 (λ same. absurd (omega (arith, above, same))))
     ∙ is_at_place (y.0 + 1) high prefix e back rises.1
+
+-- the last object so far is found by its number, and changed
+last_found : (low high : ℕ) (prefix : List (ℕ × Object)) (e : ℕ × Object) (back : List (ℕ × Object)) (o : Object) → Rises (λ e. e.0) low (prefix ++ e ∷ back) high → lookup (is_at (nat_cmp e.0)) (prefix ++ (e.0, o) ∷ []) ≡ Some o
+last_found low high [] e back o rises = ap (λ b. cond b (Some o) None) (is_at-same e.0)
+last_found low high (y ∷ prefix) e back o rises =
+    let above : y.0 + 1 ≤ e.0 = rises_to (λ (e : ℕ × Object). e.0) (y.0 + 1) high prefix e back rises.1 in
+    ap (λ b. cond b (Some y.1) (lookup (is_at (nat_cmp e.0)) (prefix ++ (e.0, o) ∷ []))) (is_at-apart e.0 y.0 (λ same. absurd (omega (arith, above, same))))
+    ∙ last_found (y.0 + 1) high prefix e back o rises.1
+
+last_set : (low high : ℕ) (prefix : List (ℕ × Object)) (e : ℕ × Object) (back : List (ℕ × Object)) (o new : Object) → Rises (λ e. e.0) low (prefix ++ e ∷ back) high → set_value (is_at (nat_cmp e.0)) (prefix ++ (e.0, o) ∷ []) new ≡ prefix ++ (e.0, new) ∷ []
+last_set low high [] e back o new rises = ap (λ b. cond b ((e.0, new) ∷ []) ((e.0, o) ∷ [])) (is_at-same e.0)
+last_set low high (y ∷ prefix) e back o new rises =
+    let above : y.0 + 1 ≤ e.0 = rises_to (λ (e : ℕ × Object). e.0) (y.0 + 1) high prefix e back rises.1 in
+    ap (λ b. cond b ((y.0, new) ∷ (prefix ++ (e.0, o) ∷ [])) (y ∷ set_value (is_at (nat_cmp e.0)) (prefix ++ (e.0, o) ∷ []) new)) (is_at-apart e.0 y.0 (λ same. absurd (omega (arith, above, same))))
+    ∙ ap (λ (l : List (ℕ × Object)). y ∷ l) (last_set (y.0 + 1) high prefix e back o new rises.1)
+
+last_changed : (low high : ℕ) (prefix : List (ℕ × Object)) (e : ℕ × Object) (back : List (ℕ × Object)) (o : Object) (f : Object → Object) → Rises (λ e. e.0) low (prefix ++ e ∷ back) high → changed e.0 f (prefix ++ (e.0, o) ∷ []) ≡ prefix ++ (e.0, f o) ∷ []
+last_changed low high prefix e back o f rises =
+    ap (λ (found : Option Object). option_map_or (λ x. set_value (is_at (nat_cmp e.0)) (prefix ++ (e.0, o) ∷ []) (f x)) found (prefix ++ (e.0, o) ∷ [])) (last_found low high prefix e back o rises)
+    ∙ last_set low high prefix e back o (f o) rises
+
+-- only a file has more bytes than one part
+long_file : (l : Limits) (k : Kind) (n : ℕ) → n ≤ most_bytes l k → 1048576 < n → k ≡ File
+long_file l File n most more = refl
+long_file l Directory n most more = absurd (omega (arith, most, more))
+long_file l Link n most more = let le : n ≤ 1024 = most in absurd (omega (arith, le, more))
 
 -- an item that passes a test, between those before it and those after it
 record Between {X : Type 0} (p : X → Bool) (xs : List X) : Type 0 where
@@ -191,10 +221,19 @@ module _ (w : World) (sound : IsSound w) where
           let above : r.it.0 + 1 ≤ e.0 = rises_to (λ (e : ℕ × Object). e.0) (r.it.0 + 1) w.next_number r.back e es rises in
           omega (arith, same, above)
 
-  object_next : (before : List (ℕ × Object)) (e : ℕ × Object) (es : List (ℕ × Object)) (number : ℕ) → before ++ e ∷ es ≡ w.objects → Rises (λ e. e.0) number (e ∷ es) w.next_number → object_fits (so_far before [] number 3) e.0 e.1 ≡ true
+  -- the object with the bytes of its first part
+  abbrev first_of : Object → Object
+  first_of o = record o { bytes = piece o.bytes 0 }
+
+  no_longer : (bytes : List ℕ) → length (piece bytes 0) ≤ length bytes
+  no_longer bytes = let within : 0 + length (piece bytes 0) ≤ 0 + (length bytes - 0) = length_within bytes 0 in omega (arith, within)
+
+  object_next : (before : List (ℕ × Object)) (e : ℕ × Object) (es : List (ℕ × Object)) (number : ℕ) → before ++ e ∷ es ≡ w.objects → Rises (λ e. e.0) number (e ∷ es) w.next_number → object_fits (so_far before [] number 3) e.0 (first_of e.1) ≡ true
   object_next before e es number is rises =
-      let o = e.1 in
-      let fit = sound.fit e.0 o (present before e es is) in
+      let o = first_of e.1 in
+      let fit = sound.fit e.0 e.1 (present before e es is) in
+      let short : length (piece e.1.bytes 0) ≤ length e.1.bytes = no_longer e.1.bytes in
+      let most : length e.1.bytes ≤ most_bytes w.limits e.1.kind = fit.bytes in
       let top : e.0 + 1 ≤ w.next_number = rises_from (λ (e : ℕ × Object). e.0) (e.0 + 1) w.next_number es rises.1 in
       let all : length (before ++ e ∷ es) ≡ length before + length (e ∷ es) = length-append before (e ∷ es) in
       let whole : length (before ++ e ∷ es) ≡ length w.objects = ap length is in
@@ -207,11 +246,76 @@ module _ (w : World) (sound : IsSound w) where
       (and_from (is_fit w.limits w.next_tick w.next_stamp o) (not (has_stamp before o.stamp))
       (and_from (nat_le (length o.bytes) (most_bytes w.limits o.kind) && fits o.list && nat_lt o.change w.next_tick) (nat_lt o.stamp w.next_stamp)
       (and_from (nat_le (length o.bytes) (most_bytes w.limits o.kind) && fits o.list) (nat_lt o.change w.next_tick)
-      (and_from (nat_le (length o.bytes) (most_bytes w.limits o.kind)) (fits o.list) (le-leb (length o.bytes) (most_bytes w.limits o.kind) fit.bytes)
+      (and_from (nat_le (length o.bytes) (most_bytes w.limits o.kind)) (fits o.list) (le-leb (length o.bytes) (most_bytes w.limits o.kind) (omega (arith, short, most)))
       (and_from (nat_le (length o.list) 64) (nat_le (count_by keeps o.list) 59) (le-leb (length o.list) 64 fit.list.all) (le-leb (count_by keeps o.list) 59 fit.list.kept)))
       (lt-ltb o.change w.next_tick fit.change))
       (lt-ltb o.stamp w.next_stamp (sound.stamped.below e.0 o.stamp (ap (option_map (λ (o : Object). o.stamp)) (present before e es is)))))
       (not_from_false (has_stamp before o.stamp) (unstamped before e es is)))
+
+  -- ---- the further parts of an object
+
+  module _ (before : List (ℕ × Object)) (e : ℕ × Object) (es : List (ℕ × Object)) (is : before ++ e ∷ es ≡ w.objects) where
+    -- the world with the first bytes of the object
+    abbrev held : List ℕ → Begun
+    held xs = so_far (before ++ (e.0, record e.1 { bytes = xs }) ∷ []) [] (e.0 + 1) 3
+
+    rising : Rises (λ (e : ℕ × Object). e.0) ROOT (before ++ e ∷ es) w.next_number
+    rising = numbers_rise (before ++ e ∷ es) is
+
+    fit_bytes : length e.1.bytes ≤ most_bytes w.limits e.1.kind
+    fit_bytes = (sound.fit e.0 e.1 (present before e es is)).bytes
+
+    of_world : (xs : List ℕ) → object (held xs).world e.0 ≡ Some (record e.1 { bytes = xs })
+    of_world xs = last_found ROOT w.next_number before e es (record e.1 { bytes = xs }) rising
+
+    rest_fits : (m offset : ℕ) → m ≤ offset → 1048576 ≤ offset → offset < length e.1.bytes → more_fits (held (take m e.1.bytes)) e.0 offset (piece e.1.bytes offset) ≡ true
+    rest_fits m offset le first within =
+        let file : e.1.kind ≡ File = long_file w.limits e.1.kind (length e.1.bytes) fit_bytes (omega (arith, first, within)) in
+        let most : length e.1.bytes ≤ w.limits.bytes = subst (λ k. length e.1.bytes ≤ most_bytes w.limits k) file fit_bytes in
+        let b = (held (take m e.1.bytes)).world in
+        let is_one : is_file_at b e.0 ≡ true = ap (λ (x : Option Object). option_map_or is_file (option_map (λ (o : Object). o.kind) x) false) (of_world (take m e.1.bytes)) ∙ ap is_file file in
+        let size : length (bytes_of b e.0) ≡ length (take m e.1.bytes) = ap (λ (x : Option Object). length (option_map_or (λ (o : Object). o.bytes) x [])) (of_world (take m e.1.bytes)) in
+        let few : length (take m e.1.bytes) ≤ m = took_few e.1.bytes m in
+        let all : offset + length (piece e.1.bytes offset) ≤ offset + (length e.1.bytes - offset) = length_within e.1.bytes offset in
+        and_from (is_file_at b e.0) (nat_le (length (bytes_of b e.0)) offset && nat_le (offset + length (piece e.1.bytes offset)) w.limits.bytes) is_one
+        (and_from (nat_le (length (bytes_of b e.0)) offset) (nat_le (offset + length (piece e.1.bytes offset)) w.limits.bytes)
+        (le-leb (length (bytes_of b e.0)) offset (omega (arith, size, few, le)))
+        (le-leb (offset + length (piece e.1.bytes offset)) w.limits.bytes (omega (arith, all, most, within))))
+
+    rest_put : (m offset : ℕ) → m ≤ offset → offset ≤ length e.1.bytes → IsHole e.1.bytes m offset → held (take (offset + PIECE) e.1.bytes) ≡ with_more (held (take m e.1.bytes)) e.0 offset (piece e.1.bytes offset)
+    rest_put m offset le within hole =
+        let put : List ℕ = written (take m e.1.bytes) offset (piece e.1.bytes offset) in
+        ap held (sym (put_on e.1.bytes m offset le within hole))
+        ∙ ap (λ (l : List (ℕ × Object)). so_far l [] (e.0 + 1) 3)
+        (sym (last_changed ROOT w.next_number before e es (record e.1 { bytes = take m e.1.bytes }) (λ o. record o { bytes = written o.bytes offset (piece e.1.bytes offset) }) rising))
+
+    -- the parts at the offsets from k pieces on, where the first m bytes are there and zeros follow up to those pieces
+    rests_taken : (n k m : ℕ) → k + n ≡ (length e.1.bytes - 1) / 1048576 + 1 → 1 ≤ k → m ≤ k * 1048576 → IsHole e.1.bytes m (k * 1048576) → (n ≡ 0 → length e.1.bytes ≤ m)
+        → TakesAll w.limits (Some (held (take m e.1.bytes))) (map (λ offset. rest_value e.0 offset (piece e.1.bytes offset)) (filter (has_part e.1.bytes) (map (λ k. k * PIECE) (range_with_len k n)))) (Some (held e.1.bytes))
+    rests_taken zero k m count one le hole all = ap (λ xs. Some (held xs)) (take_all m e.1.bytes (all refl))
+    rests_taken (suc n) k m count one le hole all =
+        let rest : List ℕ = filter (has_part e.1.bytes) (map (λ k. k * PIECE) (range_with_len (k + 1) n)) in
+        let within : k * 1048576 < length e.1.bytes = omega (arith, count, one) in
+        elim (has_part e.1.bytes (k * PIECE)) as (λ b. has_part e.1.bytes (k * PIECE) ≡ b
+        → TakesAll w.limits (Some (held (take m e.1.bytes))) (map (λ offset. rest_value e.0 offset (piece e.1.bytes offset)) (cond b (k * PIECE ∷ rest) rest)) (Some (held e.1.bytes))) [
+          | true ↦ λ _. (
+            held (take (k * PIECE + PIECE) e.1.bytes),
+            (rest_fits m (k * PIECE) le (omega (arith, one)) within, rest_put m (k * PIECE) le (omega (arith, within)) hole),
+            rests_taken n (k + 1) (k * PIECE + PIECE) (omega (arith, count)) (omega (arith, one)) (omega arith) (λ i from before. absurd (omega arith)) (λ none. omega (arith, none, count)),
+          )
+          | false ↦ λ no.
+              let out = skipped e.1.bytes (k * PIECE) no in
+              let more : k * 1048576 + 1048576 < length e.1.bytes = out.more in
+              rests_taken n (k + 1) m (omega (arith, count)) (omega (arith, one)) (omega (arith, le)) (λ i from before. ⊎_elim (λ (old : i < k * 1048576). hole i from old) (λ (new : k * 1048576 ≤ i). out.hole i new (omega (arith, before))) (cases_lt i (k * 1048576)))
+              (λ none. absurd (omega (arith, none, count, more)))
+        ] refl
+
+    rest_taken : TakesAll w.limits (Some (held (piece e.1.bytes 0))) (map (λ offset. rest_value e.0 offset (piece e.1.bytes offset)) (rest_offsets e.1.bytes)) (Some (held e.1.bytes))
+    rest_taken = rests_taken ((length e.1.bytes - 1) / 1048576) 1 PIECE (omega arith) (omega arith) (omega arith) (λ i from before. absurd (omega (arith, from, before))) (λ none. omega (arith, none))
+
+  takes_append : (xs ys : List (Value part)) (a : Option Begun) (b : Begun) (c : Option Begun) → TakesAll w.limits a xs (Some b) → TakesAll w.limits (Some b) ys c → TakesAll w.limits a (xs ++ ys) c
+  takes_append [] ys a b c first late = subst (λ (s : Option Begun). TakesAll w.limits s ys c) (sym first) late
+  takes_append (v ∷ xs) ys a b c (next, one, first) late = (next, one, takes_append xs ys (Some next) b c first late)
 
   -- ---- names
 
@@ -282,7 +386,7 @@ module _ (w : World) (sound : IsSound w) where
 
   record Ends (b : Begun) (left : List (Value part)) : Type 0 where
     begun : Begun
-    taken : TakesAll (Some b) left (Some begun)
+    taken : TakesAll w.limits (Some b) left (Some begun)
     world : begun.world ≡ w
 
   names_taken : (ns before : List Name) (number cookie : ℕ) → before ++ ns ≡ w.names → Rises (λ n. n.cookie) cookie ns w.next_cookie → Ends (so_far w.objects before number cookie) (map name_value ns)
@@ -299,14 +403,22 @@ module _ (w : World) (sound : IsSound w) where
         world = r.world;
       }
 
-  objects_taken : (es before : List (ℕ × Object)) (number : ℕ) → before ++ es ≡ w.objects → Rises (λ e. e.0) number es w.next_number → Ends (so_far before [] number 3) (map (λ e. object_value e.0 e.1) es ++ map name_value w.names)
+  objects_taken : (es before : List (ℕ × Object)) (number : ℕ) → before ++ es ≡ w.objects → Rises (λ e. e.0) number es w.next_number → Ends (so_far before [] number 3) (flat_map (λ e. object_parts e.0 e.1) es ++ map name_value w.names)
   objects_taken [] before number is rises =
       subst (λ (l : List (ℕ × Object)). Ends (so_far l [] number 3) (map name_value w.names)) (sym (sym (append-nil before) ∙ is)) (names_taken w.names [] number 3 refl sound.listed)
   objects_taken (e ∷ es) before number is rises =
       let r = objects_taken es (before ++ e ∷ []) (e.0 + 1) (append_assoc before (e ∷ []) es ∙ is) rises.1 in
+      let rests : List (Value part) = map (λ offset. rest_value e.0 offset (piece e.1.bytes offset)) (rest_offsets e.1.bytes) in
+      let others : List (Value part) = flat_map (λ e. object_parts e.0 e.1) es in
+      let names : List (Value part) = map name_value w.names in
       record {
         begun = r.begun;
-        taken = (with_object (so_far before [] number 3) e.0 e.1, (e.0, e.1, refl, object_next before e es number is rises, refl), r.taken);
+        taken = (
+          with_object (so_far before [] number 3) e.0 (first_of e.1),
+          (e.0, first_of e.1, refl, object_next before e es number is rises, refl),
+          subst (λ (l : List (Value part)). TakesAll w.limits (Some (held before e es is (piece e.1.bytes 0))) l (Some r.begun)) (sym (append_assoc rests others names))
+              (takes_append rests (others ++ names) (Some (held before e es is (piece e.1.bytes 0))) (held before e es is e.1.bytes) (Some r.begun) (rest_taken before e es is) r.taken),
+        );
         world = r.world;
       }
 
@@ -363,7 +475,7 @@ module _ (w : World) (sound : IsSound w) where
       sound.counted.numbers sound.counted.ticks sound.counted.stamps sound.counted.cookies) in
       record {
         begun = r.begun;
-        taken = (begun w.limits w.next_number w.next_tick w.next_stamp w.next_cookie, (fit, ap (λ (l : Limits). begun l w.next_number w.next_tick w.next_stamp w.next_cookie) sound.allowed.profile), r.taken);
+        taken = (begun w.limits w.next_number w.next_tick w.next_stamp w.next_cookie, (fit, refl), r.taken);
         same = r.world;
         whole = ap is_whole r.world ∙ whole;
       }

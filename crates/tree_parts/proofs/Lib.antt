@@ -2,4 +2,5 @@ pub mod Listing
 pub mod Telling
 pub mod Writing
 pub mod Refusing
+pub mod Pieces
 pub mod Again

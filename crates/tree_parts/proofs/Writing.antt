@@ -1,43 +1,28 @@
 -- The parts of a tree as they are written, and as they are taken again.
-use Rattle.std.proofs.Common.{◌≡◌, ℕ, ◌≤◌, true, false, List, [], length, refl, ap, sym, ◌∙◌, subst, arith, Some, Ok, Err, inl, inr}
+use Rattle.std.proofs.Common.{◌≡◌, ℕ, true, false, List, [], refl, ap, sym, ◌∙◌, subst, Some, Ok, Err, inl, inr}
 use Rattle.std.specs.Prelude.{Option, Result, IfSome, IfOk}
 use Rattle.std.specs.Option.{option_map_or}
 use Rattle.acl_list.specs.declared.entry.Kind.{Kind}
-use Rattle.acl_list.specs.declared.entry.Kind.TheVariants as kinds
 use Rattle.acl_list.specs.declared.entry.Entry.{Entry}
 use Rattle.nfs_types.specs.declared.moment.Moment.{Moment}
 use Rattle.node_tree.specs.World.{World, Object, Name, object, bytes_of}
-use Rattle.node_tree.specs.Limits.{Limits, IsAllowed, standard}
-use Rattle.node_tree.specs.Sound.{IsSound, most_bytes}
-use Rattle.node_tree.specs.Restored.{Begun, with_object, with_name, object_fits, name_fits}
+use Rattle.nfs_types.specs.Limits.{Limits}
+use Rattle.node_tree.specs.Restored.{Begun, with_object, with_more, with_name, object_fits, more_fits, name_fits}
 use Rattle.node_tree.specs.declared.restoring.RestoreFault.{RestoreFault}
 use Rattle.node_tree.specs.declared.restoring.RestoreFault.TheVariants.{Unsound}
 use Rattle.tree_parts.specs.Forms as forms
 use Rattle.xdr_wire.specs.Xdr.{Value}
-use Rattle.tree_parts.specs.Parts.{object_value, name_value}
+use Rattle.tree_parts.specs.Parts.{object_value, name_value, rest_value, piece}
 use Rattle.tree_parts.specs.Taken.{Takes}
-
-most_standard : (k : Kind) → most_bytes standard k ≤ 1048576
-most_standard kinds.File = let goal : 1048576 ≤ 1048576 = omega arith in goal
-most_standard kinds.Directory = let goal : 0 ≤ 1048576 = omega arith in goal
-most_standard kinds.Link = let goal : 1024 ≤ 1048576 = omega arith in goal
-
-most : (l : Limits) → IsAllowed l → (k : Kind) → most_bytes l k ≤ 1048576
-most l allowed k = subst (λ (l : Limits). most_bytes l k ≤ 1048576) (sym allowed.profile) (most_standard k)
 
 -- the bytes of an object
 bytes_are : (w : World) (number : ℕ) (o : Object) → Some o ≡ object w number → bytes_of w number ≡ o.bytes
 bytes_are w number o is = ap (λ (x : Option Object). option_map_or (λ (o : Object). o.bytes) x []) (sym is)
 
-pub few_bytes : (w : World) → IsSound w → (number : ℕ) (o : Object) (bytes : List ℕ) → Some o ≡ object w number → bytes ≡ bytes_of w number → length bytes ≤ 1048576
-few_bytes w sound number o bytes is same =
-    let fit : length o.bytes ≤ most_bytes w.limits o.kind = (sound.fit number o (sym is)).bytes in
-    let le : most_bytes w.limits o.kind ≤ 1048576 = most w.limits sound.allowed o.kind in
-    let all : length bytes ≡ length o.bytes = ap length (same ∙ bytes_are w number o is) in
-    omega (arith, fit, le, all)
-
-pub of_object : (w : World) (number : ℕ) (o : Object) (bytes : List ℕ) (P : Object → Type 0) → Some o ≡ object w number → bytes ≡ bytes_of w number → P (record o { bytes = bytes }) → IfSome (object w number) P
-of_object w number o bytes P is same h = subst (λ (x : Option Object). IfSome x P) is (subst (λ (b : List ℕ). P (record o { bytes = b })) (same ∙ bytes_are w number o is) h)
+pub of_object : (w : World) (number : ℕ) (o : Object) (bytes : List ℕ) (P : Object → Type 0) → Some o ≡ object w number → bytes ≡ piece (bytes_of w number) 0 → P (record o { bytes = bytes }) → IfSome (object w number) (λ o. P (record o { bytes = piece o.bytes 0 }))
+of_object w number o bytes P is same h =
+    subst (λ (x : Option Object). IfSome x (λ (o : Object). P (record o { bytes = piece o.bytes 0 }))) is
+    (subst (λ (b : List ℕ). P (record o { bytes = b })) (same ∙ ap (λ (b : List ℕ). piece b 0) (bytes_are w number o is)) h)
 
 -- objects with the same fields are equal
 pub same_object : (o p : Object) → o.kind ≡ p.kind → o.bytes ≡ p.bytes → o.owner ≡ p.owner → o.group ≡ p.group → o.list ≡ p.list → o.high ≡ p.high → o.change ≡ p.change → o.time_modify ≡ p.time_modify → o.time_metadata ≡ p.time_metadata → o.stamp ≡ p.stamp → o ≡ p
@@ -56,16 +41,24 @@ same_object o p kind_is bytes_is owner_is group_is list_is high_is change_is tim
 -- ---- what is taken
 
 pub object_taken : (r : Result Begun RestoreFault) (old : Begun) (number : ℕ) (o : Object) (v : Value forms.new_object) (last : _) → IfOk r (λ b. b ≡ with_object old number o) → (object_fits old number o ≡ false → r ≡ Err Unsound)
-    → object_value number o ≡ inr (inl (number, (v, last))) → IfOk r (λ more. Takes (Some old) (inr (inl (number, (v, last)))) more)
-object_taken (Err e) old number o v last ok refused is = tt
-object_taken (Ok b) old number o v last ok refused is = (number, o, is, fits, ok)
+    → object_value number o ≡ inr (inl (number, (v, last))) → (l : Limits) → IfOk r (λ more. Takes l (Some old) (inr (inl (number, (v, last)))) more)
+object_taken (Err e) old number o v last ok refused is l = tt
+object_taken (Ok b) old number o v last ok refused is l = (number, o, is, fits, ok)
   where
     fits : object_fits old number o ≡ true
     fits = elim (object_fits old number o) as (λ t. object_fits old number o ≡ t → t ≡ true) [ true ↦ λ _. refl | false ↦ λ no. let f : Ok b ≡ Err Unsound = refused no in cc ] refl
 
-pub name_taken : (r : Result Begun RestoreFault) (old : Begun) (n : Name) → IfOk r (λ b. b ≡ with_name old n) → (name_fits old n ≡ false → r ≡ Err Unsound) → IfOk r (λ more. Takes (Some old) (name_value n) more)
-name_taken (Err e) old n ok refused = tt
-name_taken (Ok b) old n ok refused = (n, refl, fits, ok)
+pub name_taken : (r : Result Begun RestoreFault) (old : Begun) (n : Name) → IfOk r (λ b. b ≡ with_name old n) → (name_fits old n ≡ false → r ≡ Err Unsound) → (l : Limits) → IfOk r (λ more. Takes l (Some old) (name_value n) more)
+name_taken (Err e) old n ok refused l = tt
+name_taken (Ok b) old n ok refused l = (n, refl, fits, ok)
   where
     fits : name_fits old n ≡ true
     fits = elim (name_fits old n) as (λ t. name_fits old n ≡ t → t ≡ true) [ true ↦ λ _. refl | false ↦ λ no. let f : Ok b ≡ Err Unsound = refused no in cc ] refl
+
+pub rest_taken : (r : Result Begun RestoreFault) (old : Begun) (number offset : ℕ) (bytes : List ℕ) → IfOk r (λ b. b ≡ with_more old number offset bytes) → (more_fits old number offset bytes ≡ false → r ≡ Err Unsound)
+    → (l : Limits) → IfOk r (λ more. Takes l (Some old) (rest_value number offset bytes) more)
+rest_taken (Err e) old number offset bytes ok refused l = tt
+rest_taken (Ok b) old number offset bytes ok refused l = (fits, ok)
+  where
+    fits : more_fits old number offset bytes ≡ true
+    fits = elim (more_fits old number offset bytes) as (λ t. more_fits old number offset bytes ≡ t → t ≡ true) [ true ↦ λ _. refl | false ↦ λ no. let f : Ok b ≡ Err Unsound = refused no in cc ] refl

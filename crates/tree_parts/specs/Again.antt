@@ -8,6 +8,6 @@ use Rattle.tree_parts.specs.Taken.{TakesAll}
 -- all parts of the world are taken, and the result is the complete world
 pub record IsTakenAgain (w : World) : Type 0 where
   pub begun : Begun
-  pub taken : TakesAll None (parts w) (Some begun)
+  pub taken : TakesAll w.limits None (parts w) (Some begun)
   pub same : begun.world ≡ w
   pub whole : is_whole begun.world ≡ true

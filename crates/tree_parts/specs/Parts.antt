@@ -1,10 +1,12 @@
 -- The XDR forms of the parts of a checkpoint (RFC 4506): the counters of a world, its objects and its names.
-use Rattle.std.specs.Prelude.{ℕ, List, [], ◌∷◌, ◌++◌, map, None}
+use Rattle.std.specs.Prelude.{ℕ, ◌+◌, ◌-◌, ◌*◌, ◌/◌, ◌==◌, Bool, ◌||◌, not, nat_le, List, [], ◌∷◌, ◌++◌, length, map}
+use Rattle.std.specs.Prelude.{filter, take, drop, None}
+use Rattle.std.specs.List.{flat_map, list_all, range_with_len}
 use Rattle.std.proofs.Common.{inl, inr}
 use Rattle.nfs_types.specs.Forms.{time}
 use Rattle.nfs_types.specs.MomentView.{moment_value}
 use Rattle.node_tree.specs.World.{World, Object, Name}
-use Rattle.tree_parts.specs.Forms.{new_object, name, entry, object_kind_value, list_value}
+use Rattle.tree_parts.specs.Forms.{new_object, name, bytes, entry, object_kind_value, list_value}
 use Rattle.xdr_wire.specs.Xdr.{Xdr, Value, hyper, union, arm, no_more, fields}
 use Rattle.xdr_wire.specs.Wire.{array_values}
 use Rattle.tree_parts.specs.declared.part.WrittenPart.{WrittenPart}
@@ -22,8 +24,12 @@ object = fields (hyper ∷ new_object ∷ hyper ∷ time ∷ time ∷ hyper ∷ 
 abbrev pub entry_name : Xdr
 entry_name = fields (hyper ∷ hyper ∷ name ∷ hyper ∷ [])
 
+-- a number, an offset, and the bytes at that offset
+abbrev pub rest : Xdr
+rest = fields (hyper ∷ hyper ∷ bytes ∷ [])
+
 abbrev pub part : Xdr
-part = union (arm 0 counters (arm 1 object (arm 2 entry_name no_more)))
+part = union (arm 0 counters (arm 1 object (arm 2 entry_name (arm 3 rest no_more))))
 
 -- ---- values
 
@@ -43,9 +49,43 @@ object_value number o =
 abbrev pub name_value : Name → Value part
 name_value n = inr (inr (inl (n.cookie, (n.directory, (n.name, n.child)))))
 
+abbrev pub rest_value : (number offset : ℕ) → List ℕ → Value part
+rest_value number offset bytes = inr (inr (inr (inl (number, (offset, bytes)))))
+
+-- ---- the bytes of a long file
+
+-- the most bytes of a file that one part has
+abbrev pub PIECE : ℕ
+PIECE = 1048576
+
+-- the bytes of a file that the part at an offset has
+abbrev pub piece : List ℕ → ℕ → List ℕ
+piece bytes offset = take PIECE (drop offset bytes)
+
+-- Whether there is a part at an offset. A part of zeros is left out, unless it is the last one, which gives the file
+-- its size.
+abbrev pub has_part : List ℕ → ℕ → Bool
+has_part bytes offset = nat_le (length bytes) (offset + PIECE) || not (list_all (λ b. b == 0) (piece bytes offset))
+
+-- the offsets of the parts after the first one
+abbrev pub rest_offsets : List ℕ → List ℕ
+rest_offsets bytes = filter (has_part bytes) (map (λ k. k * PIECE) (range_with_len 1 ((length bytes - 1) / PIECE)))
+
+-- ---- all parts
+
+-- the first part of an object
+abbrev pub first_value : ℕ → Object → Value part
+first_value number o = object_value number (record o { bytes = piece o.bytes 0 })
+
+-- the parts of an object
+abbrev pub object_parts : ℕ → Object → List (Value part)
+object_parts number o =
+    first_value number o
+    ∷ map (λ offset. rest_value number offset (piece o.bytes offset)) (rest_offsets o.bytes)
+
 -- the parts of a world, in the order of a checkpoint
 abbrev pub parts : World → List (Value part)
-parts w = counters_value w ∷ map (λ e. object_value e.0 e.1) w.objects ++ map name_value w.names
+parts w = counters_value w ∷ flat_map (λ e. object_parts e.0 e.1) w.objects ++ map name_value w.names
 
 -- the value of a part that was read
 abbrev pub written_part : WrittenPart → Value part
@@ -68,3 +108,4 @@ written_part (written.Object number new last) =
       ),
     ))
 written_part (written.Name cookie directory name child) = inr (inr (inl (cookie, (directory, (name.bytes.now, child)))))
+written_part (written.Rest number offset bytes) = inr (inr (inr (inl (number, (offset, bytes.bytes.now)))))

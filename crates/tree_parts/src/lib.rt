@@ -9,7 +9,7 @@ mod taking;
 pub use forms::{EntryForm, EntryKindForm, KindForm, ListForm, PrincipalForm};
 pub use laws::a_tree_is_taken_again;
 pub use part::{
-    PartFault, WrittenList, WrittenMoment, WrittenObject, WrittenPart, write_counters, write_name,
-    write_object,
+    PartFault, WrittenList, WrittenMoment, WrittenObject, WrittenPart, next_rest, write_counters,
+    write_name, write_object, write_rest,
 };
 pub use taking::take;

@@ -1,5 +1,5 @@
 //! The parts of a checkpoint in their encoded form.
-ghost use Rattle.std.specs.Prelude.{◌≡◌, ◌<◌, ◌≤◌, length, Err, OnOk, OnErr, IfOk, IfSome, IsSome};
+ghost use Rattle.std.specs.Prelude.{◌≡◌, ◌<◌, ◌≤◌, length, find, nat_lt, Err, OnOk, OnErr, IfOk, IfSome, IsSome};
 ghost use Rattle.xdr_wire.specs.Xdr.{HasSpelling, spelling};
 ghost use Rattle.xdr_wire.specs.Buffer.{Appends, Puts};
 ghost use Rattle.node_tree.specs.World.{object, bytes_of};
@@ -33,6 +33,8 @@ pub enum WrittenPart<'a> {
     Object(u64, WrittenObject<'a>, (u64, (WrittenMoment, (WrittenMoment, u64)))),
     /// A cookie, a directory, a name and a child.
     Name(u64, u64, Opaque<'a, 255>, u64),
+    /// A number, an offset, and the bytes at that offset.
+    Rest(u64, u64, Opaque<'a, 1_048_576>),
 }
 
 impl<'a> Spell for WrittenPart<'a> {
@@ -52,6 +54,9 @@ impl<'a> Spell for WrittenPart<'a> {
             WrittenPart::Name(cookie, directory, name, child) => {
                 (2u32, (cookie, (directory, (name, child)))).write(writer)
             }
+            WrittenPart::Rest(number, offset, bytes) => {
+                (3u32, (number, (offset, bytes))).write(writer)
+            }
         }
     }
 }
@@ -68,6 +73,10 @@ impl<'a> Wire<'a> for WrittenPart<'a> {
             2 => {
                 let (cookie, (directory, (name, child))) = Wire::read(&mut ahead)?;
                 WrittenPart::Name(cookie, directory, name, child)
+            }
+            3 => {
+                let (number, (offset, bytes)) = Wire::read(&mut ahead)?;
+                WrittenPart::Rest(number, offset, bytes)
             }
             _ => return Err(XdrFault::BadChoice),
         };
@@ -133,19 +142,32 @@ impl From<Full> for PartFault {
     }
 }
 
-/// The bytes of an object.
-fn bytes_of<A: Allocator + Copy>(
+/// The most bytes of a file that one part has.
+const PIECE: u64 = 1_048_576;
+
+/// The byte count of an object.
+fn size_of<A: Allocator + Copy>(tree: &Tree<A>, number: u64) -> u64
+    ensures { result ≡ length (bytes_of tree.now number) }
+{
+    match tree.object(number) {
+        Some(node) => node.size(),
+        None => 0,
+    }
+}
+
+/// The bytes of an object that the part at an offset has.
+fn piece_of<A: Allocator + Copy>(
     tree: &Tree<A>,
     alloc: A,
     number: u64,
-    size: usize,
+    offset: u64,
 ) -> Result<Vec<u8, A>, AllocError>
-    requires { size ≡ length (bytes_of tree.now number) }
-    ensures { IfOk result (λ bytes. bytes.items ≡ bytes_of tree.now number) }
+    ensures { IfOk result (λ bytes. bytes.items ≡ specs.piece (bytes_of tree.now number) offset) }
 {
+    let count = size_of(tree, number).saturating_sub(offset).min(PIECE);
     let mut bytes = Vec::new(alloc);
-    bytes.resize(size, 0)?;
-    tree.read(number, 0, &mut bytes);
+    bytes.resize(count as usize, 0)?;
+    tree.read(number, offset, &mut bytes);
     Ok(bytes)
 }
 
@@ -175,7 +197,7 @@ fn put_object<A: Allocator, B: Allocator>(
     (1u32, (number, (new, (node.change(), times)))).write(writer)
 }
 
-/// Writes the object of a number, which has one, in a form that is read again. `Full` only if it
+/// Writes the first part of the object of a number, which has one, in a form that is read again. `Full` only if it
 /// doesn't fit. After a fault nothing is written.
 pub fn write_object<A: Allocator + Copy, B: Allocator>(
     tree: &Tree<A>,
@@ -185,18 +207,71 @@ pub fn write_object<A: Allocator + Copy, B: Allocator>(
 ) -> Result<(), PartFault>
     requires { IsSome (object tree.now number) }
     ensures ok { OnOk result (IfSome (object tree.now number)
-        (λ o. Appends writer.old writer.new (spelling specs.part (specs.object_value number o)))) }
+        (λ o. Appends writer.old writer.new (spelling specs.part (specs.first_value number o)))) }
     ensures has_spelling { OnOk result (IfSome (object tree.now number)
-        (λ o. HasSpelling specs.part (specs.object_value number o))) }
+        (λ o. HasSpelling specs.part (specs.first_value number o))) }
     ensures full { result ≡ Err PartFault.Full →
         IfSome (object tree.now number) (λ o. writer.old.room <
-        length (spelling specs.part (specs.object_value number o))) }
+        length (spelling specs.part (specs.first_value number o))) }
     ensures err { OnErr result (writer.new ≡ writer.old) }
 {
     let Some(node) = tree.object(number) else {
         return Err(PartFault::Memory);
     };
-    let bytes = bytes_of(tree, alloc, number, node.size() as usize)?;
+    let bytes = piece_of(tree, alloc, number, 0)?;
     put_object(node, number, &bytes, writer)?;
+    Ok(())
+}
+
+/// The offset of the next part of an object after an offset. `None`: there is none.
+pub fn next_rest<A: Allocator + Copy>(tree: &Tree<A>, number: u64, at: u64) -> Option<u64>
+    ensures { result ≡ find (λ offset. nat_lt at offset) (specs.rest_offsets (bytes_of tree.now number)) }
+{
+    let last = size_of(tree, number).saturating_sub(1) / PIECE * PIECE;
+    if last <= at {
+        return None;
+    }
+    match tree.data_from(number, (at / PIECE + 1) * PIECE) {
+        Some(place) => Some(place / PIECE * PIECE),
+        None => Some(last),
+    }
+}
+
+/// Writes bytes of a file, with its number and their offset.
+fn put_rest<B: Allocator>(
+    number: u64,
+    offset: u64,
+    bytes: &[u8],
+    writer: &mut Writer<B>,
+) -> Result<(), Full>
+    requires { length bytes.now ≤ 1048576 }
+    ensures puts { Puts writer.old writer.new (spelling specs.part (specs.rest_value number offset bytes.now)) result }
+    ensures has_spelling { OnOk result (HasSpelling specs.part (specs.rest_value number offset bytes.now)) }
+{
+    let Some(bytes) = Opaque::<1_048_576>::new(bytes) else {
+        return Err(Full);
+    };
+    (3u32, (number, (offset, bytes))).write(writer)
+}
+
+/// Writes the part of an object at an offset, in a form that is read again. `Full` only if it doesn't fit. After a
+/// fault nothing is written.
+pub fn write_rest<A: Allocator + Copy, B: Allocator>(
+    tree: &Tree<A>,
+    alloc: A,
+    number: u64,
+    offset: u64,
+    writer: &mut Writer<B>,
+) -> Result<(), PartFault>
+    ensures ok { OnOk result (Appends writer.old writer.new
+        (spelling specs.part (specs.rest_value number offset (specs.piece (bytes_of tree.now number) offset)))) }
+    ensures has_spelling { OnOk result (HasSpelling specs.part
+        (specs.rest_value number offset (specs.piece (bytes_of tree.now number) offset))) }
+    ensures full { result ≡ Err PartFault.Full → writer.old.room < length
+        (spelling specs.part (specs.rest_value number offset (specs.piece (bytes_of tree.now number) offset))) }
+    ensures err { OnErr result (writer.new ≡ writer.old) }
+{
+    let bytes = piece_of(tree, alloc, number, offset)?;
+    put_rest(number, offset, &bytes, writer)?;
     Ok(())
 }

@@ -1,5 +1,6 @@
 //! The parts of a checkpoint, taken in order.
 ghost use Rattle.std.specs.Prelude.{◌≡◌, ℕ, None, Some, Err, IfOk, IfSome, IfNone};
+ghost use Rattle.nfs_types.specs.Limits as limits_of;
 ghost use Rattle.nfs_types.specs.MomentView.{moment_value};
 ghost use Rattle.nfs_types.specs.declared.moment.Moment.{Moment};
 ghost use Rattle.node_tree.specs.Restored.{Begun};
@@ -12,7 +13,8 @@ ghost use Rattle.tree_parts.specs.Taken.{Takes};
 use crate::forms::{EntryForm, KindForm};
 use crate::part::{WrittenList, WrittenMoment, WrittenObject, WrittenPart};
 use acl_list::AclList;
-use node_tree::{Kept, Limits, Moment, NewObject, RestoreFault, Restoring};
+use nfs_types::Limits;
+use node_tree::{Kept, Moment, NewObject, RestoreFault, Restoring};
 use std::alloc::{AllocError, Allocator};
 
 /// The moment, if it is one.
@@ -35,7 +37,8 @@ fn list_of<A: Allocator + Copy>(
     alloc: A,
     written: WrittenList<'_>,
 ) -> Result<AclList<A>, AllocError>
-    ensures { IfOk result (λ list. list_value list ≡ array_values entry None written.entry.count written.entry.bytes.now) }
+    ensures { IfOk result (λ list. list_value list ≡
+        array_values entry None written.entry.count written.entry.bytes.now) }
 {
     let mut left = written;
     let mut entries = Vec::new(alloc);
@@ -93,9 +96,10 @@ fn take_object<A: Allocator + Copy>(
     new: WrittenObject<'_>,
     last: (u64, (WrittenMoment, (WrittenMoment, u64))),
 ) -> Result<Restoring<A>, RestoreFault>
-    ensures ok { IfOk result (λ more. Takes (Some restoring) (written_part (WrittenPart.Object number new.entry last)) more) }
-    ensures unsound { result ≡ Err Unsound → (more : Begun) →
-        Takes (Some restoring) (written_part (WrittenPart.Object number new.entry last)) more → ⊥ }
+    ensures ok { (l : limits_of.Limits) → IfOk result (λ more.
+        Takes l (Some restoring) (written_part (WrittenPart.Object number new.entry last)) more) }
+    ensures unsound { result ≡ Err Unsound → (l : limits_of.Limits) (more : Begun) →
+        Takes l (Some restoring) (written_part (WrittenPart.Object number new.entry last)) more → ⊥ }
 {
     let Some(kept) = kept_of(last) else {
         return Err(RestoreFault::Unsound);
@@ -104,20 +108,21 @@ fn take_object<A: Allocator + Copy>(
     restoring.object(number, new, kept)
 }
 
-/// Takes the next part of a checkpoint. The counters come first. The objects come by rising number
-/// and the names by rising cookie, and each object comes before its names. `Unsound`: it can't be
-/// taken after the parts before it.
+/// Takes the next part of a checkpoint of a tree with these limits. The counters come first. The objects come by rising
+/// number and the names by rising cookie, and each object comes before its further parts and its names. `Unsound`: it
+/// can't be taken after the parts before it.
 pub fn take<A: Allocator + Copy>(
     alloc: A,
+    limits: Limits,
     so_far: Option<Restoring<A>>,
     part: WrittenPart<'_>,
 ) -> Result<Restoring<A>, RestoreFault>
-    ensures ok { IfOk result (λ more. Takes so_far (written_part part.entry) more) }
-    ensures unsound { result ≡ Err Unsound → (more : Begun) → Takes so_far (written_part part.entry) more → ⊥ }
+    ensures ok { IfOk result (λ more. Takes limits so_far (written_part part.entry) more) }
+    ensures unsound { result ≡ Err Unsound → (more : Begun) → Takes limits so_far (written_part part.entry) more → ⊥ }
 {
     match (so_far, part) {
         (None, WrittenPart::Counters((number, (tick, (stamp, cookie))))) => {
-            match Restoring::begin(alloc, Limits::standard(), number, tick, stamp, cookie) {
+            match Restoring::begin(alloc, limits, number, tick, stamp, cookie) {
                 Some(restoring) => Ok(restoring),
                 None => Err(RestoreFault::Unsound),
             }
@@ -127,6 +132,9 @@ pub fn take<A: Allocator + Copy>(
         }
         (Some(restoring), WrittenPart::Name(cookie, directory, name, child)) => {
             restoring.name(cookie, directory, name.bytes, child)
+        }
+        (Some(restoring), WrittenPart::Rest(number, offset, bytes)) => {
+            restoring.more(number, offset, bytes.bytes)
         }
         _ => Err(RestoreFault::Unsound),
     }

@@ -3,6 +3,7 @@ use Rattle.std.specs.Prelude.{◌≡◌, List, [], Option, None, Result, Ok, Err
 use Rattle.xdr_wire.specs.Xdr.{Value}
 use Rattle.xdr_wire.specs.Reading.{read_at}
 use Rattle.store_journal.specs.Disk.{Bytes}
+use Rattle.nfs_types.specs.Limits.{Limits}
 use Rattle.who_book.specs.Content.{Content}
 use Rattle.who_book.specs.Document.{book_from}
 use Rattle.who_book.specs.declared.fault.BookFault.{BookFault}
@@ -13,8 +14,8 @@ use Rattle.tree_parts.specs.Parts.{part}
 use Rattle.tree_parts.specs.Taken.{Takes}
 use Rattle.checkpoint.specs.declared.fault.CheckpointFault.{CheckpointFault}
 use Rattle.checkpoint.specs.declared.fault.CheckpointFault.TheVariants.{Profile, Corrupt, Memory}
-use Rattle.checkpoint.specs.Head.{IsText, StatesBook, NamesOther}
-use Rattle.checkpoint.specs.Holds.{AppliesWhole, BeginsClients, Restores}
+use Rattle.checkpoint.specs.Head.{IsText, HeadStates, NamesOther}
+use Rattle.checkpoint.specs.Holds.{AppliesWhole, AppliesParts, Restores}
 
 -- the book of a text is read, or an allocation fails, or the text is no book
 abbrev pub ReadsBook : Option Bytes → Result Content CheckpointFault → Type 0
@@ -30,10 +31,11 @@ BookGives text (Err Profile) = ⊥
 BookGives text (Err Corrupt) = (book : Content) → IsText text → book_from text ≡ Ok book → ⊥
 BookGives text (Err Memory) = Unit {0}
 
-abbrev pub HeadGives : Bytes → Result Content CheckpointFault → Type 0
-HeadGives bytes (Ok book) = StatesBook bytes book
+abbrev pub HeadGives : Bytes → Result (Limits × Content) CheckpointFault → Type 0
+HeadGives bytes (Ok found) = HeadStates bytes found.0 found.1
 HeadGives bytes (Err Profile) = NamesOther bytes
-HeadGives bytes (Err Corrupt) = ((book : Content) → StatesBook bytes book → ⊥) × (NamesOther bytes → ⊥)
+HeadGives bytes (Err Corrupt) =
+    ((limits : Limits) (book : Content) → HeadStates bytes limits book → ⊥) × (NamesOther bytes → ⊥)
 HeadGives bytes (Err Memory) = NamesOther bytes → ⊥
 
 -- the result of a step: it holds, or it never does; or an allocation fails
@@ -47,17 +49,18 @@ abbrev pub ApplyingWholeGives : ClientState → Bytes → Result (Unit {0}) Chec
 ApplyingWholeGives old bytes result new =
     StepGives (λ done. AppliesWhole old bytes new) ((clients : ClientState) → AppliesWhole old bytes clients → ⊥) result
 
-abbrev pub BeginningClientsGives : Bytes → Bytes → Bytes → Result ClientState CheckpointFault → Type 0
-BeginningClientsGives first second third result =
-    StepGives (BeginsClients first second third) ((clients : ClientState) → BeginsClients first second third clients → ⊥) result
+abbrev pub ApplyingPartsGives : ClientState → List Bytes → Result ClientState CheckpointFault → Type 0
+ApplyingPartsGives old parts result =
+    StepGives (AppliesParts old parts) ((clients : ClientState) → AppliesParts old parts clients → ⊥) result
 
 -- these bytes are the next part, without a rest
-abbrev pub TakesBytes : Option Begun → Bytes → Begun → Type 0
-TakesBytes so_far bytes more = (v : Value part) × (read_at part bytes ≡ Ok (v, [])) × Takes so_far v more
+abbrev pub TakesBytes : Limits → Option Begun → Bytes → Begun → Type 0
+TakesBytes limits so_far bytes more = (v : Value part) × (read_at part bytes ≡ Ok (v, [])) × Takes limits so_far v more
 
-abbrev pub TakingGives : Option Begun → Bytes → Result Begun CheckpointFault → Type 0
-TakingGives so_far bytes result =
-    StepGives (TakesBytes so_far bytes) ((more : Begun) → TakesBytes so_far bytes more → ⊥) result
+abbrev pub TakingGives : Limits → Option Begun → Bytes → Result Begun CheckpointFault → Type 0
+TakingGives limits so_far bytes result =
+    StepGives (TakesBytes limits so_far bytes) ((more : Begun) → TakesBytes limits so_far bytes more → ⊥) result
 
-abbrev pub RestoringGives : List Bytes → Result World CheckpointFault → Type 0
-RestoringGives parts result = StepGives (Restores None parts) ((w : World) → Restores None parts w → ⊥) result
+abbrev pub RestoringGives : Limits → List Bytes → Result World CheckpointFault → Type 0
+RestoringGives limits parts result =
+    StepGives (Restores limits None parts) ((w : World) → Restores limits None parts w → ⊥) result

@@ -3,7 +3,7 @@
 use Rattle.std.specs.Prelude.{ℕ, List, [], ◌∷◌}
 use Rattle.acl_list.specs.declared.entry.Kind.{Kind}
 use Rattle.acl_list.specs.declared.entry.Kind.TheVariants.{File, Directory}
-use Rattle.node_tree.specs.Limits.{standard}
+use Rattle.nfs_types.specs.Limits.{standard}
 use Rattle.node_tree.specs.World.{World, Object}
 use Rattle.node_tree.specs.Changes.{new_object, from_start}
 

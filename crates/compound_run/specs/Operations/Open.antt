@@ -22,13 +22,12 @@ use Rattle.nfs_ops.specs.Parts.{open_owner, how_of, claim_of, set_of, values_of}
 use Rattle.nfs_ops.specs.declared.OpKind.TheVariants as kinds
 use Rattle.nfs_ops.specs.Rows.{row}
 use Rattle.nfs_ops.specs.Results.{Done}
-use Rattle.node_tree.specs.Limits.{Limits}
+use Rattle.nfs_types.specs.Limits.{Limits}
 use Rattle.node_tree.specs.World.{World}
 use Rattle.node_tree.specs.Changes.{resized, with_new, with_size}
 use Rattle.node_tree.specs.Refusals.{has_left}
 use Rattle.access_rows.specs.Rows.{is_creating, is_truncating}
 use Rattle.compound_run.specs.declared.filehandles.FileHandles.{FileHandles}
-use Rattle.compound_run.specs.Limits.{MAX_OPENS}
 use Rattle.compound_run.specs.Realm.{Realm, Opened}
 use Rattle.compound_run.specs.Context.{Context}
 use Rattle.compound_run.specs.Sight.{Sight, whole, child, kind_at}
@@ -251,7 +250,7 @@ has_file_space c v directory (Some file) s = if truncates c v then has_left s.ne
 -- one more open fits
 abbrev pub has_open_space : Option Opened → Sight → Bool
 has_open_space (Some o) s = true
-has_open_space None s = nat_lt (length s.opens) MAX_OPENS && has_left s.next_open
+has_open_space None s = nat_lt (length s.opens) s.limits.opens && has_left s.next_open
 
 abbrev pub has_space_for : Context → Value open_args → ℕ → Option ℕ → Sight → Bool
 has_space_for c v directory file s = has_file_space c v directory file s && has_open_space (joined c v file s.opens) s

@@ -18,7 +18,7 @@ use Rattle.nfs_ops.specs.declared.OpKind.TheVariants as kinds
 use Rattle.nfs_ops.specs.Rows.{row}
 use Rattle.nfs_ops.specs.Results.{Done}
 use Rattle.node_tree.specs.declared.at.At.{At}
-use Rattle.node_tree.specs.Limits.{Limits}
+use Rattle.nfs_types.specs.Limits.{Limits}
 use Rattle.node_tree.specs.World.{World, Object, object, kind_of}
 use Rattle.node_tree.specs.Changes.{with_size, with_list, with_owner}
 use Rattle.node_tree.specs.Refusals.{has_left, resize_refusal}

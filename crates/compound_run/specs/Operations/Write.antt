@@ -10,7 +10,7 @@ use Rattle.nfs_ops.specs.declared.OpKind.TheVariants as kinds
 use Rattle.nfs_ops.specs.Rows.{row}
 use Rattle.nfs_ops.specs.Results.{Done}
 use Rattle.nfs_ops.specs.Views.{zeros_value}
-use Rattle.node_tree.specs.Limits.{Limits}
+use Rattle.nfs_types.specs.Limits.{Limits}
 use Rattle.node_tree.specs.Changes.{with_write}
 use Rattle.node_tree.specs.Refusals.{has_left, write_refusal}
 use Rattle.compound_run.specs.declared.filehandles.FileHandles.{FileHandles}

@@ -9,7 +9,7 @@ use call_store::{MACHINE, Opened, Store, StoreFault, open};
 use checkpoint::write_checkpoint;
 use linked_list_allocator::LocalHeap;
 use nfs_hub::{ConnId, Hub};
-use nfs_types::Moment;
+use nfs_types::{Limits, Moment};
 use std::alloc::{AllocError, Allocator, Global};
 use std::hash::RandomState;
 use std::process::Abort;
@@ -134,7 +134,8 @@ impl<'a> Run<'a> {
         seed: u64,
         seen: Seen,
     ) -> Result<Self, Wrong> {
-        let Ok(mut hub) = Hub::lasting(heap, Book::default(alloc), hasher) else {
+        let Ok(mut hub) = Hub::lasting(heap, Limits::standard(), Book::default(alloc), hasher)
+        else {
             return Err(Wrong("no hub"));
         };
         hub.begin_log();

@@ -5,6 +5,7 @@ use crate::image::Image;
 use crate::memory::{Memory, left_of};
 use call_store::{MACHINE, Opened, Store, StoreFault, open};
 use nfs_hub::Hub;
+use nfs_types::Limits;
 use node_tree::Tree;
 use std::alloc::{AllocError, Global};
 use std::hash::RandomState;
@@ -90,7 +91,7 @@ impl Play {
 
 /// A hub with an empty book and persistent sessions.
 pub(crate) fn lasting(alloc: Global, hasher: RandomState) -> Option<Hub> {
-    let mut hub = Hub::lasting(alloc, Book::default(alloc), hasher).ok()?;
+    let mut hub = Hub::lasting(alloc, Limits::standard(), Book::default(alloc), hasher).ok()?;
     hub.begin_log();
     Some(hub)
 }

@@ -8,6 +8,8 @@ mod heap;
 #[cfg(test)]
 mod memory;
 #[cfg(test)]
+mod office;
+#[cfg(test)]
 mod rot;
 #[cfg(test)]
 mod servers;

@@ -5,13 +5,14 @@ use crate::memory::Memory;
 use acl_list::{AclList, Kind};
 use checkpoint::{CheckpointFault, Found, read};
 use compound_run::{ClientState, Lent, Server};
+use nfs_types::Limits;
 use node_tree::{At, Moment, NewObject, ROOT, Tree};
 use std::alloc::{AllocError, Allocator, Global};
 use std::hash::RandomState;
 use std::num::NonZeroUsize;
 use std::test::Fail;
 use store_journal::{Current, Identity, Journal, choose, load};
-use tree_parts::{write_counters, write_name, write_object};
+use tree_parts::{next_rest, write_counters, write_name, write_object, write_rest};
 use who_book::Book;
 use xdr_wire::Writer;
 
@@ -22,7 +23,11 @@ pub(crate) const BOOK: &str =
 /// The machine's number in the checkpoints.
 pub(crate) const MACHINE: u64 = 9;
 
-fn at<A: Allocator + Copy>(tree: &Tree<A>) -> At {
+/// The most bytes of a file that one part has.
+const PIECE: u64 = 1_048_576;
+
+/// The time of the next change.
+pub(crate) fn at<A: Allocator + Copy>(tree: &Tree<A>) -> At {
     At {
         tick: tree.next_tick(),
         moment: Moment {
@@ -69,7 +74,7 @@ fn tree_of<A: Allocator + Copy>(alloc: A) -> Option<Tree<A>> {
 
 /// Three clients, two of them with a session; calls on three slots, and two open files. A third file was closed.
 fn client_state_of<A: Allocator + Copy>(alloc: A) -> Option<ClientState<A>> {
-    let mut clients = ClientState::nothing(alloc);
+    let mut clients = ClientState::nothing(alloc, Limits::standard());
     let change_clients = exchange(&mut clients, b"early") == Some(1)
         && after_steps(&mut clients, b"alice") == Some(1)
         && after_steps(&mut clients, b"bob") == Some(2)
@@ -118,6 +123,30 @@ pub(crate) fn journal() -> Journal {
     Journal::new(Current::new(identity, 4))
 }
 
+/// Appends all parts of an object.
+fn put_object<A: Allocator + Copy>(
+    own: A,
+    tree: &Tree<A>,
+    number: u64,
+    writer: &mut Writer<Global>,
+) -> Result<(), AllocError> {
+    if let Some(node) = tree.object(number) {
+        writer.make_room(node.size().min(PIECE) as usize + 4096)?;
+    }
+    if write_object(tree, own, number, writer).is_err() {
+        return Err(AllocError);
+    }
+    let mut at = 0;
+    while let Some(offset) = next_rest(tree, number, at) {
+        writer.make_room(PIECE as usize + 4096)?;
+        if write_rest(tree, own, number, offset, writer).is_err() {
+            return Err(AllocError);
+        }
+        at = offset;
+    }
+    Ok(())
+}
+
 /// A tree, clients and a book, as bytes.
 fn picture<A: Allocator + Copy>(
     global: Global,
@@ -132,9 +161,7 @@ fn picture<A: Allocator + Copy>(
     }
     let mut at = 0;
     while let Some(number) = tree.number_after(at) {
-        if write_object(tree, own, number, &mut writer).is_err() {
-            return Err(AllocError);
-        }
+        put_object(own, tree, number, &mut writer)?;
         at = number;
     }
     let mut at = 0;

@@ -2,11 +2,10 @@
 
 use crate::clients::{CHANNEL, picture_of};
 use crate::script::clients_after;
-use client_parts::{
-    ChangeFault, WrittenChange, apply_changes, are_same, write_calls, write_clients,
-};
+use client_parts::{ChangeFault, WrittenChange, apply_changes, are_same, write_clients};
 use compound_run::ClientState;
 use linked_list_allocator::LocalHeap;
+use nfs_types::Limits;
 use session_slots::{Channel, Created, Creation, Held};
 use std::alloc::{AllocError, Allocator, Global};
 use std::process::Abort;
@@ -95,7 +94,7 @@ fn applied<A: Allocator + Copy>(
     own: A,
     bytes: &[u8],
 ) -> Result<(ClientState<A>, usize), ChangeFault> {
-    let mut client_state = ClientState::nothing(own);
+    let mut client_state = ClientState::nothing(own, Limits::standard());
     let mut reader = Reader::new(bytes);
     apply_changes(&mut client_state, own, &mut reader)?;
     Ok((client_state, reader.rest().len()))
@@ -171,14 +170,14 @@ fn client_state_is_written_like_this(rt: HostRuntime) -> Result<(), Fail> {
     let (client_state, _) = applied(alloc, &all)?;
     let now = client_state.lend();
     let clients = bytes_of(alloc, &[&NUMBERS, &RECORD, &SESSION, &OPEN])?;
-    assert_eq!(rt; write_clients(alloc, now)?.as_slice(), clients.as_slice());
-    let calls = bytes_of(alloc, &[&CALL])?;
     assert_eq!(rt;
-        write_calls(alloc, now, false)?.as_slice(),
-        calls.as_slice()
+        write_clients(alloc, now, 0)?.as_slice(),
+        clients.as_slice()
     );
+    let calls = bytes_of(alloc, &[&CALL])?;
+    assert_eq!(rt; write_clients(alloc, now, 1)?.as_slice(), calls.as_slice());
     let none = bytes_of(alloc, &[])?;
-    assert_eq!(rt; write_calls(alloc, now, true)?.as_slice(), none.as_slice());
+    assert_eq!(rt; write_clients(alloc, now, 2)?.as_slice(), none.as_slice());
     Ok(())
 }
 
@@ -356,7 +355,7 @@ fn again<A: Allocator + Copy>(
     own: A,
     parts: &[&[u8]],
 ) -> Result<(ClientState<A>, usize), ChangeFault> {
-    let mut client_state = ClientState::nothing(own);
+    let mut client_state = ClientState::nothing(own, Limits::standard());
     let mut left = 0;
     for part in parts {
         let mut reader = Reader::new(part);
@@ -372,9 +371,9 @@ fn what_is_known_after_each_turn_is_read_again(rt: HostRuntime) -> Result<(), Fa
     for turn in 0..14u64 {
         let wanted = clients_after(alloc, turn)?;
         let now = wanted.lend();
-        let clients = write_clients(alloc, now)?;
-        let first = write_calls(alloc, now, false)?;
-        let second = write_calls(alloc, now, true)?;
+        let clients = write_clients(alloc, now, 0)?;
+        let first = write_clients(alloc, now, 1)?;
+        let second = write_clients(alloc, now, 2)?;
         let Ok((client_state, 0)) = again(alloc, &[&clients, &first, &second]) else {
             panic!(rt; "{turn}");
         };
@@ -422,9 +421,9 @@ fn in_heap(heap: &LocalHeap, parts: &[&[u8]; 3]) -> Result<u32, Fail> {
     };
     let now = client_state.lend();
     let written = [
-        write_clients(heap, now),
-        write_calls(heap, now, false),
-        write_calls(heap, now, true),
+        write_clients(heap, now, 0),
+        write_clients(heap, now, 1),
+        write_clients(heap, now, 2),
     ];
     let mut good = 1u32;
     for (given, wanted) in written.iter().zip(parts) {
@@ -442,9 +441,9 @@ fn growths_are_refused(rt: HostRuntime) -> Result<(), Fail> {
     let alloc = rt.alloc();
     let client_state = clients_after(alloc, 11)?;
     let now = client_state.lend();
-    let clients = write_clients(alloc, now)?;
-    let first = write_calls(alloc, now, false)?;
-    let second = write_calls(alloc, now, true)?;
+    let clients = write_clients(alloc, now, 0)?;
+    let first = write_clients(alloc, now, 1)?;
+    let second = write_clients(alloc, now, 2)?;
     let parts: [&[u8]; 3] = [&clients, &first, &second];
     let mut good = 0u32;
     let mut refused = 0u32;

@@ -2,6 +2,7 @@
 
 use crate::clients::{after_steps, call, exchange, opens};
 use compound_run::ClientState;
+use nfs_types::Limits;
 use std::alloc::{AllocError, Global};
 
 /// The changes of clients in a turn. Returns whether they had the expected results.
@@ -50,7 +51,7 @@ fn change_clients(
 
 /// The state of clients after `turns` turns.
 pub(crate) fn clients_after(alloc: Global, turns: u64) -> Result<ClientState<Global>, AllocError> {
-    let mut clients = ClientState::nothing(alloc);
+    let mut clients = ClientState::nothing(alloc, Limits::standard());
     for turn in 1..turns + 1 {
         if !change_clients(alloc, &mut clients, turn)? {
             return Err(AllocError);

@@ -68,12 +68,12 @@ static HOUSES: [House; 8] = [
         first: (16, 3),
     },
     House {
-        name: "more than sixteen places are sixteen",
+        name: "with more places than the hub's sixteen connections, nobody is closed for another",
         places: 40,
         peers: "s s s w s s s s s s s s s s s s u2",
         most: 16,
         sent: "00020000000000002",
-        first: (16, 3),
+        first: (4, 218),
     },
     House {
         name: "without a place nobody is admitted",

@@ -286,7 +286,12 @@ fn hub_over(alloc: Global, hasher: RandomState, talk: &mut Talk<'_>) -> Result<(
                 Some(current) => current,
                 None => Current::new(IDENTITY, MACHINE),
             };
-            let hub = Hub::lasting(alloc, Book::default(alloc), hasher)?;
+            let hub = Hub::lasting(
+                alloc,
+                nfs_types::Limits::standard(),
+                Book::default(alloc),
+                hasher,
+            )?;
             match Store::begin(talk, alloc, current, hub.server()) {
                 Ok(store) => Ok((hub, store)),
                 Err(_) => Err(Fail::new("the store doesn't begin")),

@@ -1,6 +1,7 @@
 //! Parts of a tree, and the tree that is restored from them.
 use acl_list::{AclList, Kind};
-use node_tree::{Kept, Limits, Moment, NewObject, ROOT, RestoreFault, Restoring, Tree};
+use nfs_types::Limits;
+use node_tree::{Kept, Moment, NewObject, ROOT, RestoreFault, Restoring, Tree};
 use std::alloc::Allocator;
 
 const AT: Moment = Moment {

@@ -5,7 +5,8 @@ ghost use Rattle.node_tree.specs.Sound.{IsTick};
 
 use acl_list::{AclList, Entry, EntryKind, Kind, Who};
 use acl_shape::is_bounded;
-use node_tree::{At, EPOCH, Limits, NewObject, Tree, TreeFault};
+use nfs_types::Limits;
+use node_tree::{At, EPOCH, NewObject, Tree, TreeFault};
 use std::alloc::{Allocator, Global};
 use std::test::Fail;
 

@@ -5,8 +5,8 @@ use acl_shape::{Given, created_permissions};
 use compound_run::ClientState;
 use log_entries::{CallEntry, Entries, Entry, count_entries};
 use nfs_hub::{Hub, ReplayFault, Restart};
-use nfs_types::Moment;
-use node_tree::{Limits, Tree};
+use nfs_types::{Limits, Moment};
+use node_tree::Tree;
 use std::alloc::{AllocError, Global};
 use std::hash::RandomState;
 use std::test::Fail;
@@ -84,7 +84,7 @@ fn replied(alloc: Global, hub: &mut Hub, compound: &[u32]) -> Result<Vec<u8>, Fa
 
 /// A hub with persistent sessions, which keeps a log and has run four calls; and the reply to MAKE.
 fn served(alloc: Global, hasher: RandomState) -> Result<(Hub, Vec<u8>), Fail> {
-    let Ok(mut hub) = Hub::lasting(alloc, Book::default(alloc), hasher) else {
+    let Ok(mut hub) = Hub::lasting(alloc, Limits::standard(), Book::default(alloc), hasher) else {
         return Err(Fail::new("no memory"));
     };
     hub.begin_log();
@@ -107,7 +107,7 @@ fn restart(alloc: Global, hasher: RandomState) -> Result<Restart, Fail> {
         alloc,
         alloc,
         root,
-        ClientState::nothing(alloc),
+        ClientState::nothing(alloc, Limits::standard()),
         Book::default(alloc),
         hasher,
     ) {

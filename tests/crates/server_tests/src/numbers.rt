@@ -18,7 +18,7 @@ fn faults_and_ends_are_numbered(rt: HostRuntime) {
     assert_eq!(rt; ServeEnd::Read as u8, 6);
     assert_eq!(rt; ServeEnd::Write as u8, 7);
     assert_eq!(rt; ServeEnd::Turns as u8, 8);
-    assert_eq!(rt; MAX_CONNECTIONS, 16);
+    assert_eq!(rt; MAX_CONNECTIONS, 256);
 }
 
 /// No epoch comes after 2^63.

@@ -3,7 +3,7 @@
 
 use compound_run::{ClientState, Open};
 use nfs_hub::{ConnId, Hub};
-use nfs_types::Moment;
+use nfs_types::{Limits, Moment};
 use node_tree::Tree;
 use session_slots::{Channel, Clients, Held, Record, RestoreFault};
 use std::alloc::{AllocError, Global};
@@ -98,11 +98,11 @@ fn granted(alloc: Global, mut hub: Hub) -> Result<Option<u32>, Fail> {
 fn persistence_is_granted_where_sessions_outlive_a_restart(rt: HostRuntime) -> Result<(), Fail> {
     let alloc = rt.alloc();
     let hasher = RandomState::new(&rt)?;
-    let lasting = Hub::lasting(alloc, Book::default(alloc), hasher)?;
+    let lasting = Hub::lasting(alloc, Limits::standard(), Book::default(alloc), hasher)?;
     assert_eq!(rt; granted(alloc, lasting)?, Some(1));
     let plain = Hub::new(alloc, Book::default(alloc), hasher)?;
     assert_eq!(rt; granted(alloc, plain)?, Some(0));
-    let nothing = ClientState::nothing(alloc);
+    let nothing = ClientState::nothing(alloc, Limits::standard());
     let restored = Hub::restored(
         alloc,
         Tree::sample(alloc)?,
@@ -135,7 +135,7 @@ fn sent_again(alloc: Global, mut hub: Hub) -> Result<[Option<u32>; 5], Fail> {
 fn the_highest_slot_of_a_call_sent_again(rt: HostRuntime) -> Result<(), Fail> {
     let alloc = rt.alloc();
     let hasher = RandomState::new(&rt)?;
-    let lasting = Hub::lasting(alloc, Book::default(alloc), hasher)?;
+    let lasting = Hub::lasting(alloc, Limits::standard(), Book::default(alloc), hasher)?;
     let statuses = sent_again(alloc, lasting)?;
     assert_eq!(rt;
         statuses,
@@ -164,7 +164,7 @@ fn the_highest_slot_of_a_call_sent_again(rt: HostRuntime) -> Result<(), Fail> {
 
 /// Client 5 with its session 9, and its open 3 of the file `notes`, which is object 2.
 fn client_state(alloc: Global) -> Result<ClientState, Fail> {
-    let mut clients = Clients::new(alloc);
+    let mut clients = Clients::new(alloc, Limits::standard());
     if !clients.restore_numbers(6, 10) {
         return Err(Fail::new("the next numbers don't fit"));
     }

@@ -5,6 +5,7 @@ mod crowd;
 mod examples;
 mod fixed;
 mod limits;
+mod long;
 mod memory;
 mod plain;
 mod steps;

@@ -3,7 +3,7 @@ use Rattle.compound_run.specs.ClientState.{opens_fit}
 use Rattle.compound_run.specs.State.{client_state_of}
 use Rattle.tree_parts.proofs.Again.{taken_again}
 use Rattle.checkpoint.specs.internal.Drafting.{draft_of, all_parts}
-use Rattle.checkpoint.proofs.Putting.{checkpoint_keeps, ended_checkpoint, size_is_counted, stopped_checkpoint}
+use Rattle.checkpoint.proofs.Putting.{checkpoint_keeps, ended_checkpoint, fits_all_the_same, size_is_counted, stopped_checkpoint}
 use Rattle.checkpoint.proofs.writing.write_checkpoint.Goals as goal
 
 pub returns-in_default-clause-writes : goal.returns-in_default-clause-writes
@@ -16,6 +16,13 @@ pub returns-in-Err-put_all-clause-writes : goal.returns-in-Err-put_all-clause-wr
 returns-in-Err-put_all-clause-writes g c =
     let all = all_parts c.tree-tree.result.now (draft_of c.in-Ok.draft) in
     inl (all, stopped_checkpoint g.D.Disk.adds c.args.journal.now c.begin.new.self c.put_all.new.journal all c.in-Err-put_all.fault c.args.disk.now c.begin.new.disk c.put_all.new.disk c.in-Ok-begin.ensures c.in-Err-put_all.ensures.ends)
+
+pub returns-in-Err-put_all-clause-unfit : goal.returns-in-Err-put_all-clause-unfit
+returns-in-Err-put_all-clause-unfit g c =
+    let s = c.args.server.now in
+    let w = c.tree-tree.result.now in
+    let fits : opens_fit s.realm.world (client_state_of s) ≡ true = search rules in
+    fits_all_the_same g.D.Disk.adds c.begin.new.self c.put_all.new.journal (all_parts w (draft_of c.in-Ok.draft)) c.in-Err-put_all.fault (opens_fit s.realm.world (client_state_of s)) c.begin.new.disk c.put_all.new.disk fits c.in-Err-put_all.ensures.ends
 
 pub returns-in-Ok-finish-clause-writes : goal.returns-in-Ok-finish-clause-writes
 returns-in-Ok-finish-clause-writes g c =

@@ -1,4 +1,4 @@
-use Rattle.std.proofs.Common.{◌≡◌, ◌<◌, length, true, false, subst, sym, ◌∙◌}
+use Rattle.std.proofs.Common.{◌≡◌, ◌<◌, true, false, subst, sym, ◌∙◌}
 use Rattle.client_parts.proofs.Alike.{same_at}
 use Rattle.client_parts.proofs.comparing.are_opens_same.Goals as goal
 

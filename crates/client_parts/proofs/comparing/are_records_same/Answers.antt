@@ -1,6 +1,6 @@
-use Rattle.std.proofs.Common.{◌≡◌, ◌≢◌, ℕ, ◌+◌, ◌<◌, ◌≤◌, refl, sym, ap, ◌∙◌, Some, None, IsTrue}
+use Rattle.std.proofs.Common.{◌≡◌, refl, sym, ap, ◌∙◌}
 use Rattle.session_slots.specs.Limits.{END}
-use Rattle.session_slots.specs.Registry.{Registry, client_at, session_at}
+use Rattle.session_slots.specs.Registry.{client_at}
 use Rattle.session_slots.specs.Restoring.{number_from}
 use Rattle.client_parts.specs.internal.Comparing.{first_of}
 use Rattle.client_parts.proofs.Alike.{clients_below}

@@ -1,10 +1,9 @@
-use Rattle.std.proofs.Common.{◌≡◌, ◌≢◌, ℕ, ◌+◌, ◌<◌, ◌≤◌, refl, sym, ap, ◌∙◌, Some, None, IsTrue}
+use Rattle.std.proofs.Common.{refl, sym, ap, ◌∙◌}
 use Rattle.session_slots.specs.Limits.{END}
-use Rattle.session_slots.specs.Registry.{Registry, client_at, session_at}
 use Rattle.session_slots.specs.Restoring.{number_from}
 use Rattle.client_parts.specs.Comparing.{IsSessionSame}
 use Rattle.client_parts.specs.internal.Comparing.{first_of}
-use Rattle.client_parts.proofs.Alike.{none_same, clients_below, sessions_below}
+use Rattle.client_parts.proofs.Alike.{none_same, sessions_below}
 use Rattle.client_parts.proofs.Walking.{none_further, none_before, next_number, walked, walked_all, more, smaller, fits}
 use Rattle.client_parts.proofs.comparing.are_sessions_same.Goals as goal
 

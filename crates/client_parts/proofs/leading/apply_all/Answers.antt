@@ -1,5 +1,5 @@
-use Rattle.std.proofs.Common.{◌≡◌, ℕ, suc, ◌-◌, ◌<◌, Err, ap, arith}
-use Rattle.client_parts.proofs.AppliedChanges.{applying_more, applying_not, applying_done, one_fewer}
+use Rattle.std.proofs.Common.{◌-◌}
+use Rattle.client_parts.proofs.AppliedChanges.{applying_more, applying_not, one_fewer}
 use Rattle.client_parts.proofs.leading.apply_all.Goals as goal
 
 pub loop-left-preserved : goal.loop-left-preserved

@@ -21,6 +21,7 @@ returns c =
     let ninth = c.in_ok-arg-9.ensures.shape c.store.ensures.1 ∙ ap₂ with_rule eighth c.store.ensures.0 in
     let tenth = c.in_ok-arg-10.ensures.shape c.leases.ensures.1 ∙ ap₂ with_rule ninth c.leases.ensures.0 in
     let eleventh = c.in_ok-arg-11.ensures.shape c.home.ensures.1 ∙ ap₂ with_rule tenth c.home.ensures.0 in
-    let twelfth = c.in_ok-arg-12.ensures.shape c.listen.ensures.1 ∙ ap₂ with_rule eleventh c.listen.ensures.0 in
-    let thirteenth = c.in_ok-arg-13.ensures.shape c.allow.ensures.1 ∙ ap₂ with_rule twelfth c.allow.ensures.0 in
-    c.in_ok-command.ensures.shape c.any_port.ensures.1 ∙ ap₂ with_rule thirteenth c.any_port.ensures.0
+    let twelfth = c.in_ok-arg-12.ensures.shape c.profile.ensures.1 ∙ ap₂ with_rule eleventh c.profile.ensures.0 in
+    let thirteenth = c.in_ok-arg-13.ensures.shape c.listen.ensures.1 ∙ ap₂ with_rule twelfth c.listen.ensures.0 in
+    let fourteenth = c.in_ok-arg-14.ensures.shape c.allow.ensures.1 ∙ ap₂ with_rule thirteenth c.allow.ensures.0 in
+    c.in_ok-command.ensures.shape c.any_port.ensures.1 ∙ ap₂ with_rule fourteenth c.any_port.ensures.0

@@ -1,13 +1,14 @@
-use Rattle.std.proofs.Common.{◌<◌, ◌∙◌, length}
+use Rattle.std.proofs.Common.{◌<◌, ◌≤◌, ◌∙◌, List, ℕ, length, subst, sym}
 use Rattle.xdr_wire.specs.Xdr.{HasSpelling, spelling}
 use Rattle.xdr_wire.specs.Buffer.{Appends}
-use Rattle.node_tree.specs.World.{Object}
+use Rattle.node_tree.specs.World.{Object, bytes_of}
 use Rattle.tree_parts.specs.Parts.{part, object_value}
-use Rattle.tree_parts.proofs.Writing.{few_bytes, of_object}
+use Rattle.tree_parts.proofs.Pieces.{length_piece}
+use Rattle.tree_parts.proofs.Writing.{of_object}
 use Rattle.tree_parts.proofs.part.write_object.Goals as goal
 
 pub put_object-requires-clause-bytes : goal.put_object-requires-clause-bytes
-put_object-requires-clause-bytes g c = few_bytes c.args.tree.now c.in-Some.ensures.sound c.args.number c.in-Some.node.now c.deref.result.now c.in-Some.ensures.value (c.deref.ensures.value ∙ c.in_ok-bytes.ensures)
+put_object-requires-clause-bytes g c = subst (λ (b : List ℕ). length b ≤ 1048576) (sym (c.deref.ensures.value ∙ c.in_ok-bytes.ensures)) (length_piece (bytes_of c.args.tree.now c.args.number) 0)
 
 pub returns-in_err-put_object-clause-full : goal.returns-in_err-put_object-clause-full
 returns-in_err-put_object-clause-full g c = λ is.

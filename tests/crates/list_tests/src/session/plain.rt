@@ -1,6 +1,6 @@
 //! The calls of `Clients` without their contracts, so that a test's proof doesn't carry them.
 
-use nfs_types::Status;
+use nfs_types::{Limits, Status};
 use rpc_record::{Caller, MOST_FURTHER};
 use session_slots::{
     Begin, CallBytes, Channel, Clients, Create, Exchange, Exchanged, Made, REPLY_HEADER, Sequence,
@@ -70,7 +70,7 @@ pub const CALL: Call<'static> = Call {
 };
 
 pub fn new<A: Allocator + Copy>(alloc: A) -> Clients<A> {
-    Clients::new(alloc)
+    Clients::new(alloc, Limits::standard())
 }
 
 pub fn confirmed_of<A: Allocator + Copy>(clients: &Clients<A>, owner: &[u8]) -> Option<u64> {

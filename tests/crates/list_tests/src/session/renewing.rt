@@ -1,7 +1,7 @@
 //! When a lease is renewed, and how long a client may be silent (RFC 8881, section 8.3).
 
 use crate::session::plain::{ALICE, creation, exchange};
-use nfs_types::Status;
+use nfs_types::{Limits, Status};
 use rpc_record::Caller;
 use session_slots::{Begin, CallBytes, Clients, Exchange, Sequence};
 use std::alloc::Global;
@@ -11,7 +11,7 @@ const LEASE: u64 = 90;
 
 /// Client 1 with its session 1 of one slot, whose lease was renewed in second 100.
 fn renewed_at_100(alloc: Global) -> Clients {
-    let mut clients = Clients::new(alloc);
+    let mut clients = Clients::new(alloc, Limits::standard());
     let _ = exchange(&mut clients, Exchange { now: 100, ..ALICE });
     let _ = clients.create_session(creation(1, 1));
     clients

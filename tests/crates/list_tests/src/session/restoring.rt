@@ -1,7 +1,7 @@
 //! Clients, sessions and slots from before a restart, and clients that expire (RFC 8881, sections 2.10.6.5 and 8.3).
 
 use crate::session::plain::{ALICE, SMALL, create, creation, exchange};
-use nfs_types::Status;
+use nfs_types::{Limits, Status};
 use rpc_record::Caller;
 use session_slots::{
     Begin, CachedCall, CallBytes, CallForm, Channel, Clients, Create, Created, Creation, Exchange,
@@ -41,7 +41,7 @@ fn kept<'a>(number: u32, caller: &'a Caller) -> CachedCall<'a> {
 /// Client 5, whose lease was renewed in second 100, with its session 9, whose slot 0 caches the call of this sequence
 /// ID.
 fn restored(rt: &impl Abort, alloc: Global, caller: &Caller, number: u32) -> Clients {
-    let mut clients = Clients::new(alloc);
+    let mut clients = Clients::new(alloc, Limits::standard());
     assert_eq!(rt; clients.restore_numbers(6, 10), true);
     assert_eq!(rt; clients.restore_session(9, HELD), Err(RestoreFault::Misfit));
     assert_eq!(rt; clients.restore_record(RECORD, 100), Ok(()));
@@ -80,7 +80,7 @@ fn is_new(begin: Begin) -> bool {
 
 #[test]
 fn next_numbers_of_before_a_restart(rt: HostRuntime) {
-    let mut clients = Clients::new(rt.alloc());
+    let mut clients = Clients::new(rt.alloc(), Limits::standard());
     let last = 1 << 63;
     assert_eq!(rt; clients.restore_numbers(6, 10), true);
     // none that was given is given again, and none is above 2^63
@@ -291,7 +291,7 @@ fn persist_is_granted_where_sessions_last(rt: HostRuntime) {
         (false, true, false),
         (true, true, true),
     ] {
-        let mut clients = Clients::new(rt.alloc());
+        let mut clients = Clients::new(rt.alloc(), Limits::standard());
         let _ = exchange(&mut clients, ALICE);
         let made = create(
             &mut clients,

@@ -25,7 +25,7 @@ fn between<'a>(text: &'a str, prefix: &str, back: &str) -> Option<&'a str> {
 }
 
 /// Texts of help: the files that are served, the address, the options with their ranges and defaults, and an example.
-static TEXTS: [&str; 38] = [
+static TEXTS: [&str; 43] = [
     "NFS version 4.1",
     "access control lists",
     "127.0.0.1",
@@ -60,6 +60,11 @@ static TEXTS: [&str; 38] = [
     "--leases ",
     "--home <FOLDER>",
     "nfsd --home office\n",
+    "--profile <NAME>",
+    "files of up to 1 TiB, 1048576 objects and names of a directory, 256 connections.",
+    "A store keeps its profile, and is refused with the other; not 'office' with --bare [default: standard]",
+    "or 256 with '--profile office'",
+    "nfsd --home office --profile office\n",
     "--listen <ADDRESS>",
     "--allow <NETWORK>",
     "--any-port ",

@@ -1,5 +1,5 @@
 //! Lines that are accepted, with the options of their words.
-use nfsd_options::Options;
+use nfsd_options::{Options, Profile};
 use std::alloc::{AllocError, Global};
 use std::test::Fail;
 
@@ -78,6 +78,7 @@ fn lines_are_taken(rt: HostRuntime) -> Result<(), Fail> {
             store: None,
             leases: false,
             home: None,
+            profile: Profile::Standard,
             listen: Vec::new(rt.alloc()),
             allow: Vec::new(rt.alloc()),
             any_port: false,
@@ -129,6 +130,7 @@ fn lines_of_later_options_are_taken(rt: HostRuntime) -> Result<(), Fail> {
             store: None,
             leases: false,
             home: None,
+            profile: Profile::Standard,
             listen: Vec::new(rt.alloc()),
             allow: Vec::new(rt.alloc()),
             any_port: false,

@@ -2,7 +2,8 @@
 
 use access_guard::{Demand, FIRST_EPOCH, Guard};
 use acl_list::AclList;
-use node_tree::{Limits, Tree};
+use nfs_types::Limits;
+use node_tree::Tree;
 use rpc_record::Caller;
 use std::alloc::Global;
 use std::hash::RandomState;

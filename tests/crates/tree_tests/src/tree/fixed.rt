@@ -3,7 +3,8 @@
 use crate::tree::acting::{Outcome, add, link, rename, resize, set_owner, unlink, write};
 use crate::tree::plain::{Label, Named, Plain};
 use acl_shape::is_bounded;
-use node_tree::{AclList, Kind, Limits, Tree};
+use nfs_types::Limits;
+use node_tree::{AclList, Kind, Tree};
 use std::alloc::{AllocError, Global};
 use std::process::Abort;
 use std::test::Fail;

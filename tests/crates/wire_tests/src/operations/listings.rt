@@ -103,6 +103,7 @@ fn facts() -> ObjectFacts<'static> {
             seconds: 0,
             nanoseconds: 0,
         },
+        most_bytes: 1_048_576,
     }
 }
 

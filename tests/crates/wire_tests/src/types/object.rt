@@ -47,6 +47,7 @@ pub fn facts() -> ObjectFacts<'static> {
             seconds: 1,
             nanoseconds: 999_999_999,
         },
+        most_bytes: 1_048_576,
     }
 }
 

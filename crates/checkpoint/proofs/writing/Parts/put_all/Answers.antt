@@ -1,4 +1,5 @@
 use Rattle.std.proofs.Common.{◌∷◌, ◌++◌, [], List, ℕ, map, sym, ap, ◌∙◌, Err}
+use Rattle.std.specs.Prelude.{flat_map}
 use Rattle.std.specs.List.{AllByRecursion}
 use Rattle.xdr_wire.specs.Xdr.{spelling}
 use Rattle.tree_parts.specs.Parts.{part, counters_value}
@@ -13,8 +14,8 @@ returns-in-Err-clause-ends g c =
     let w = c.args.tree.now in
     let d = draft_of c.args.draft.now in
     let adds = g.D.Disk.adds in
-    let first : List Bytes = draft_parts d [] in
-    let others : List Bytes = (spelling part (counters_value w) ∷ []) ++ (map object_bytes w.objects ++ map name_bytes w.names) in
+    let first : List Bytes = draft_parts d in
+    let others : List Bytes = (spelling part (counters_value w) ∷ []) ++ (flat_map object_bytes w.objects ++ map name_bytes w.names) in
     let fault = c.in-Err.fault in
     ends_as adds c.args.journal.now c.put_draft.new.journal (first ++ others) (all_parts w d) (Err fault) c.args.disk.now c.put_draft.new.disk (all_parts_are w d)
     (ends_more adds c.args.journal.now c.put_draft.new.journal first others fault c.args.disk.now c.put_draft.new.disk c.in-Err.ensures.ends)
@@ -30,9 +31,9 @@ returns-in-Err-put_counters-clause-ends g c =
     let j0 = c.args.journal.now in
     let j1 = c.put_draft.new.journal in
     let j2 = c.put_counters.new.journal in
-    let first : List Bytes = draft_parts d [] in
+    let first : List Bytes = draft_parts d in
     let second : List Bytes = spelling part (counters_value w) ∷ [] in
-    let others : List Bytes = map object_bytes w.objects ++ map name_bytes w.names in
+    let others : List Bytes = flat_map object_bytes w.objects ++ map name_bytes w.names in
     let fault = c.in-Err-put_counters.fault in
     ends_as adds j0 j2 (first ++ (second ++ others)) (all_parts w d) (Err fault) d0 d2 (all_parts_are w d)
     (ends_then adds j0 j1 j2 first (second ++ others) (Err fault) d0 d1 d2 c.in-Ok.ensures.ends
@@ -51,9 +52,9 @@ returns-in-Err-put_objects-clause-ends g c =
     let j1 = c.put_draft.new.journal in
     let j2 = c.put_counters.new.journal in
     let j3 = c.put_objects.new.journal in
-    let first : List Bytes = draft_parts d [] in
+    let first : List Bytes = draft_parts d in
     let second : List Bytes = spelling part (counters_value w) ∷ [] in
-    let third : List Bytes = map object_bytes w.objects in
+    let third : List Bytes = flat_map object_bytes w.objects in
     let others : List Bytes = map name_bytes w.names in
     let fault = c.in-Err-put_objects.fault in
     ends_as adds j0 j3 (first ++ (second ++ (third ++ others))) (all_parts w d) (Err fault) d0 d3 (all_parts_are w d)
@@ -76,9 +77,9 @@ returns-clause-ends g c =
     let j2 = c.put_counters.new.journal in
     let j3 = c.put_objects.new.journal in
     let j4 = c.put_names.new.journal in
-    let first : List Bytes = draft_parts d [] in
+    let first : List Bytes = draft_parts d in
     let second : List Bytes = spelling part (counters_value w) ∷ [] in
-    let third : List Bytes = map object_bytes w.objects in
+    let third : List Bytes = flat_map object_bytes w.objects in
     let others : List Bytes = map name_bytes w.names in
     let result = c.put_names.result in
     ends_as adds j0 j4 (first ++ (second ++ (third ++ others))) (all_parts w d) result d0 d4 (all_parts_are w d)
@@ -96,9 +97,9 @@ pub returns-clause-size : goal.returns-clause-size
 returns-clause-size g c =
     let w = c.args.tree.now in
     let d = draft_of c.args.draft.now in
-    let first : List Bytes = draft_parts d [] in
+    let first : List Bytes = draft_parts d in
     let second : List Bytes = spelling part (counters_value w) ∷ [] in
-    let third : List Bytes = map object_bytes w.objects in
+    let third : List Bytes = flat_map object_bytes w.objects in
     let others : List Bytes = map name_bytes w.names in
     let size = c.args.self.now.size in
     on_ok c.put_names.result _ _ c.put_names.ensures.size

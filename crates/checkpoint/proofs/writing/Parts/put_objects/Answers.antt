@@ -1,57 +1,37 @@
-use Rattle.std.proofs.Common.{◌≡◌, List, ℕ, map, sym, subst, arith}
+use Rattle.std.proofs.Common.{◌≡◌, List, ℕ, flat_map, sym, subst, arith}
 use Rattle.std.specs.List.{AllByRecursion}
-use Rattle.xdr_wire.specs.Xdr.{HasSpelling, spelling}
-use Rattle.xdr_wire.specs.Buffer as buffers
-use Rattle.node_tree.specs.World.{Object, object}
-use Rattle.tree_parts.specs.Parts.{part, object_value}
+use Rattle.node_tree.specs.World.{Object}
 use Rattle.store_journal.specs.Passage.{passage}
 use Rattle.checkpoint.specs.Writing.{PartsGiven}
 use Rattle.checkpoint.specs.internal.Writing.{counted, object_bytes, HasObjectSpelling}
-use Rattle.checkpoint.proofs.Putting.{written_alone, both_some, objects_begun, object_put, object_stop, objects_stop, objects_done, there_is, number_closer}
+use Rattle.checkpoint.proofs.Putting.{objects_begun, object_put, object_stop, objects_done, there_is, number_closer}
 use Rattle.checkpoint.proofs.writing.Parts.put_objects.Goals as goal
 
 pub loop-number-init : goal.loop-number-init
 loop-number-init g c = record { empty = c.requires.empty; put = objects_begun g.D.Disk.adds c.args.tree.now c.args.journal.now c.args.self.now.size c.args.disk.now c.requires.sound }
 
-pub write_object-requires : goal.write_object-requires
-write_object-requires g c = there_is g.D.Disk.adds c.args.tree.now c.loop-number.at c.in-Some.number c.args.journal.now c.loop-number.journal c.args.self.now.size c.loop-number.self.size c.args.disk.now c.loop-number.disk c.requires.sound c.loop-number.invariant.put (sym c.in-Some.ensures)
+pub put_object-requires-clause-there : goal.put_object-requires-clause-there
+put_object-requires-clause-there g c = there_is g.D.Disk.adds c.args.tree.now c.loop-number.at c.in-Some.number c.args.journal.now c.loop-number.journal c.args.self.now.size c.loop-number.self.size c.args.disk.now c.loop-number.disk c.requires.sound c.loop-number.invariant.put (sym c.in-Some.ensures)
 
 pub loop-number-smaller : goal.loop-number-smaller
 loop-number-smaller g c =
     let closer = number_closer g.D.Disk.adds c.args.tree.now c.loop-number.at c.in-Some.number c.args.journal.now c.loop-number.journal c.args.self.now.size c.loop-number.self.size c.args.disk.now c.loop-number.disk c.requires.sound c.loop-number.invariant.put (sym c.in-Some.ensures) in
     omega (arith, closer.0, closer.1)
 
-pub returns-in_default-write_object-clause-ends : goal.returns-in_default-write_object-clause-ends
-returns-in_default-write_object-clause-ends g c =
-    objects_stop g.D.Disk.adds c.args.tree.now c.loop-number.at c.args.journal.now c.loop-number.journal c.args.self.now.size c.loop-number.self.size c.args.disk.now c.loop-number.disk c.loop-number.invariant.put
-
 pub returns-in-Err-clause-ends : goal.returns-in-Err-clause-ends
 returns-in-Err-clause-ends g c =
-    let number = c.in-Some.number in
-    let old = c.loop-number.self.writer in
-    let new = c.write_object.new.writer in
-    object_stop g.D.Disk.adds c.args.tree.now c.loop-number.at number c.args.journal.now c.loop-number.journal c.put.new.journal c.args.self.now.size c.loop-number.self.size new.bytes c.in-Err.fault c.args.disk.now c.loop-number.disk c.put.new.disk c.requires.sound c.loop-number.invariant.put (sym c.in-Some.ensures)
-    (both_some (λ (o : Object). buffers.Appends old new (spelling part (object_value number o))) (λ (o : Object). HasSpelling part (object_value number o)) (λ (o : Object). (new.bytes ≡ object_bytes (number, o)) × HasSpelling part (object_value number o)) (object c.args.tree.now number) c.in-Ok.ensures.ok c.in-Ok.ensures.has_spelling
-    (λ o appended has. (written_alone old new (object_bytes (number, o)) c.loop-number.invariant.empty appended, has)))
-    c.in-Err.ensures.ends
+    object_stop g.D.Disk.adds c.args.tree.now c.loop-number.at c.in-Some.number c.args.journal.now c.loop-number.journal c.put_object.new.journal c.args.self.now.size c.loop-number.self.size c.in-Err.fault c.args.disk.now c.loop-number.disk c.put_object.new.disk c.requires.sound c.loop-number.invariant.put (sym c.in-Some.ensures) c.in-Err.ensures.ends
 
 pub loop-number-preserved : goal.loop-number-preserved
-loop-number-preserved g c =
-    let number = c.in-Some.number in
-    let old = c.loop-number.self.writer in
-    let new = c.write_object.new.writer in
-    record {
-      empty = c.put.ensures.empty;
-      put = object_put g.D.Disk.adds c.args.tree.now c.loop-number.at number c.args.journal.now c.loop-number.journal c.put.new.journal c.args.self.now.size c.loop-number.self.size c.put.new.self.size new.bytes c.args.disk.now c.loop-number.disk c.put.new.disk c.requires.sound c.in-Ok-put.ensures.size c.loop-number.invariant.put (sym c.in-Some.ensures)
-          (both_some (λ (o : Object). buffers.Appends old new (spelling part (object_value number o))) (λ (o : Object). HasSpelling part (object_value number o)) (λ (o : Object). (new.bytes ≡ object_bytes (number, o)) × HasSpelling part (object_value number o)) (object c.args.tree.now number) c.in-Ok.ensures.ok c.in-Ok.ensures.has_spelling
-          (λ o appended has. (written_alone old new (object_bytes (number, o)) c.loop-number.invariant.empty appended, has)))
-          c.in-Ok-put.ensures.ends;
-    }
+loop-number-preserved g c = record {
+  empty = c.in-Ok.ensures.empty;
+  put = object_put g.D.Disk.adds c.args.tree.now c.loop-number.at c.in-Some.number c.args.journal.now c.loop-number.journal c.put_object.new.journal c.args.self.now.size c.loop-number.self.size c.put_object.new.self.size c.args.disk.now c.loop-number.disk c.put_object.new.disk c.requires.sound c.in-Ok.ensures.size c.loop-number.invariant.put (sym c.in-Some.ensures) c.in-Ok.ensures.has_spelling c.in-Ok.ensures.ends;
+}
 
 pub returns-clause-ends : goal.returns-clause-ends
 returns-clause-ends g c =
     let p = c.loop-number.invariant.put in
-    subst (λ (l : List (ℕ × Object)). PartsGiven (passage g.D.Disk.adds c.args.disk.now c.loop-number.disk) c.args.journal.now (map object_bytes l) c.loop-number.journal)
+    subst (λ (l : List (ℕ × Object)). PartsGiven (passage g.D.Disk.adds c.args.disk.now c.loop-number.disk) c.args.journal.now (flat_map object_bytes l) c.loop-number.journal)
     (objects_done g.D.Disk.adds c.args.tree.now c.loop-number.at c.args.journal.now c.loop-number.journal c.args.self.now.size c.loop-number.self.size c.args.disk.now c.loop-number.disk p (sym c.in_default.ensures)) p.given
 
 pub returns-clause-has_spelling : goal.returns-clause-has_spelling
@@ -63,5 +43,5 @@ returns-clause-has_spelling g c =
 pub returns-clause-size : goal.returns-clause-size
 returns-clause-size g c =
     let p = c.loop-number.invariant.put in
-    subst (λ (l : List (ℕ × Object)). c.loop-number.self.size ≡ counted c.args.self.now.size (map object_bytes l))
+    subst (λ (l : List (ℕ × Object)). c.loop-number.self.size ≡ counted c.args.self.now.size (flat_map object_bytes l))
     (objects_done g.D.Disk.adds c.args.tree.now c.loop-number.at c.args.journal.now c.loop-number.journal c.args.self.now.size c.loop-number.self.size c.args.disk.now c.loop-number.disk p (sym c.in_default.ensures)) p.size_is

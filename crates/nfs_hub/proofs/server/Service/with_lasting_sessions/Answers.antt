@@ -1,5 +1,6 @@
-use Rattle.std.proofs.Common.{◌≡◌, true, refl, subst}
-use Rattle.std.specs.Prelude.{Result, Ok, Err, IfOk, IsOkUnless}
+use Rattle.std.proofs.Common.{◌≡◌, ◌∙◌, Bool, true, ◌&&◌, ap, refl, subst, arith}
+use Rattle.std.specs.Prelude.{Result, Ok, Err, IfOk, IsOkUnless, nat_le}
+use Rattle.std.proofs.lemmas.Bool.{le-leb}
 use Rattle.node_tree.specs.World.{World}
 use Rattle.session_slots.specs.declared.restoring.RestoreFault.{RestoreFault}
 use Rattle.session_slots.specs.declared.restoring.RestoreFault.TheVariants.{Memory, Misfit}
@@ -20,5 +21,6 @@ returns-clause-ok g c =
 
 pub returns-clause-err : goal.returns-clause-err
 returns-clause-err g c =
-    let fits : opens_fit c.in_ok-root.root c.nothing.result ≡ true = λ i. opens_fit (c.in_ok-root.ensures i) (c.nothing.ensures i) in
+    let few : nat_le 0 c.args.limits.opens ≡ true = le-leb 0 c.args.limits.opens (omega arith) in
+    let fits : opens_fit c.in_ok-root.root c.nothing.result ≡ true = (λ i. opens_fit (c.in_ok-root.ensures i) (c.nothing.ensures i)) ∙ ap (λ (b : Bool). b && true) few in
     wants_memory c.restored.result (λ misfit. let no = c.restored.ensures.misfit misfit in cc (fits, no))

@@ -1,5 +1,5 @@
 use Rattle.std.proofs.Common.{arith, ap, ◌≤◌, length}
-use Rattle.node_tree.specs.Limits.{Limits}
+use Rattle.nfs_types.specs.Limits.{Limits}
 use Rattle.node_tree.specs.World.{bytes_of}
 use Rattle.node_tree.proofs.Setting.{short_file, IsSound-with_size, KeepsJudged-with_size}
 use Rattle.node_tree.proofs.tree.Tree.resize.Goals as goal

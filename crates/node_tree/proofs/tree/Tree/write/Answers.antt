@@ -1,5 +1,5 @@
 use Rattle.std.proofs.Common.{arith, ap}
-use Rattle.node_tree.specs.Limits.{Limits}
+use Rattle.nfs_types.specs.Limits.{Limits}
 use Rattle.node_tree.proofs.Setting.{IsSound-with_bytes, KeepsJudged-with_bytes}
 use Rattle.node_tree.proofs.tree.Tree.write.Goals as goal
 

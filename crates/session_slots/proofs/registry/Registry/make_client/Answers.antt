@@ -16,7 +16,7 @@ pub returns : goal.returns
 returns g c = rw (← c.self.view_is) (inl (
   refl,
   makes_client (exchanging_of c.args.asked) c.args.removed
-      (record { clients = c.self.inside.clients.entries; sessions = c.self.inside.sessions.entries; next_client = c.self.inside.next_client; next_session = c.self.inside.next_session })
+      (record { limits = c.self.inside.limits; clients = c.self.inside.clients.entries; sessions = c.self.inside.sessions.entries; next_client = c.self.inside.next_client; next_session = c.self.inside.next_session })
       c.in-Ok.client c.add_client.new.clients.entries c.remove_others.new.clients.entries c.remove_sessions.new.sessions.entries
       c.in-Ok.ensures c.in_default-add_client.ensures.ok c.remove_others.ensures c.remove_sessions.ensures,
 ))

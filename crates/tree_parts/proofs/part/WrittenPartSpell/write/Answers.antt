@@ -5,3 +5,6 @@ returns-in-Object-clause-puts g c = rw c.in-Object.is c.write-in-Object.ensures.
 
 pub returns-in-Name-clause-puts : goal.returns-in-Name-clause-puts
 returns-in-Name-clause-puts g c = rw c.in-Name.is c.write-in-Name.ensures.puts
+
+pub returns-in-Rest-clause-puts : goal.returns-in-Rest-clause-puts
+returns-in-Rest-clause-puts g c = rw c.in-Rest.is c.write-in-Rest.ensures.puts
