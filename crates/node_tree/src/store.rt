@@ -180,6 +180,13 @@ impl<A: Allocator + Copy> Store<A> {
 
 // Tests for space.
 impl<A: Allocator + Copy> Store<A> {
+    /// The number of objects.
+    pub fn object_count(&self) -> usize
+        ensures { result ≡ length self.now.objects }
+    {
+        self.objects.len()
+    }
+
     /// Whether a directory has room for one more name.
     pub fn has_room(&self, directory: u64) -> bool
         ensures { result ≡ has_room self.now.limits (name_count self.now.names directory) }

@@ -57,6 +57,13 @@ impl<A: Allocator + Copy> Tree<A> {
         self.store.limits()
     }
 
+    /// The number of objects, the root among them.
+    pub fn object_count(&self) -> usize
+        ensures { result ≡ length self.now.objects }
+    {
+        self.store.object_count()
+    }
+
     /// The number of the root.
     pub fn root(&self) -> u64
         ensures number { result ≡ ROOT }
