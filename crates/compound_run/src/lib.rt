@@ -17,6 +17,7 @@ mod close;
 mod commit;
 mod compound;
 mod context;
+mod counts;
 mod create;
 mod create_session;
 mod demands;
@@ -64,6 +65,7 @@ mod verify;
 mod write;
 
 pub use client_state::{ClientState, Lent, opens_fit};
+pub use counts::CallCounts;
 use filehandles::FileHandles;
 pub use kept::Ran;
 pub use limits::{MAX_REPLY, MAX_RESULTS};

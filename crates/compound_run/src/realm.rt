@@ -17,6 +17,7 @@ ghost use Rattle.compound_run.specs.Realm.{with_loss};
 ghost use Rattle.compound_run.specs.TreeFaults.{status_at};
 ghost use Rattle.compound_run.specs.Views.{realm_of, with_world, settings_of};
 
+use crate::counts::CallCounts;
 use crate::limits::MAX_COUNT;
 use crate::opens::Open;
 use access_guard::GuardedTree;
@@ -38,6 +39,8 @@ pub(crate) struct Realm<A: Allocator + Copy = Global> {
     pub clients: Clients<A>,
     /// Whether sessions are persistent: they survive a restart of this server.
     pub lasting: bool,
+    /// How often each operation was answered with each status.
+    pub counts: CallCounts<A>,
 }
 
 /// The fault of a name, if any.

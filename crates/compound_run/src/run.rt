@@ -9,6 +9,7 @@ ghost use Rattle.compound_run.specs.Views.{context_at, handles_after, point_at, 
 ghost use Rattle.compound_run.specs.Written.{StepGives};
 
 use crate::context::Context;
+use crate::counts::bytes_after;
 use crate::filehandles::FileHandles;
 use crate::limits::MIN_ROOM;
 use crate::operation_results::put_refusal;
@@ -142,12 +143,15 @@ impl<A: Allocator + Copy> Realm<A> {
         ensures delays { DelaysIf refused (context_at self.old step.entry.context) (op_view op.now) result }
         ensures settled { self.new.tree.log.held ≡ [] }
     {
-        match self.run(step, op, refused, out) {
+        let start = out.len();
+        let result = match self.run(step, op, refused, out) {
             Ok(handles) => Ok(handles),
             Err(status) => {
                 put_refusal(op.number(), status, out);
                 Err(status)
             }
-        }
+        };
+        self.counts.note(bytes_after(out.bytes(), start));
+        result
     }
 }

@@ -21,6 +21,7 @@ ghost use Rattle.compound_run.specs.Views.{called, opens_view};
 use crate::client_state::ClientState;
 use crate::compound::CompoundArgs;
 use crate::context::Context;
+use crate::counts::{CallCounts, bytes_after};
 use crate::in_session::IncomingCall;
 use crate::kept::Ran;
 use crate::limits::{MAX_RESULTS, REFUSAL_ROOM};
@@ -100,6 +101,7 @@ impl<A: Allocator + Copy> Server<A> {
                 next_open: 1,
                 clients: Clients::new(alloc, limits),
                 lasting: false,
+                counts: CallCounts::new(alloc)?,
             },
         })
     }
@@ -124,6 +126,7 @@ impl<A: Allocator + Copy> Server<A> {
                 next_open: client_state.next_open,
                 clients: client_state.clients,
                 lasting: true,
+                counts: CallCounts::new(alloc)?,
             },
         })
     }
@@ -134,7 +137,8 @@ impl<A: Allocator + Copy> Server<A> {
     ///
     /// `Misfit`: the open files don't fit. An open's number isn't above those before it, or wasn't given out yet. Its
     /// file doesn't exist, or its client has no record. Its owner has more than 1,024 bytes, its access isn't 1, 2 or
-    /// 3, or its seqid is 0. Or they are more than 4,096, or the number of the next one is 0 or above 2^63.
+    /// 3, or its seqid is 0. Or they are more than the profile permits, or the number of the next one is 0 or above
+    /// 2^63.
     pub fn restored(
         alloc: A,
         tree: Tree<A>,
@@ -262,7 +266,12 @@ impl<A: Allocator + Copy> Server<A> {
             now,
             refused,
         };
-        Some(self.realm.answer_in_session(call, out))
+        let start = out.len();
+        let ran = self.realm.answer_in_session(call, out);
+        self.realm
+            .counts
+            .note_first(bytes_after(out.bytes(), start));
+        Some(ran)
     }
 
     /// Replays a logged call, as [`Server::run_recorded`] does, after its slot is marked as lagging: the slot may have
@@ -375,12 +384,13 @@ impl<A: Allocator + Copy> Server<A> {
         self.realm.tree.tree()
     }
 
-    /// Forgets the lines of the trail, and counts from 0 again. The lines of calls that are replayed at a start are
-    /// then not reported twice. It allocates no memory.
+    /// Forgets the lines of the trail and the counts of calls, and counts from 0 again. The lines of calls that are
+    /// replayed at a start are then not reported twice. It allocates no memory.
     pub fn forget_lines(&mut self)
         ensures { self.new ≡ without_lines self.old }
     {
         self.realm.tree.forget();
+        self.realm.counts.forget();
     }
 
     /// Marks all slots as lagging, as after a restart: each may have accepted calls after the one that it caches (RFC
@@ -406,6 +416,11 @@ impl<A: Allocator + Copy> Server<A> {
             self.now.realm.world }
     {
         self.realm.tree.guard()
+    }
+
+    /// How often each operation was answered with each status, since the server was made or its lines were forgotten.
+    pub fn call_counts(&self) -> &CallCounts<A> {
+        &self.realm.counts
     }
 
     /// The clients with their sessions.
