@@ -408,6 +408,13 @@ impl<A: Allocator + Copy> Server<A> {
         self.realm.tree.book()
     }
 
+    /// The epoch of the book, counted from 1: it grows by 1 with each book that is loaded.
+    pub fn epoch(&self) -> u64
+        ensures { result ≡ self.now.settings.epoch }
+    {
+        self.realm.tree.epoch()
+    }
+
     /// The guard, with the trail. Its remembered summaries agree with the current ACLs.
     pub fn guard(&self) -> &Guard<A>
         ensures log { result.now.log ≡ record { held = []; trail = self.now.trail; total = self.now.total } }

@@ -104,6 +104,7 @@ pub(crate) struct NearLimits {
     clients: Level,
     sessions: Level,
     opens: Level,
+    objects: Level,
 }
 
 impl NearLimits {
@@ -114,6 +115,7 @@ impl NearLimits {
             clients: Level::Low,
             sessions: Level::Low,
             opens: Level::Low,
+            objects: Level::Low,
         }
     }
 
@@ -128,6 +130,13 @@ impl NearLimits {
             advice: "no further file is opened (NOSPC); end programs that keep files open",
         };
         report_count(rt, &mut self.opens, opens);
+        let objects = Count {
+            used: server.tree().object_count(),
+            limit: limits.objects(),
+            name: "objects",
+            advice: "no further file, directory or link is made (NOSPC); remove what isn't needed",
+        };
+        report_count(rt, &mut self.objects, objects);
     }
 
     /// Reports the counts of connections, clients and sessions that are due.

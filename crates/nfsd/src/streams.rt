@@ -1,19 +1,22 @@
 //! The streams that are served: sockets, the files of the store, the file of the trail, and the file of the book.
-use crate::Fault;
 use crate::addresses::{announce, listen_on_all};
 use crate::book_file::BookFile;
+use crate::clock::steady_time;
 use crate::listening::open_trail;
+use crate::metrics_file::MetricsFile;
 use crate::near_limits::NearLimits;
 use crate::sockets::Sockets;
+use crate::store_use::StoreUse;
 use crate::stored::{Folder, stop_of};
 use crate::trail_file::{TrailFault, TrailFile};
+use crate::{Fault, hub_fault};
 use call_store::StoreFault;
 use compound_run::Server;
 use kept_server::Site;
 use nfs_hub::ConnId;
 use nfs_streams::{Arrival, Moved, StreamEnd, Streams, Wait};
 use nfsd_options::{Options, Profile};
-use std::alloc::{Allocator, Global};
+use std::alloc::{AllocError, Allocator, Global};
 use std::io;
 use std::net::Net;
 use std::rt::{Clock, Files};
@@ -38,6 +41,10 @@ pub(crate) struct Served<'a, R: Files> {
     open: usize,
     /// `None`: no limit is reported as nearly reached, as in the standard profile.
     near: Option<NearLimits>,
+    /// What the files of the store were used for.
+    store_use: StoreUse,
+    /// The file of the server's numbers. `None`: the server has no home, or doesn't listen yet.
+    metrics: Option<MetricsFile<'a, R>>,
     /// Each connection so far ended after a whole record.
     are_whole: bool,
     /// Why the server can't listen.
@@ -49,6 +56,21 @@ fn near_limits(profile: Profile) -> Option<NearLimits> {
     match profile {
         Profile::Standard => None,
         Profile::Office => Some(NearLimits::new()),
+    }
+}
+
+/// The file of the server's numbers, if the options name a home.
+fn open_metrics<'a, R: Files + Alloc + Clock>(
+    rt: &'a R,
+    alloc: Global,
+    options: &Options<'_>,
+) -> Result<Option<MetricsFile<'a, R>>, Fault> {
+    let Some(home) = options.home else {
+        return Ok(None);
+    };
+    match MetricsFile::new(rt, alloc, home) {
+        Ok(metrics) => Ok(Some(metrics)),
+        Err(AllocError) => Err(hub_fault()),
     }
 }
 
@@ -71,6 +93,8 @@ impl<'a, R: Files + Eprint> Served<'a, R> {
             book,
             open: 0,
             near: near_limits(options.profile),
+            store_use: StoreUse::new(),
+            metrics: None,
             are_whole: true,
             unready: None,
         }
@@ -144,6 +168,7 @@ impl<R: Files + Net + Alloc + Print + Eprint + Clock> Served<'_, R> {
     /// Opens the trail, listens on each address, and prints the addresses.
     fn listen(&mut self) -> Result<(), Fault> {
         self.trail = open_trail(self.rt, self.options)?;
+        self.metrics = open_metrics(self.rt, self.alloc, self.options)?;
         let mut sockets = match Sockets::new(self.rt, self.alloc, &self.options.allow) {
             Ok(sockets) => sockets,
             Err(error) => return Err(Fault::Sockets(error)),
@@ -166,7 +191,7 @@ impl<R: Files> Served<'_, R> {
 
 impl<R: Files + Alloc + Clock> Served<'_, R> {
     /// Syncs the lines of a home's trail that are of an earlier second. Returns how long a wait may take: at most a
-    /// second while lines aren't synced. `None`: they can't be synced.
+    /// second while lines aren't synced, or while numbers are written. `None`: the lines can't be synced.
     fn settle_trail(&mut self, how: Wait) -> Option<Wait> {
         let Some(trail) = &mut self.trail else {
             return Some(how);
@@ -174,7 +199,7 @@ impl<R: Files + Alloc + Clock> Served<'_, R> {
         if !trail.sync_old() {
             return None;
         }
-        if how == Wait::Event && trail.is_due() {
+        if how == Wait::Event && (trail.is_due() || self.metrics.is_some()) {
             return Some(Wait::Second);
         }
         Some(how)
@@ -182,43 +207,55 @@ impl<R: Files + Alloc + Clock> Served<'_, R> {
 }
 
 /// The files of the store. Without a store each call fails. The trail of a home is synced before the store is.
-impl<R: Files> Disk for Served<'_, R> {
+impl<R: Files + Clock> Disk for Served<'_, R> {
     fn load_current<A: Allocator>(&mut self, alloc: A) -> Result<Option<Vec<u8, A>>, LoadFault> {
-        match &mut self.folder {
-            Some(folder) => folder.load_current(alloc),
-            None => Err(LoadFault::Failed),
+        let Some(folder) = &mut self.folder else {
+            return Err(LoadFault::Failed);
+        };
+        let loaded = folder.load_current(alloc)?;
+        if let Some(current) = &loaded {
+            self.store_use.note_current(current);
         }
+        Ok(loaded)
     }
 
     fn load<A: Allocator>(&mut self, alloc: A, slot: Slot) -> Result<Vec<u8, A>, LoadFault> {
-        match &mut self.folder {
-            Some(folder) => folder.load(alloc, slot),
-            None => Err(LoadFault::Failed),
-        }
+        let Some(folder) = &mut self.folder else {
+            return Err(LoadFault::Failed);
+        };
+        let loaded = folder.load(alloc, slot)?;
+        self.store_use.note_end(slot, loaded.len() as u64);
+        Ok(loaded)
     }
 
     fn write(&mut self, slot: Slot, at: u64, prefix: &[u8], body: &[u8], back: &[u8]) -> bool {
-        match &mut self.folder {
-            Some(folder) => folder.write(slot, at, prefix, body, back),
-            None => false,
-        }
+        let Some(folder) = &mut self.folder else {
+            return false;
+        };
+        let more = prefix.len() as u64 + body.len() as u64 + back.len() as u64;
+        self.store_use.note_end(slot, at.saturating_add(more));
+        folder.write(slot, at, prefix, body, back)
     }
 
     fn sync(&mut self, slot: Slot) -> bool {
         if !self.sync_trail() {
             return false;
         }
-        match &mut self.folder {
-            Some(folder) => folder.sync(slot),
-            None => false,
-        }
+        let before = steady_time(self.rt);
+        let Some(folder) = &mut self.folder else {
+            return false;
+        };
+        let is_done = folder.sync(slot);
+        self.store_use.note_sync(before, steady_time(self.rt));
+        is_done
     }
 
     fn turn(&mut self, bytes: &[u8]) -> bool {
-        match &mut self.folder {
-            Some(folder) => folder.turn(bytes),
-            None => false,
-        }
+        let Some(folder) = &mut self.folder else {
+            return false;
+        };
+        self.store_use.note_current(bytes);
+        folder.turn(bytes)
     }
 }
 
@@ -278,6 +315,9 @@ impl<R: Files + Alloc + Eprint + Clock> Streams<Global> for Served<'_, R> {
     fn keep(&mut self, server: &Server) -> bool {
         if let Some(near) = &mut self.near {
             near.report(self.rt, self.open, server);
+        }
+        if let Some(metrics) = &mut self.metrics {
+            metrics.keep(server, self.open, &self.store_use);
         }
         match &mut self.trail {
             Some(trail) => trail.keep(server.guard()),
