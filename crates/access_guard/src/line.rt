@@ -3,7 +3,7 @@
 use crate::decision::Cause;
 
 /// The type of a line (RFC 8881, section 6.2.1.1).
-#[derive(Clone, Copy, Debug, PartialEq, Eq)]
+#[derive(Clone, Copy, PartialEq, Eq)]
 pub enum LineKind {
     /// An AUDIT access control entry (ACE) logs an access.
     Audit,
@@ -14,7 +14,7 @@ pub enum LineKind {
 }
 
 /// A line of the trail.
-#[derive(Clone, Copy, Debug, PartialEq, Eq)]
+#[derive(Clone, Copy, PartialEq, Eq)]
 pub struct Line {
     /// The type of the line.
     pub kind: LineKind,

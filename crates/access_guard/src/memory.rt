@@ -30,7 +30,7 @@ use std::marker::Model;
 use std::num::NonZeroUsize;
 
 /// The key of a remembered summary: book, ACL and caller.
-#[derive(Clone, Copy, Debug)]
+#[derive(Clone, Copy)]
 pub struct Key {
     /// The epoch of the book.
     pub epoch: u64,

@@ -25,7 +25,7 @@ const DELETE: u32 = 0x10;
 const EXECUTE: u32 = 0x20;
 
 /// The two words of ACCESS's result.
-#[derive(Clone, Copy, Debug, PartialEq, Eq)]
+#[derive(Clone, Copy, PartialEq, Eq)]
 pub struct Rights {
     /// The rights that were requested and are supported for the type of the object.
     pub supported: u32,

@@ -19,7 +19,7 @@ A:00:00000001:1001. KIND is d, f or l. For example:
     echo 'judge f 0 0 1001 100 1 D:00:00000001:1001,A:00:00000001:EVERYONE@' | acl_lines";
 
 /// Whether access control entries (ACEs) are written in letters.
-#[derive(Clone, Copy, Debug)]
+#[derive(Clone, Copy)]
 pub(crate) struct Options {
     pub(crate) words: bool,
 }

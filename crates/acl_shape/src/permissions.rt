@@ -15,7 +15,7 @@ use std::alloc::{AllocError, Allocator, Global};
 const HIGH_BITS: u32 = 0o7000;
 
 /// The mode and the ACL that a client gives.
-#[derive(Debug, Drop)]
+#[derive(Drop)]
 pub struct Given<A: Allocator = Global> {
     /// A mode. Only its lowest twelve bits count.
     pub mode: Option<u32>,
@@ -24,7 +24,7 @@ pub struct Given<A: Allocator = Global> {
 }
 
 /// The ACL of an object and the high bits of its mode.
-#[derive(Debug, Drop)]
+#[derive(Drop)]
 pub struct Permissions<A: Allocator = Global> {
     /// The ACL, which gives the lowest nine bits of the mode.
     pub list: AclList<A>,

@@ -4,7 +4,7 @@ use acl_list::Who;
 use thiserror::Error;
 
 /// An access control entry (ACE) as a client sends it: nfsace4 (RFC 8881, section 6.2.1), with any numbers.
-#[derive(Clone, Copy, Debug, PartialEq, Eq)]
+#[derive(Clone, Copy, PartialEq, Eq)]
 pub struct Raw {
     /// acetype4: 0 to 3 are known.
     pub kind: u32,

@@ -16,7 +16,7 @@ use std::alloc::{Allocator, Global};
 use std::hash::RandomState;
 
 /// Why a record isn't replayed.
-#[derive(Clone, Copy, Debug, PartialEq, Eq)]
+#[derive(Clone, Copy, PartialEq, Eq)]
 pub(crate) enum RecordFault {
     /// The bytes at this number are no entry, or the entry has another result now.
     Corrupt(u64),

@@ -24,7 +24,7 @@ const LEAST: u64 = 64 * 1024 * 1024;
 
 /// A server's state on a disk: a checkpoint, and the calls after it. After a fault other than `Memory`, and after
 /// `Memory` in the middle of a checkpoint, each call is `Failed` and does nothing.
-#[derive(Drop, Debug)]
+#[derive(Drop)]
 pub struct Store {
     pub(crate) journal: Journal,
     /// The bytes of the checkpoint's parts.

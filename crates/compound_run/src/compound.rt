@@ -23,7 +23,7 @@ use xdr_wire::{Reader, Writer};
 
 /// The end of a COMPOUND: the status of the last operation that ran, and how many ran. Also whether one that changes
 /// state was OK, and which failed an allocation, by its place among those that ran here.
-#[derive(Clone, Copy, Debug, PartialEq, Eq)]
+#[derive(Clone, Copy, PartialEq, Eq)]
 pub(crate) struct Ended {
     pub status: Status,
     pub ran: u32,
@@ -32,7 +32,7 @@ pub(crate) struct Ended {
 }
 
 /// The operations of a COMPOUND that are to run.
-#[derive(Clone, Copy, Debug)]
+#[derive(Clone, Copy)]
 pub(crate) struct ToRun<'a> {
     pub operations: &'a [u8],
     /// The operation at this place among them fails its allocation, if it allocates any memory.
@@ -40,7 +40,7 @@ pub(crate) struct ToRun<'a> {
 }
 
 /// The arguments of a COMPOUND.
-#[derive(Clone, Copy, Debug)]
+#[derive(Clone, Copy)]
 pub(crate) struct CompoundArgs<'a> {
     pub tag: &'a [u8],
     pub minor_version: u32,

@@ -6,7 +6,7 @@ use nfs_types::{Moment, Status};
 use rpc_record::Caller;
 
 /// The session whose SEQUENCE the operations follow (RFC 8881, section 18.46).
-#[derive(Clone, Copy, Debug, PartialEq, Eq)]
+#[derive(Clone, Copy, PartialEq, Eq)]
 pub(crate) struct Calling {
     /// The client of the session.
     pub client: u64,

@@ -18,7 +18,7 @@ const MAX_TAG: usize = 1_024;
 
 /// How often each operation was answered with each status, and how many bytes READ and WRITE carried, since the server
 /// was made. Each count stays at 2^64 - 1.
-#[derive(Debug, Drop)]
+#[derive(Drop)]
 pub struct CallCounts<A: Allocator = Global> {
     /// A row of statuses for each operation.
     answers: Vec<u64, A>,

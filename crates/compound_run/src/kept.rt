@@ -11,7 +11,7 @@ use nfs_ops::{
 use nfs_types::Status;
 
 /// The facts of an answered call for its record.
-#[derive(Clone, Copy, Debug, PartialEq, Eq)]
+#[derive(Clone, Copy, PartialEq, Eq)]
 pub struct Ran {
     /// The call is logged. An operation that can change state was OK. Or a client or a session was created, changed or
     /// removed. Or the call took the sequence ID of its slot past a multiple of 2^20.

@@ -47,7 +47,7 @@ impl Lone<'_> {
 }
 
 /// The result of an operation that is the only one: its status, and the facts for the record of its call.
-#[derive(Clone, Copy, Debug, PartialEq, Eq)]
+#[derive(Clone, Copy, PartialEq, Eq)]
 pub(crate) struct Acted {
     pub status: Status,
     pub ran: Ran,

@@ -20,7 +20,7 @@ use nfs_types::{StateId, Status};
 use std::alloc::{AllocError, Allocator, Global};
 
 /// A file that is open (RFC 8881, section 18.16).
-#[derive(Debug, Drop)]
+#[derive(Drop)]
 pub struct Open<A: Allocator = Global> {
     /// The number of the open.
     pub number: u64,

@@ -44,7 +44,7 @@ use xdr_wire::Writer;
 const LEASE: u64 = 90;
 
 /// The arguments of a COMPOUND.
-#[derive(Clone, Copy, Debug)]
+#[derive(Clone, Copy)]
 pub struct Args<'a> {
     /// The bytes after the call's header.
     pub bytes: &'a [u8],

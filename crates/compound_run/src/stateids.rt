@@ -13,7 +13,7 @@ use nfs_types::{StateId, Status};
 use std::alloc::Allocator;
 
 /// The purpose of an operation's stateid.
-#[derive(Clone, Copy, Debug, PartialEq, Eq)]
+#[derive(Clone, Copy, PartialEq, Eq)]
 pub(crate) enum Purpose {
     /// To read the file.
     ToRead,

@@ -11,7 +11,7 @@ use nfs_streams::{AllEnd, Limits, serve_all};
 use std::alloc::{Allocator, Global};
 
 /// How a run ended.
-#[derive(Clone, Copy, Debug, PartialEq, Eq)]
+#[derive(Clone, Copy, PartialEq, Eq)]
 pub enum KeptEnd {
     /// Serving has ended, with this end.
     Ended(AllEnd),

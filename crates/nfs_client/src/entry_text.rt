@@ -8,7 +8,7 @@ use acl_list::EntryKind;
 use std::alloc::{AllocError, Allocator};
 
 /// An ACE (access control entry) as text, `TYPE:FLAGS:MASK:WHO`.
-#[derive(Clone, Copy, Debug)]
+#[derive(Clone, Copy)]
 pub struct EntryText<'a> {
     /// The type of the ACE.
     pub kind: EntryKind,

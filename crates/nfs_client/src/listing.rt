@@ -14,7 +14,7 @@ use std::alloc::{AllocError, Allocator};
 const UNKNOWN: &[u8] = b"?";
 
 /// The known attributes of an entry of a directory.
-#[derive(Clone, Copy, Debug)]
+#[derive(Clone, Copy)]
 pub struct Listed<'a> {
     /// The type, `nfs_ftype4`.
     pub kind: Option<u32>,

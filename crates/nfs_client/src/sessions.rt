@@ -49,7 +49,7 @@ const BACK: Channel = Channel {
 };
 
 /// A client's record at the server.
-#[derive(Clone, Copy, Debug)]
+#[derive(Clone, Copy)]
 pub(crate) struct Registration {
     /// The client ID.
     client: u64,

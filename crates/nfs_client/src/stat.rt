@@ -16,7 +16,7 @@ use xdr_wire::{Reader, XdrFault};
 type Time = (i64, u32);
 
 /// Attributes of an object, each if the server returned it.
-#[derive(Clone, Copy, Debug)]
+#[derive(Clone, Copy)]
 pub struct Stat<'a> {
     /// 1, type, `nfs_ftype4`.
     pub kind: Option<u32>,

@@ -106,7 +106,7 @@ pub use laws::{
 };
 
 /// The operations that this server has, without their arguments (RFC 8881, section 18).
-#[derive(Clone, Copy, Debug, PartialEq, Eq)]
+#[derive(Clone, Copy, PartialEq, Eq)]
 pub enum OpKind {
     /// ACCESS.
     Access,

@@ -7,7 +7,7 @@ ghost use Rattle.nfs_ops.specs.Rows.{kind_at};
 use crate::{OpKind, rows};
 
 /// The place of an operation in a COMPOUND (RFC 8881, sections 2.10.2.1, 2.10.6 and 18.46).
-#[derive(Clone, Copy, Debug, PartialEq, Eq)]
+#[derive(Clone, Copy, PartialEq, Eq)]
 pub enum Placement {
     /// Anywhere, with a session or without one.
     Anywhere,

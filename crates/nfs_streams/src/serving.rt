@@ -25,7 +25,7 @@ use std::alloc::{AllocError, Allocator};
 use who_book::Book;
 
 /// The limits of serving.
-#[derive(Clone, Copy, Debug)]
+#[derive(Clone, Copy)]
 pub struct Limits {
     /// The most connections that are open at once. More than 256 count as 256. The hub refuses what is
     /// above the limit of its profile ([`Hub::most_connections`]): then the stream that arrived waits.
@@ -62,7 +62,7 @@ pub enum AllEnd {
 }
 
 /// Why no replies may be written. Serving then ends.
-#[derive(Clone, Copy, Debug, PartialEq, Eq)]
+#[derive(Clone, Copy, PartialEq, Eq)]
 pub(crate) enum Halt {
     /// The trail couldn't be kept.
     Keep,

@@ -14,7 +14,7 @@ const AS: &[u8] = b"as";
 const RELOAD: &[u8] = b"reload";
 
 /// A command and its caller.
-#[derive(Clone, Copy, Debug)]
+#[derive(Clone, Copy)]
 pub(crate) struct Order<'a> {
     pub(crate) uid: u32,
     pub(crate) gid: u32,
@@ -22,7 +22,7 @@ pub(crate) struct Order<'a> {
 }
 
 /// The request of a line of a script.
-#[derive(Clone, Copy, Debug)]
+#[derive(Clone, Copy)]
 pub(crate) enum Wish<'a> {
     /// `as UID GID COMMAND ..`: a command is run.
     Run(Order<'a>),

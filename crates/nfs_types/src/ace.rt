@@ -3,7 +3,7 @@ use std::alloc::Allocator;
 use xdr_wire::{Full, Opaque, Reader, Spell, Wire, Writer, XdrFault};
 
 /// An ACE as it is sent, `nfsace4` (RFC 8881, section 6.2.1): any numbers, and the who as text.
-#[derive(Clone, Copy, Debug)]
+#[derive(Clone, Copy)]
 pub struct Ace<'a> {
     /// The type, `acetype4`.
     pub kind: u32,

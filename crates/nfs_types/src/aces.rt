@@ -7,7 +7,7 @@ use xdr_wire::{Full, Spell, Writer};
 
 /// The ACEs of an ACL as a client sends them, `nfsace4<>` (RFC 8881, section 6.2.1), borrowed. They are at most as many
 /// as an array can have.
-#[derive(Clone, Copy, Debug)]
+#[derive(Clone, Copy)]
 pub struct Aces<'a> {
     pub entries: &'a [Ace<'a>],
     ghost within: { length entries.now ≤ 0xffff_ffff },

@@ -4,7 +4,7 @@ use xdr_wire::{Full, Reader, Spell, Wire, Writer, XdrFault};
 
 /// A part of an ACL as it is sent, `nfsacl41` (RFC 8881, section 6.4.3.2): the flags of the ACL, and then the access
 /// control entries (ACEs). The ACEs are read as [`xdr_wire::Array`], and written as [`crate::Aces`].
-#[derive(Clone, Copy, Debug, Drop)]
+#[derive(Clone, Copy, Drop)]
 pub struct Acl41<E> {
     /// The flags of the ACL, `aclflag4`.
     pub flags: u32,

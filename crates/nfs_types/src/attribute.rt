@@ -17,7 +17,7 @@ use who_book::{Book, NameKind};
 use xdr_wire::{Full, Spell, Writer};
 
 /// The attributes that are supported (RFC 8881, sections 5.6 to 5.8 and 6.2), each with its number.
-#[derive(Clone, Copy, Debug, PartialEq, Eq)]
+#[derive(Clone, Copy, PartialEq, Eq)]
 pub enum Attribute {
     /// supported_attrs: the attributes that are supported.
     SupportedAttrs = 0,
@@ -163,7 +163,7 @@ impl Attribute {
 }
 
 /// The facts about an object that GETATTR and READDIR return, borrowed.
-#[derive(Clone, Copy, Debug)]
+#[derive(Clone, Copy)]
 pub struct ObjectFacts<'a> {
     /// The type of the object.
     pub kind: Kind,

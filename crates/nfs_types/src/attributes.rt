@@ -5,7 +5,7 @@ use xdr_wire::{Full, Opaque, Reader, Spell, Wire, Writer, XdrFault};
 
 /// Attributes as they are sent, `fattr4` (RFC 8881, section 3.3.9): their set, and the bytes of their values in the
 /// order of their numbers. The bytes are borrowed, and only the record bounds them.
-#[derive(Clone, Copy, Debug)]
+#[derive(Clone, Copy)]
 pub struct Attributes<'a> {
     /// The set of the attributes.
     pub set: Bitmap,

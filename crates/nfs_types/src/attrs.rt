@@ -31,7 +31,7 @@ use xdr_wire::{Array, Opaque};
 const MAX_MODE: u32 = 0o7777;
 
 /// The values that CREATE, OPEN or SETATTR sets (RFC 8881, sections 5.8.2 and 6.2): each attribute that was sent.
-#[derive(Debug, Drop)]
+#[derive(Drop)]
 pub struct Attrs<A: Allocator = Global> {
     /// 4, size: the new number of bytes of the file.
     pub size: Option<u64>,

@@ -26,7 +26,7 @@ const CLIENT_ATTRIBUTES: [Attribute; 9] = [
 ];
 
 /// The attributes that a client sends. `None`: the attribute isn't sent.
-#[derive(Clone, Copy, Debug)]
+#[derive(Clone, Copy)]
 pub struct ClientAttributes<'a> {
     /// 1, type, `nfs_ftype4`.
     pub kind: Option<u32>,

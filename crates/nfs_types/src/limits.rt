@@ -5,7 +5,7 @@ ghost use Rattle.nfs_types.specs.Limits.{standard, office, limits_of, IsAllowed}
 use std::marker::Model;
 
 /// The limits that a profile sets. A server never changes its own.
-#[derive(Clone, Copy, Debug)]
+#[derive(Clone, Copy)]
 pub struct Limits {
     profile: u32,
     connections: usize,

@@ -1,8 +1,11 @@
 //! Statuses, `nfsstat4` (RFC 8881, section 15).
 ghost use Rattle.std.specs.Prelude.{◌≡◌};
 
+use std::fmt;
+use std::fmt::{Debug, Formatter};
+
 /// The outcome of an operation, `nfsstat4` (RFC 8881, section 15.1), of those that this server returns.
-#[derive(Clone, Copy, Debug, PartialEq, Eq)]
+#[derive(Clone, Copy, PartialEq, Eq)]
 pub enum Status {
     /// NFS4_OK: the operation was done.
     Ok = 0,
@@ -240,5 +243,11 @@ impl Status {
             Status::NotOnlyOp => "NOT_ONLY_OP",
             Status::WrongType => "WRONG_TYPE",
         }
+    }
+}
+
+impl Debug for Status {
+    fn fmt<W: fmt::Write>(&self, f: &mut Formatter<W>) -> fmt::Result {
+        f.write_str(self.name())
     }
 }

@@ -39,7 +39,7 @@ pub(crate) struct Peer<'a, R> {
 }
 
 /// Whether the connection of a session is made again if it breaks.
-#[derive(Clone, Copy, Debug, PartialEq, Eq)]
+#[derive(Clone, Copy, PartialEq, Eq)]
 pub(crate) enum Stay {
     /// It isn't.
     Never,

@@ -9,7 +9,7 @@ use std::io::Write;
 use std::{fmt, io};
 
 /// The line of a batch that a report belongs to, counted from 1, or a call of one command.
-#[derive(Clone, Copy, Debug)]
+#[derive(Clone, Copy)]
 pub(crate) enum Place {
     Call,
     Line(u64),

@@ -20,7 +20,7 @@ pub(crate) struct Object {
 }
 
 /// The type of an object.
-#[derive(Clone, Copy, Debug, PartialEq, Eq)]
+#[derive(Clone, Copy, PartialEq, Eq)]
 pub(crate) enum Kind {
     Directory,
     Link,

@@ -10,7 +10,7 @@ use std::alloc::Global;
 use std::convert::AsStr;
 
 /// The options of a command line of `nfslab`.
-#[derive(Clone, Copy, Debug, PartialEq, Eq)]
+#[derive(Clone, Copy, PartialEq, Eq)]
 pub struct LabOptions<'a> {
     /// The file of the book.
     pub book: Option<&'a str>,

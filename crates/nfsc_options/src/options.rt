@@ -13,7 +13,7 @@ use std::net::IpAddr;
 const TIMEOUT: u32 = 30;
 
 /// The options of a command line of `nfsc`.
-#[derive(Debug, Drop)]
+#[derive(Drop)]
 pub struct Options<'a> {
     /// The port of the server, 1 to 65535.
     pub port: u16,

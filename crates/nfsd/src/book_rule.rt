@@ -6,14 +6,14 @@ use rpc_record::Caller;
 use who_book::Book;
 
 /// The identity of a file: its device, and its number there.
-#[derive(Clone, Copy, Debug)]
+#[derive(Clone, Copy)]
 pub(crate) struct FileId {
     pub(crate) device: u64,
     pub(crate) node: u64,
 }
 
 /// A time of a file, as the system keeps it, since the epoch.
-#[derive(Clone, Copy, Debug)]
+#[derive(Clone, Copy)]
 pub(crate) struct FileTime {
     pub(crate) seconds: i64,
     pub(crate) nanoseconds: i64,
@@ -22,7 +22,7 @@ pub(crate) struct FileTime {
 /// The stamp of a file: its identity, the times of its last write and of its last change, and its length. A file whose
 /// content has changed has another stamp, unless it was written twice in one tick of the system's clock and has its old
 /// length.
-#[derive(Clone, Copy, Debug)]
+#[derive(Clone, Copy)]
 pub(crate) struct Stamp {
     pub(crate) id: FileId,
     /// The time of the last write. Each user with write access can set it.
@@ -34,7 +34,7 @@ pub(crate) struct Stamp {
 }
 
 /// How the file of the book has changed since it was read last.
-#[derive(Clone, Copy, Debug)]
+#[derive(Clone, Copy)]
 pub(crate) enum Change {
     /// Another file was moved to its place.
     Moved,
@@ -43,7 +43,7 @@ pub(crate) enum Change {
 }
 
 /// The plan for the file of the book.
-#[derive(Clone, Copy, Debug)]
+#[derive(Clone, Copy)]
 pub(crate) enum Plan {
     /// It isn't read, since it is unchanged.
     Stay,
@@ -54,7 +54,7 @@ pub(crate) enum Plan {
 }
 
 /// How a start of a home treats its book.
-#[derive(Clone, Copy, Debug)]
+#[derive(Clone, Copy)]
 pub(crate) enum Start {
     /// It reads the book.
     Read,

@@ -5,7 +5,7 @@ ghost use Rattle.nfsd.specs.NearLimits.{is_due, level_of, rank, reaches, reporte
 use compound_run::Server;
 
 /// How near a count is to its limit.
-#[derive(Clone, Copy, Debug)]
+#[derive(Clone, Copy)]
 pub(crate) enum Level {
     /// Less than 80 hundredths of the limit are in use.
     Low,

@@ -11,7 +11,7 @@ const SLOT_AT: usize = 40;
 const WORD: usize = 8;
 
 /// Counts of the syncs of a store, and what its files hold.
-#[derive(Clone, Copy, Debug)]
+#[derive(Clone, Copy)]
 pub(crate) struct StoreUse {
     /// How often a file was synced.
     pub(crate) syncs: u64,

@@ -16,7 +16,7 @@ use std::alloc::{AllocError, Global};
 use std::net::IpAddr;
 
 /// Options that can't be given together.
-#[derive(Clone, Copy, Debug, PartialEq, Eq)]
+#[derive(Clone, Copy, PartialEq, Eq)]
 pub(crate) enum Mistake {
     /// `--home` with `--bare`, or with an option that it stands for.
     HomeWithOthers,

@@ -22,7 +22,7 @@ const CONNECTIONS: u32 = 1;
 const CONCURRENT_CONNECTIONS: u32 = 4_294_967_295;
 
 /// The options of `nfsd`.
-#[derive(Debug, PartialEq, Eq, Drop)]
+#[derive(PartialEq, Eq, Drop)]
 pub struct Options<'a> {
     /// The file of the book.
     pub book: Option<&'a str>,

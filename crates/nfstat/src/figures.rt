@@ -6,7 +6,7 @@ ghost use Rattle.server_metrics.specs.Reading.{ReadsSeconds};
 use server_metrics::{Metric, Usage, micros_of, number_of};
 
 /// What is limited.
-#[derive(Clone, Copy, Debug)]
+#[derive(Clone, Copy)]
 pub(crate) struct Limits {
     pub(crate) connections: Usage,
     pub(crate) clients: Usage,
@@ -20,7 +20,7 @@ pub(crate) struct Limits {
 }
 
 /// What was done since the server started.
-#[derive(Clone, Copy, Debug)]
+#[derive(Clone, Copy)]
 pub(crate) struct Work {
     pub(crate) acl_refusals: u64,
     pub(crate) read_bytes: u64,
@@ -31,7 +31,7 @@ pub(crate) struct Work {
 }
 
 /// The start, the store and the book.
-#[derive(Clone, Copy, Debug)]
+#[derive(Clone, Copy)]
 pub(crate) struct Store {
     /// The seconds from 1970 to the start.
     pub(crate) start_time: u64,
@@ -140,7 +140,7 @@ impl Store {
 }
 
 /// The figures of a text.
-#[derive(Clone, Copy, Debug)]
+#[derive(Clone, Copy)]
 pub(crate) struct Figures {
     pub(crate) limits: Limits,
     pub(crate) work: Work,

@@ -34,7 +34,7 @@ fn pause() -> Duration {
 }
 
 /// Why nothing is printed.
-#[derive(Debug, Drop)]
+#[derive(Drop)]
 enum Stop {
     /// There are no figures.
     Reading(Fault),

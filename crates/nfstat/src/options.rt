@@ -18,7 +18,7 @@ stopped.
 const WATCH: &str = "Prints the numbers again each 10 seconds, until it is stopped";
 
 /// The words of `nfstat`, if they are valid.
-#[derive(Clone, Copy, Debug)]
+#[derive(Clone, Copy)]
 pub(crate) struct Options<'a> {
     /// The home.
     pub(crate) folder: &'a str,

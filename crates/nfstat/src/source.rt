@@ -12,7 +12,7 @@ use std::{fmt, fs, io};
 const MOST: u64 = 16_777_216;
 
 /// Why there are no figures.
-#[derive(Debug, Drop)]
+#[derive(Drop)]
 pub(crate) enum Fault {
     /// There is no such file.
     Missing,

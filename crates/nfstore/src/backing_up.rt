@@ -29,7 +29,7 @@ const OF_HOME: [&str; 2] = ["book.toml", "had-book"];
 const TRAIL: &str = "trail.txt";
 
 /// A backup that was made.
-#[derive(Clone, Copy, Debug)]
+#[derive(Clone, Copy)]
 pub(crate) struct Made {
     /// The second since 1970 in which it began. Everything that was answered before is there.
     pub(crate) begun: i64,
@@ -38,7 +38,7 @@ pub(crate) struct Made {
 }
 
 /// Why no backup is made.
-#[derive(Debug, Drop)]
+#[derive(Drop)]
 pub(crate) enum Refused {
     /// The destination is there already.
     Taken,

@@ -16,7 +16,7 @@ use toml::{Table, table_from_str};
 use trail_keeper::moment_text;
 
 /// Why no more entries are printed.
-#[derive(Debug, Drop)]
+#[derive(Drop)]
 pub(crate) enum Broken {
     /// The output can't be written, or the allocation of a line failed.
     Output(io::Error),

@@ -13,7 +13,7 @@ use store_journal::{Chosen, choose};
 use store_words::Stop;
 
 /// The counts of a whole store.
-#[derive(Clone, Copy, Debug)]
+#[derive(Clone, Copy)]
 pub(crate) struct Whole {
     generation: u64,
     frames: u64,

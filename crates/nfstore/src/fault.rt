@@ -6,7 +6,7 @@ use std::io::ErrorKind;
 use std::{fmt, io};
 
 /// Why an import, an export or a backup stops.
-#[derive(Debug, Drop)]
+#[derive(Drop)]
 pub(crate) enum Fault {
     /// A call of the system failed.
     System(io::Error),
@@ -83,7 +83,7 @@ impl Display for Fault {
 }
 
 /// Where something stopped, and why.
-#[derive(Debug, Drop)]
+#[derive(Drop)]
 pub(crate) struct Stopped {
     /// The path of this system, if it is known.
     pub(crate) path: Option<String>,

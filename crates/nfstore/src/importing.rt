@@ -145,7 +145,7 @@ fn tree_of(rt: &HostRuntime, alloc: Global, survey: &Survey<'_>) -> Result<Tree,
 }
 
 /// Why a store isn't made.
-#[derive(Debug, Drop)]
+#[derive(Drop)]
 pub(crate) enum Unmade {
     /// The directory has something that a tree can't have: this stopped it.
     Stopped(Stopped),

@@ -20,7 +20,7 @@ takes no lock, and copies also what a server has and changes meanwhile. With '--
 '--backup' FOLDER may be a home, which 'nfsd --home FOLDER' keeps: a folder with a folder 'store'.";
 
 /// A task for a store.
-#[derive(Clone, Copy, Debug)]
+#[derive(Clone, Copy)]
 pub(crate) enum Task<'a> {
     /// A summary of its content is printed.
     Summary,
@@ -41,7 +41,7 @@ pub(crate) enum Task<'a> {
 }
 
 /// The words of `nfstore`, if they are valid.
-#[derive(Clone, Copy, Debug)]
+#[derive(Clone, Copy)]
 pub(crate) struct Options<'a> {
     /// The folder of the store.
     pub(crate) folder: &'a str,

@@ -43,7 +43,7 @@ pub(crate) struct Log {
 }
 
 /// Why a store isn't read.
-#[derive(Debug, Drop)]
+#[derive(Drop)]
 pub(crate) enum Unread {
     /// It can't be read, or it is corrupt.
     Stop(StoreStop),

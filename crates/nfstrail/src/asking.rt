@@ -11,7 +11,7 @@ use std::fmt;
 use std::fmt::{Display, Formatter};
 
 /// Why the choice isn't known.
-#[derive(Clone, Copy, Debug, PartialEq, Eq)]
+#[derive(Clone, Copy, PartialEq, Eq)]
 pub(crate) enum Refusal<'a> {
     /// No user has this name in the book.
     NoUser(&'a str),

@@ -6,7 +6,7 @@ use crate::notice::Stamped;
 use crate::reading::read_line;
 
 /// How a line of the file that has its newline is handled.
-#[derive(Clone, Copy, Debug, PartialEq, Eq)]
+#[derive(Clone, Copy, PartialEq, Eq)]
 pub(crate) enum Fate {
     /// It is no line of a trail's file, and is printed whatever options are given.
     Unread,

@@ -5,7 +5,7 @@ use std::io::ErrorKind;
 use std::{fmt, io};
 
 /// Why a file of a home isn't read.
-#[derive(Debug, Drop)]
+#[derive(Drop)]
 pub(crate) enum Fault {
     /// A call of the system failed.
     System(io::Error),

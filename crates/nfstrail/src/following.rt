@@ -37,7 +37,7 @@ fn store_pause() -> Duration {
 }
 
 /// Why following stopped.
-#[derive(Debug, Drop)]
+#[derive(Drop)]
 pub(crate) enum Stop<'a> {
     /// The options can't be followed.
     Refused(Refusal<'a>),

@@ -12,14 +12,14 @@ use std::os::unix::fs::MetadataExt;
 use std::rt::Files;
 
 /// Which file it is: by its device and its number there.
-#[derive(Clone, Copy, Debug)]
+#[derive(Clone, Copy)]
 pub(crate) struct FileId {
     pub(crate) device: u64,
     pub(crate) node: u64,
 }
 
 /// What has become of the file that is read.
-#[derive(Clone, Copy, Debug, PartialEq, Eq)]
+#[derive(Clone, Copy, PartialEq, Eq)]
 pub(crate) enum Change {
     /// It is the trail, and what was read of it is still there.
     Same,

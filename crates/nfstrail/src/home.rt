@@ -7,7 +7,7 @@ use std::rt::Files;
 use std::{fmt, fs};
 
 /// A file of a home.
-#[derive(Clone, Copy, Debug, PartialEq, Eq)]
+#[derive(Clone, Copy, PartialEq, Eq)]
 pub(crate) enum Part {
     /// The trail.
     Trail,

@@ -23,7 +23,7 @@ pub(crate) enum Names {
 }
 
 /// Why a book isn't read.
-#[derive(Debug, Drop)]
+#[derive(Drop)]
 pub(crate) enum NoBook {
     /// Its file can't be read.
     Unread(Fault),

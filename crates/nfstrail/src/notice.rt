@@ -2,7 +2,7 @@
 use access_guard::Line;
 
 /// The part of a line after its moment.
-#[derive(Clone, Copy, Debug, PartialEq, Eq)]
+#[derive(Clone, Copy, PartialEq, Eq)]
 pub(crate) enum Notice {
     /// A server started.
     Start,
@@ -13,7 +13,7 @@ pub(crate) enum Notice {
 }
 
 /// A line of the file.
-#[derive(Clone, Copy, Debug, PartialEq, Eq)]
+#[derive(Clone, Copy, PartialEq, Eq)]
 pub(crate) struct Stamped {
     /// The moment in seconds since 1970-01-01, if the line has one.
     pub(crate) second: Option<u64>,

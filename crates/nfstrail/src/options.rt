@@ -18,7 +18,7 @@ last line without its end after 'not ended: ', with --follow only if its file is
     nfstrail office --user carol --since 2026-11-26";
 
 /// The words of `nfstrail`, if they are valid.
-#[derive(Clone, Copy, Debug)]
+#[derive(Clone, Copy)]
 pub(crate) struct Options<'a> {
     /// The home.
     pub(crate) folder: &'a str,

@@ -17,7 +17,7 @@ pub(crate) struct Places {
 }
 
 /// Whether an object is in the tree.
-#[derive(Clone, Copy, Debug, PartialEq, Eq)]
+#[derive(Clone, Copy, PartialEq, Eq)]
 pub(crate) enum Place {
     /// It is in the tree.
     There(Kind),

@@ -97,7 +97,7 @@ impl<'a> Printing<'a> {
 }
 
 /// Why printing stopped.
-#[derive(Debug, Drop)]
+#[derive(Drop)]
 pub(crate) enum Broken {
     /// The trail can't be read any more.
     Reading(io::Error),

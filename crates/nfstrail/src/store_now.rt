@@ -23,7 +23,7 @@ const TRIES: u32 = 16;
 const MOST_OF_CURRENT: u64 = 4096;
 
 /// Why the tree isn't known.
-#[derive(Debug, Drop)]
+#[derive(Drop)]
 pub(crate) enum Unknown {
     /// A file can't be read.
     Unread(Part, Fault),

@@ -10,7 +10,7 @@ use std::marker::Model;
 pub const BLOCK: usize = 4096;
 
 /// The bytes of one block.
-#[derive(Debug, Drop)]
+#[derive(Drop)]
 pub struct Block<A: Allocator = Global> {
     bytes: Vec<u8, A>,
 }

@@ -16,7 +16,7 @@ use std::collections::BTreeMap;
 use std::marker::Model;
 
 /// The bytes of a file.
-#[derive(Debug, Drop)]
+#[derive(Drop)]
 pub struct Blocks<A: Allocator = Global> {
     blocks: BTreeMap<usize, Block<A>, A>,
     size: usize,

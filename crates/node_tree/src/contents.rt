@@ -12,7 +12,7 @@ use acl_list::Kind;
 use std::alloc::{AllocError, Allocator, Global};
 
 /// The content of an object, by its type.
-#[derive(Debug, Drop)]
+#[derive(Drop)]
 pub enum Contents<A: Allocator = Global> {
     /// The bytes of a file.
     File(Blocks<A>),

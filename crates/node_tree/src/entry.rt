@@ -6,7 +6,7 @@ use std::alloc::{Allocator, Global};
 use std::marker::Model;
 
 /// A name in a directory, as READDIR lists it (RFC 8881, section 18.23).
-#[derive(Debug, Drop)]
+#[derive(Drop)]
 pub struct DirEntry<A: Allocator = Global> {
     cookie: u64,
     directory: u64,

@@ -6,7 +6,7 @@ use std::marker::Model;
 
 /// A child that gets a new name, with the objects found for both names (RENAME: RFC 8881, section 18.26). Only
 /// [`crate::Tree::plan_rename`] returns one.
-#[derive(Debug, Drop)]
+#[derive(Drop)]
 pub struct Move<'a> {
     /// The number of the child's directory.
     pub(crate) from: u64,
@@ -54,7 +54,7 @@ impl<'a> Move<'a> {
 }
 
 /// A RENAME that isn't refused.
-#[derive(Debug, Drop)]
+#[derive(Drop)]
 pub enum Plan<'a> {
     /// Both names belong to one object, and nothing changes.
     Same,

@@ -17,7 +17,7 @@ use std::marker::Model;
 use std::ops::Bound;
 
 /// The names of all directories, by rising cookie.
-#[derive(Debug, Drop)]
+#[derive(Drop)]
 pub struct NameList<A: Allocator = Global> {
     by_cookie: BTreeMap<u64, DirEntry<A>, A>,
     /// The cookies of the names in each directory.

@@ -14,7 +14,7 @@ use std::collections::BTreeMap;
 use std::marker::Model;
 
 /// The names of all directories, by rising cookie.
-#[derive(Debug, Drop)]
+#[derive(Drop)]
 pub struct NameTable<A: Allocator = Global> {
     list: NameList<A>,
     /// The cookie of each name, by directory.

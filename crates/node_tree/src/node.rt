@@ -16,7 +16,7 @@ use std::alloc::{AllocError, Allocator, Global};
 use std::marker::Model;
 
 /// The parts of a new object.
-#[derive(Debug, Drop)]
+#[derive(Drop)]
 pub struct NewObject<A: Allocator = Global> {
     /// The type of the object.
     pub kind: Kind,
@@ -33,7 +33,7 @@ pub struct NewObject<A: Allocator = Global> {
 }
 
 /// The attributes of an object that a checkpoint stores beside its parts.
-#[derive(Clone, Copy, Debug, PartialEq, Eq)]
+#[derive(Clone, Copy, PartialEq, Eq)]
 pub struct Kept {
     /// The tick of the last change.
     pub change: u64,
@@ -46,7 +46,7 @@ pub struct Kept {
 }
 
 /// An object of a tree: its attributes, including those that decide access. [`crate::Tree::read`] reads its bytes.
-#[derive(Debug, Drop)]
+#[derive(Drop)]
 pub struct Node<A: Allocator = Global> {
     contents: Contents<A>,
     owner: u32,

@@ -16,7 +16,7 @@ use std::marker::Model;
 use std::ops::Bound;
 
 /// The objects by rising number.
-#[derive(Debug, Drop)]
+#[derive(Drop)]
 pub struct NodeTable<A: Allocator = Global> {
     nodes: Slab<Node<A>, A>,
     /// The place of each number among the nodes.

@@ -42,7 +42,7 @@ impl From<AllocError> for RestoreFault {
 
 /// The objects and names restored so far: objects by rising number, names by rising cookie, each object before its
 /// names.
-#[derive(Debug, Drop)]
+#[derive(Drop)]
 pub struct Restoring<A: Allocator = Global> {
     store: Store<A>,
     /// The numbers of the objects.

@@ -39,7 +39,7 @@ use std::marker::Model;
 pub const END: u64 = 1 << 63;
 
 /// Objects by number, names by cookie, and the counters.
-#[derive(Debug, Drop)]
+#[derive(Drop)]
 pub struct Store<A: Allocator = Global> {
     alloc: A,
     limits: Limits,

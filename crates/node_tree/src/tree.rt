@@ -32,7 +32,7 @@ use std::alloc::{AllocError, Allocator, Global};
 use std::marker::Model;
 
 /// The objects and names of a file server.
-#[derive(Debug, Drop)]
+#[derive(Drop)]
 pub struct Tree<A: Allocator = Global> {
     store: Store<A>,
 }

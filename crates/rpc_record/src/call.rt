@@ -76,7 +76,7 @@ pub enum Procedure {
 }
 
 /// A call that can be run.
-#[derive(Clone, Copy, Debug)]
+#[derive(Clone, Copy)]
 pub struct Call<'a> {
     /// The transaction, which the reply names.
     pub xid: u32,

@@ -29,7 +29,7 @@ pub enum Step {
 
 /// Finds the records in a stream that arrives in pieces, whatever its fragments and wherever it is cut. It stores no
 /// byte of a record and allocates nothing: its user joins the parts.
-#[derive(Debug, Drop)]
+#[derive(Drop)]
 pub struct Framer {
     // the first bytes of a header that isn't whole
     header: [u8; 4],

@@ -1,7 +1,7 @@
 //! What is known of a server.
 
 /// How many there are of something, and the most that there may be.
-#[derive(Clone, Copy, Debug, PartialEq, Eq)]
+#[derive(Clone, Copy, PartialEq, Eq)]
 pub struct Usage {
     /// How many there are now.
     pub used: u64,
@@ -10,7 +10,7 @@ pub struct Usage {
 }
 
 /// How many calls of an operation ended with a status, since the server started.
-#[derive(Clone, Copy, Debug, PartialEq, Eq)]
+#[derive(Clone, Copy, PartialEq, Eq)]
 pub struct CallCount<'a> {
     /// The name of the operation, as `READ`.
     pub operation: &'a str,
@@ -21,7 +21,7 @@ pub struct CallCount<'a> {
 }
 
 /// What a server is doing. Counters begin with 0 when it starts.
-#[derive(Clone, Copy, Debug, PartialEq, Eq)]
+#[derive(Clone, Copy, PartialEq, Eq)]
 pub struct Metrics<'a> {
     /// The version of the server.
     pub version: &'a str,

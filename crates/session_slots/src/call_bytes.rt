@@ -4,7 +4,7 @@ ghost use Rattle.std.specs.Cmp.Lexicographic.{pointwise};
 ghost use Rattle.session_slots.specs.Views.{bytes_of};
 
 /// The bytes that a retry of a call has to repeat, in two parts.
-#[derive(Clone, Copy, Debug)]
+#[derive(Clone, Copy)]
 pub struct CallBytes<'a> {
     /// The first part.
     pub prefix: &'a [u8],

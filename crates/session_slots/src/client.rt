@@ -21,7 +21,7 @@ const SHORT_LEASE: u64 = 10;
 const SHORT_RUN: &[u8] = b"nfsc";
 
 /// The answer to a CREATE_SESSION that created a session (RFC 8881, section 18.36).
-#[derive(Clone, Copy, Debug, PartialEq, Eq)]
+#[derive(Clone, Copy, PartialEq, Eq)]
 pub struct Created {
     /// The number of the session.
     pub session: u64,
@@ -36,7 +36,7 @@ pub struct Created {
 }
 
 /// A CREATE_SESSION that was accepted.
-#[derive(Clone, Copy, Debug, PartialEq, Eq)]
+#[derive(Clone, Copy, PartialEq, Eq)]
 pub struct Creation {
     /// The sequence ID of the call.
     pub number: u32,
@@ -45,7 +45,7 @@ pub struct Creation {
 }
 
 /// The record of a client, as it is stored.
-#[derive(Clone, Copy, Debug)]
+#[derive(Clone, Copy)]
 pub struct Record<'a> {
     /// The client ID.
     pub number: u64,

@@ -15,7 +15,7 @@ use nfs_types::Status;
 use std::alloc::Allocator;
 
 /// The arguments of CREATE_SESSION, and the caller.
-#[derive(Clone, Copy, Debug)]
+#[derive(Clone, Copy)]
 pub struct Create {
     /// The client.
     pub client: u64,
@@ -34,7 +34,7 @@ pub struct Create {
 }
 
 /// The answer to CREATE_SESSION.
-#[derive(Clone, Copy, Debug, PartialEq, Eq)]
+#[derive(Clone, Copy, PartialEq, Eq)]
 pub struct Made {
     /// The session, or why none is created.
     pub result: Result<Created, Status>,
@@ -60,7 +60,7 @@ impl Made {
 }
 
 /// The decision on a CREATE_SESSION, before memory is allocated.
-#[derive(Clone, Copy, Debug, PartialEq, Eq)]
+#[derive(Clone, Copy, PartialEq, Eq)]
 enum Judged {
     /// The call is answered, and nothing changes.
     Answers(Made),

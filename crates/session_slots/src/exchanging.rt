@@ -15,7 +15,7 @@ use nfs_types::Status;
 use std::alloc::Allocator;
 
 /// The arguments of EXCHANGE_ID, and the caller.
-#[derive(Clone, Copy, Debug)]
+#[derive(Clone, Copy)]
 pub struct Exchange<'a> {
     /// The client owner's ID.
     pub owner: &'a [u8],
@@ -33,7 +33,7 @@ pub struct Exchange<'a> {
 }
 
 /// The answer to EXCHANGE_ID: the record of the client.
-#[derive(Clone, Copy, Debug, PartialEq, Eq)]
+#[derive(Clone, Copy, PartialEq, Eq)]
 pub struct Exchanged {
     /// The client ID.
     pub client: u64,
@@ -57,7 +57,7 @@ impl Exchanged {
 }
 
 /// The decision on an EXCHANGE_ID, before memory is allocated.
-#[derive(Clone, Copy, Debug, PartialEq, Eq)]
+#[derive(Clone, Copy, PartialEq, Eq)]
 enum ExchangeDecision {
     /// The call is refused, and nothing changes.
     Refuses(Status),

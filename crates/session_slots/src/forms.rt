@@ -79,7 +79,7 @@ impl<'a> Wire<'a> for Created {
 }
 
 /// The result of a CREATE_SESSION that was accepted.
-#[derive(Clone, Copy, Debug)]
+#[derive(Clone, Copy)]
 struct ResultForm(Result<Created, Status>);
 
 impl Spell for ResultForm {
@@ -142,7 +142,7 @@ impl<'a> Wire<'a> for Creation {
 }
 
 /// The record of a client, whose owner has at most 1,024 bytes, borrowed.
-#[derive(Clone, Copy, Debug)]
+#[derive(Clone, Copy)]
 pub struct RecordForm<'a> {
     /// The client ID.
     pub number: u64,
@@ -230,7 +230,7 @@ impl<'a> Wire<'a> for RecordForm<'a> {
 }
 
 /// A session, without its slots.
-#[derive(Clone, Copy, Debug, PartialEq, Eq)]
+#[derive(Clone, Copy, PartialEq, Eq)]
 pub struct SessionForm {
     /// The number of the session.
     pub number: u64,

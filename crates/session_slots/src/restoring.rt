@@ -27,7 +27,7 @@ use thiserror::Error;
 
 /// The numbers of the next client, the next session and the next open file. None is given twice, over any number of
 /// restarts.
-#[derive(Clone, Copy, Debug, PartialEq, Eq)]
+#[derive(Clone, Copy, PartialEq, Eq)]
 pub struct NextNumbers {
     /// The number of the next client, from 1 on.
     pub client: u64,

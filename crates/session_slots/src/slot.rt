@@ -16,7 +16,7 @@ use std::alloc::{AllocError, Allocator, Global};
 use std::marker::Model;
 
 /// Whether a call on a slot is new.
-#[derive(Clone, Copy, Debug, PartialEq, Eq)]
+#[derive(Clone, Copy, PartialEq, Eq)]
 pub enum Turn {
     /// The call has the next sequence ID.
     New,
@@ -45,7 +45,7 @@ fn is_next(lags: bool, last: u32, number: u32) -> bool
 }
 
 /// The last call of a slot, with its results, as it is stored.
-#[derive(Clone, Copy, Debug)]
+#[derive(Clone, Copy)]
 pub struct CachedCall<'a> {
     /// The sequence ID.
     pub number: u32,

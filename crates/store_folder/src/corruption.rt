@@ -8,7 +8,7 @@ use std::fmt::{Display, Formatter};
 use store_journal::{Current, Frames, Identity, Place, is_ended};
 
 /// The valid frames from the start of a file of a journal, and what follows them.
-#[derive(Clone, Copy, Debug, PartialEq, Eq)]
+#[derive(Clone, Copy, PartialEq, Eq)]
 pub struct FileFrames {
     /// The number of valid frames.
     pub frames: u64,

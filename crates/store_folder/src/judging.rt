@@ -9,7 +9,7 @@ use std::fs::Metadata;
 use std::os::unix::fs::MetadataExt;
 
 /// The metadata of a file.
-#[derive(Clone, Copy, Debug, PartialEq, Eq)]
+#[derive(Clone, Copy, PartialEq, Eq)]
 pub(crate) struct FileStat {
     pub is_regular: bool,
     /// The number of its names.
@@ -57,7 +57,7 @@ impl FileStat {
 }
 
 /// The metadata of the files of a store, if they exist.
-#[derive(Clone, Copy, Debug, PartialEq, Eq)]
+#[derive(Clone, Copy, PartialEq, Eq)]
 pub(crate) struct Seen {
     /// The folder has the key of an earlier form of store.
     pub is_earlier: bool,

@@ -32,7 +32,7 @@ pub struct Current {
 }
 
 /// The numbers of CURRENT in the order of its file. They keep this form in all versions.
-#[derive(Clone, Copy, Debug, PartialEq, Eq)]
+#[derive(Clone, Copy, PartialEq, Eq)]
 pub(crate) struct CurrentForm {
     pub version: u64,
     pub high: u64,

@@ -23,7 +23,7 @@ pub(crate) const RECORD: u64 = 2;
 pub(crate) const MARK: u64 = 3;
 
 /// The place of a frame in its generation's chain.
-#[derive(Clone, Copy, Debug, PartialEq, Eq)]
+#[derive(Clone, Copy, PartialEq, Eq)]
 pub struct Place {
     pub generation: u64,
     /// The number of frames before it.
@@ -46,7 +46,7 @@ impl Place {
 }
 
 /// A frame whose body is borrowed.
-#[derive(Clone, Copy, Debug)]
+#[derive(Clone, Copy)]
 pub struct Frame<'a> {
     /// Its kind: 0 a part of the checkpoint, 1 the checkpoint's end, 2 a record, 3 a mark.
     pub kind: u64,

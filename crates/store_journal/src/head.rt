@@ -5,7 +5,7 @@ use std::alloc::Allocator;
 use xdr_wire::{Full, Reader, Spell, Wire, Writer, XdrFault};
 
 /// The head of a frame: its version, place, kind and length, and checksums.
-#[derive(Clone, Copy, Debug, PartialEq, Eq)]
+#[derive(Clone, Copy, PartialEq, Eq)]
 pub struct Head {
     /// The version of the form. No frame has version 0.
     pub version: u64,

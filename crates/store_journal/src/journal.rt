@@ -13,7 +13,7 @@ use crate::writing::{Position, write_frame};
 use std::alloc::Allocator;
 
 /// A journal that takes records and checkpoints.
-#[derive(Drop, Debug)]
+#[derive(Drop)]
 pub struct Journal {
     /// The content of CURRENT.
     pub current: Current,

@@ -33,7 +33,7 @@ const WIPED: usize = 7 * 8 + 8;
 const ZEROS: [u8; WIPED] = [0; WIPED];
 
 /// The position of a frame.
-#[derive(Clone, Copy, Debug, PartialEq, Eq)]
+#[derive(Clone, Copy, PartialEq, Eq)]
 pub struct Position {
     pub place: Place,
     /// The number of bytes before it in its file.

@@ -3,7 +3,7 @@ ghost use Rattle.std.specs.Prelude.{◌≡◌, ◌≤◌, ◌<◌, ◌+◌, ◌-
 ghost use Rattle.trail_keeper.specs.Dates.{IsDate, is_leap, month_length, months_length, year_length, years_length};
 
 /// A date of the Gregorian calendar.
-#[derive(Clone, Copy, Debug, PartialEq, Eq)]
+#[derive(Clone, Copy, PartialEq, Eq)]
 pub struct Date {
     /// The year, from 1970 to 9999.
     pub year: u32,

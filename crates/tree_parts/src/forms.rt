@@ -9,7 +9,7 @@ use std::alloc::Allocator;
 use xdr_wire::{Full, Reader, Spell, Wire, Writer, XdrFault};
 
 /// The type of an object, by its number in nfs_ftype4 (RFC 8881, section 3.2).
-#[derive(Clone, Copy, Debug, PartialEq, Eq)]
+#[derive(Clone, Copy, PartialEq, Eq)]
 pub struct KindForm(pub Kind);
 
 impl Spell for KindForm {
@@ -46,7 +46,7 @@ impl<'a> Wire<'a> for KindForm {
 }
 
 /// The type of an access control entry (ACE), by its number (RFC 8881, section 6.2.1.1).
-#[derive(Clone, Copy, Debug, PartialEq, Eq)]
+#[derive(Clone, Copy, PartialEq, Eq)]
 pub struct EntryKindForm(pub EntryKind);
 
 impl Spell for EntryKindForm {
@@ -85,7 +85,7 @@ impl<'a> Wire<'a> for EntryKindForm {
 }
 
 /// The principal of an ACE.
-#[derive(Clone, Copy, Debug, PartialEq, Eq)]
+#[derive(Clone, Copy, PartialEq, Eq)]
 pub struct PrincipalForm(pub Who);
 
 impl Spell for PrincipalForm {
@@ -126,7 +126,7 @@ impl<'a> Wire<'a> for PrincipalForm {
 }
 
 /// An ACE.
-#[derive(Clone, Copy, Debug, PartialEq, Eq)]
+#[derive(Clone, Copy, PartialEq, Eq)]
 pub struct EntryForm(pub Entry);
 
 impl Spell for EntryForm {
@@ -171,7 +171,7 @@ fn write_entry<A: Allocator>(entry: &Entry, writer: &mut Writer<A>) -> Result<()
 }
 
 /// The entries of an ACL, lent: at most 64.
-#[derive(Clone, Copy, Debug)]
+#[derive(Clone, Copy)]
 pub struct ListForm<'a> {
     entries: &'a [Entry],
     ghost within: { length entries.now ≤ 64 },
