@@ -24,7 +24,7 @@ pub enum FirstMatch {
 }
 
 /// The summary of an ACL for one caller, over all 32 bits of a mask.
-#[derive(Clone, Copy, Default, PartialEq, Eq)]
+#[derive(Clone, Copy, Debug, Default, PartialEq, Eq)]
 pub struct Summary {
     /// The bits whose first matching ACE is an ALLOW.
     pub granted: u32,

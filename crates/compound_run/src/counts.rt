@@ -69,8 +69,8 @@ impl<A: Allocator> CallCounts<A> {
     }
 
     /// Counts an operation by the bytes of its result.
-    pub(crate) fn note(&mut self, result: &[u8]) {
-        let mut reader = Reader::new(result);
+    pub(crate) fn note(&mut self, bytes: &[u8]) {
+        let mut reader = Reader::new(bytes);
         let (Ok(number), Ok(status)) = (reader.u32(), reader.u32()) else {
             return;
         };

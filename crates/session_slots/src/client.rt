@@ -36,7 +36,7 @@ pub struct Created {
 }
 
 /// A CREATE_SESSION that was accepted.
-#[derive(Clone, Copy, PartialEq, Eq)]
+#[derive(Clone, Copy, Debug, PartialEq, Eq)]
 pub struct Creation {
     /// The sequence ID of the call.
     pub number: u32,

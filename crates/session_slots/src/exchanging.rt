@@ -15,7 +15,7 @@ use nfs_types::Status;
 use std::alloc::Allocator;
 
 /// The arguments of EXCHANGE_ID, and the caller.
-#[derive(Clone, Copy)]
+#[derive(Clone, Copy, Debug)]
 pub struct Exchange<'a> {
     /// The client owner's ID.
     pub owner: &'a [u8],

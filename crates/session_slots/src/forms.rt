@@ -230,7 +230,7 @@ impl<'a> Wire<'a> for RecordForm<'a> {
 }
 
 /// A session, without its slots.
-#[derive(Clone, Copy, PartialEq, Eq)]
+#[derive(Clone, Copy, Debug, PartialEq, Eq)]
 pub struct SessionForm {
     /// The number of the session.
     pub number: u64,

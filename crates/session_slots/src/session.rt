@@ -19,7 +19,7 @@ use std::alloc::{AllocError, Allocator, Global};
 use std::marker::Model;
 
 /// The attributes of a channel, `channel_attrs4` (RFC 8881, section 18.36), RDMA apart.
-#[derive(Clone, Copy, PartialEq, Eq)]
+#[derive(Clone, Copy, Debug, PartialEq, Eq)]
 pub struct Channel {
     /// Padding of requests and replies, in bytes.
     pub padding: u32,
@@ -80,7 +80,7 @@ pub enum Begin {
 }
 
 /// A session, as it is stored, without its slots.
-#[derive(Clone, Copy, PartialEq, Eq)]
+#[derive(Clone, Copy, Debug, PartialEq, Eq)]
 pub struct Held {
     /// The client of the session.
     pub client: u64,
