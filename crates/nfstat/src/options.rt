@@ -9,7 +9,7 @@ Prints what the server of a home is doing, for people: what is used of each limi
 operation and status, what was read, written and synced, the log and the checkpoint.
 
 The numbers are those of HOME/metrics.prom, a file for Prometheus. This program only reads that file:
-it asks the server nothing. nfsd of this version doesn't write the file yet. Numbers that are older
+it asks the server nothing. Only a server with --home writes the file. Numbers that are older
 than a minute are printed too, with a word on standard error and status 1: the server may have
 stopped.
 

@@ -52,7 +52,7 @@ impl Display for Fault {
     fn fmt<W: fmt::Write>(&self, f: &mut Formatter<W>) -> fmt::Result {
         match self {
             Fault::Missing => f.write_str(
-                "there is no such file; nfsd of this version doesn't write it yet",
+                "there is no such file; only a server with --home writes it",
             ),
             Fault::System(error) if error.kind() == ErrorKind::PermissionDenied => {
                 write!(f, "{error}; the user of the server may read it")

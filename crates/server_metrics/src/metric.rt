@@ -56,7 +56,7 @@ pub enum Metric {
     SlowestSync,
     /// The generation of the store.
     Generation,
-    /// The bytes that were logged after the last checkpoint.
+    /// The bytes of the store's active file: the last checkpoint and the calls after it.
     LogBytes,
     /// The seconds since the last checkpoint.
     CheckpointAge,
@@ -141,7 +141,8 @@ impl Metric {
             Metric::Syncs => "Syncs of the store.",
             Metric::SlowestSync => "How long the slowest sync took.",
             Metric::Generation => "The generation of the store.",
-            Metric::LogBytes => "Bytes that were logged after the last checkpoint.",
+            Metric::LogBytes =>
+                "Bytes of the store's active file: the last checkpoint and the calls after it.",
             Metric::CheckpointAge => "Seconds since the last checkpoint.",
             Metric::Full => "1 if the store is full, else 0.",
             Metric::BookEpoch => "The epoch of the book of names.",

@@ -14,7 +14,7 @@ pub struct Usage {
 pub struct CallCount<'a> {
     /// The name of the operation, as `READ`.
     pub operation: &'a str,
-    /// The name of the status, as `NFS4_OK`.
+    /// The name of the status, as `OK`.
     pub status: &'a str,
     /// The number of calls.
     pub count: u64,
@@ -55,7 +55,7 @@ pub struct Metrics<'a> {
     pub slowest_sync: u64,
     /// The generation of the store: it grows by one with each checkpoint.
     pub generation: u64,
-    /// The bytes that were logged after the last checkpoint.
+    /// The bytes of the store's active file: the last checkpoint and the calls after it.
     pub log_bytes: u64,
     /// The seconds since the last checkpoint.
     pub checkpoint_age: u64,

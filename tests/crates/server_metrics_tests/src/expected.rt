@@ -67,7 +67,7 @@ zoclesavory_slowest_sync_seconds 1.000250
 # HELP zoclesavory_generation The generation of the store.
 # TYPE zoclesavory_generation gauge
 zoclesavory_generation 13
-# HELP zoclesavory_log_bytes Bytes that were logged after the last checkpoint.
+# HELP zoclesavory_log_bytes Bytes of the store's active file: the last checkpoint and the calls after it.
 # TYPE zoclesavory_log_bytes gauge
 zoclesavory_log_bytes 1400000
 # HELP zoclesavory_checkpoint_age_seconds Seconds since the last checkpoint.
