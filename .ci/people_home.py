@@ -4,7 +4,7 @@ import re
 import subprocess
 import sys
 
-from people_lab import PATIENCE, Lab, built, see, write
+from people_lab import PATIENCE, Lab, built, read, see, write
 
 sys.path.insert(0, f"{os.path.dirname(os.path.dirname(os.path.abspath(__file__)))}/tools")
 import recorded
@@ -45,7 +45,8 @@ def private_homes(tree, room):
         see("the mode of its book", found["book.toml"], 0o644)
     for path, mode in ((".", 0o750), ("store", 0o755), ("trail.txt", 0o640), ("had-book", 0o644)):
         os.chmod(f"{home}/{path}", mode)
-    before = modes_below(home)
+    # metrics.prom is made anew by each server, by its umask
+    before = {**modes_below(home), "metrics.prom": 0o644}
     serve_once(tree, home, 0)
     see("the modes of a home that is there", modes_below(home), before)
 
@@ -63,12 +64,40 @@ def versions(tree, room):
     for words in (["--version"], ["-V"], ["--home", home, "--version"], ["--bare", "--trail", home, "-V"]):
         see(f"nfsd {words}", ran_with(program, *words), (VERSION, "", 0))
     see("what it makes", os.path.exists(home), False)
-    for name in ("nfstore", "nfstrail"):
+    for name in ("nfstore", "nfstrail", "nfstat"):
         see(f"{name} --version", ran_with(built(tree, name), "--version"), (VERSION.replace("nfsd", name), "", 0))
     see("an option that isn't one", ran_with(program, "--versions")[::2], ("", 2))
     with open("/dev/full", "w", encoding="ascii") as full:
         wanted = (None, "nfsd: standard output: No space left on device (os error 28)\n", 1)
         see("a version that can't be printed", ran_with(program, "--version", stdout=full), wanted)
+
+
+def numbers_for_people(tree, room):
+    """nfstat prints the numbers of a home that is served, and says where there are none, or where they aren't whole or are old."""
+    program, home = built(tree, "nfstat"), f"{room}/numbers"
+    path = f"{home}/metrics.prom"
+    lab = Lab(tree, "--home", home)
+    lab.see(0, ("put", "/note", "12345"), "")
+    lab.see(0, ("cat", "/note"), "12345")
+    lab.stop()
+    printed, complaint, status = ran_with(program, home)
+    see("nfstat's complaint and status", (complaint, status), ("", 0))
+    found = [line.split() for line in printed.splitlines()]
+    for line in ("used limit percent", "connections 0 16 0", "objects 2 16,384 0", "bytes 5 none -", "READ OK 1", "WRITE OK 1", "bytes read 5", "bytes written 5", "full no"):
+        see(f"a line of nfstat, {line}", line.split() in found, True)
+    see("the last line of nfstat", re.fullmatch(r"up since +\d{4}-\d\d-\d\dT\d\d:\d\d:\d\dZ", printed.splitlines()[-1]) is not None, True)
+    whole = read(path)
+    write(path, whole[:-1])
+    see("a text without its end", ran_with(program, home)[1:], (f"nfstat: {path}: its last line has no end; a server writes a whole one in its place\n", 1))
+    write(path, whole.replace(b"zoclesavory_opens ", b"zoclesavory_open "))
+    see("a text that lacks a number", ran_with(program, home)[1:], (f"nfstat: {path}: it has no number of zoclesavory_opens\n", 1))
+    write(path, whole)
+    os.utime(path, (1_000_000_000, 1_000_000_000))
+    printed_old, complaint, status = ran_with(program, home)
+    see("old numbers", (printed_old, re.sub(r"\d+ seconds", "N seconds", complaint), status), (printed, f"nfstat: {path}: it is N seconds old; the server may have stopped\n", 1))
+    os.remove(path)
+    see("no numbers", ran_with(program, home), ("", f"nfstat: {path}: there is no such file; only a server with --home writes it\n", 1))
+    see("no words", ran_with(program)[::2], ("", 2))
 
 
 def recorded_copies(_tree, _room):
