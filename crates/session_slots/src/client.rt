@@ -21,7 +21,7 @@ const SHORT_LEASE: u64 = 10;
 const SHORT_RUN: &[u8] = b"nfsc";
 
 /// The answer to a CREATE_SESSION that created a session (RFC 8881, section 18.36).
-#[derive(Clone, Copy, PartialEq, Eq)]
+#[derive(Clone, Copy, Debug, PartialEq, Eq)]
 pub struct Created {
     /// The number of the session.
     pub session: u64,
