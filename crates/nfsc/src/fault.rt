@@ -8,7 +8,7 @@ use nfs_types::Status;
 use std::alloc::{AllocError, AllocFailed};
 
 /// A fault in place of an answer.
-#[derive(Clone, Copy, thiserror::Error)]
+#[derive(Clone, Copy, Debug, thiserror::Error)]
 pub(crate) enum Fault {
     /// The server can't be connected to.
     #[error("socket")]
