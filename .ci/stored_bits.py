@@ -217,17 +217,24 @@ def versions(room, _):
     profile_of_another(small, folder)
 
 
-def profile_of_another(small, folder):
-    """A checkpoint of another profile is refused, and so is a call that isn't answered as it was."""
+def of_profile(small, profile):
+    """The frames of a small store with another profile in the head of its checkpoint, which is the first part."""
     content, last = b"", None
     for it in small.frames:
-        body = it.body
-        if it.kind == PART and last is None:
-            body = bytes([0, 0, 0, 1]) + body[4:]
-        made = small.current.frame(last, it.kind, body)
-        content, last = content + made, frames_of(content + made)[-1]
-    lay(folder, {**small.marked, small.name: content + bytes(700)})
-    see("another profile", refused(folder), stop(folder, 3, ": its checkpoint is of a profile that isn't known"))
+        body = profile.to_bytes(4, "big") + it.body[4:] if it.kind == PART and last is None else it.body
+        content += small.current.frame(last, it.kind, body)
+        last = frames_of(content)[-1]
+    return content
+
+
+def profile_of_another(small, folder):
+    """A checkpoint of an unknown profile, or with the parts of another one, is refused. So is a call that isn't answered as it was."""
+    for profile, status, sentence in (
+        (2, 3, ": its checkpoint is of a profile that isn't known"),
+        (1, 4, f"/{small.name}: its checkpoint and its records don't make a tree"),
+    ):
+        lay(folder, {**small.marked, small.name: of_profile(small, profile) + bytes(700)})
+        see(f"profile {profile}", refused(folder), stop(folder, status, sentence))
     content, last = b"", None
     for it in small.frames:
         body = it.body

@@ -12,7 +12,7 @@ NOSPC, FBIG = 28, 27
 MOST = 1 << 40
 # bytes of one WRITE and of one READ
 PIECE = 32_768
-# what SEQUENCE, PUTROOTFH and LOOKUP take of the results, behind the count of results
+# what SEQUENCE, PUTROOTFH and LOOKUP take of the results, after the count of results
 FRONT = 4 + 44 + 8 + 8
 
 
@@ -40,13 +40,13 @@ class Caller(Session):
     def __init__(self, server, owner):
         self.peer, self.uid, self.number, self.refused = server.connect(), 0, 0, None
         self.peer.sendall(compound(1, 0, 1, words(42, 0, 0) + opaque(owner) + words(0, 0, 0)))
-        told = reply(self.peer)
-        if told[:4] != words(0):
-            self.refused = struct.unpack(">I", told[:4])[0]
+        answer = reply(self.peer)
+        if answer[:4] != words(0):
+            self.refused = struct.unpack(">I", answer[:4])[0]
             return
-        self.client = told[20:28]
+        self.client = answer[20:28]
         channel = words(0, 65536, 65536, 65536, 16, 8, 0)
-        self.peer.sendall(compound(2, 0, 1, words(43) + told[20:32] + words(0) + channel + channel + words(0x4000_0000, 1, 0)))
+        self.peer.sendall(compound(2, 0, 1, words(43) + answer[20:32] + words(0) + channel + channel + words(0x4000_0000, 1, 0)))
         self.name = reply(self.peer)[20:36]
 
     def ends(self, server):
@@ -70,24 +70,24 @@ def content_of(caller, name, offset, count):
     got = b""
     while len(got) < count:
         most = min(PIECE, count - len(got))
-        status, told = caller.call(3, ROOT + lookup(name) + read_at(offset + len(got), most))
+        status, answer = caller.call(3, ROOT + lookup(name) + read_at(offset + len(got), most))
         see("the status of a READ", status, 0)
-        length = struct.unpack(">I", told[FRONT + 12 : FRONT + 16])[0]
+        length = struct.unpack(">I", answer[FRONT + 12 : FRONT + 16])[0]
         see("the bytes of a READ", length, most)
-        got += told[FRONT + 16 : FRONT + 16 + length]
+        got += answer[FRONT + 16 : FRONT + 16 + length]
     return got
 
 
 def number_of(caller, name, attribute):
     """An attribute of 64 bits, below 32, of a file of the root."""
-    status, told = caller.call(3, ROOT + lookup(name) + words(9, 1, 1 << attribute))
+    status, answer = caller.call(3, ROOT + lookup(name) + words(9, 1, 1 << attribute))
     see("the status of a GETATTR", status, 0)
-    see("the attributes of a GETATTR", told[FRONT + 8 : FRONT + 20], words(1, 1 << attribute, 8))
-    return struct.unpack(">Q", told[FRONT + 20 : FRONT + 28])[0]
+    see("the attributes of a GETATTR", answer[FRONT + 8 : FRONT + 20], words(1, 1 << attribute, 8))
+    return struct.unpack(">Q", answer[FRONT + 20 : FRONT + 28])[0]
 
 
 def see_long_file(caller, content):
-    """The file has its bytes, zeros behind them, and one byte at its end."""
+    """The file has its bytes, zeros after them, and one byte at its end."""
     see("the bytes of a long file", content_of(caller, b"long", 0, len(content)), content)
     for offset in (len(content), MOST // 2, MOST - 1 - PIECE):
         see("the bytes that nobody wrote", content_of(caller, b"long", offset, PIECE), bytes(PIECE))
@@ -96,7 +96,7 @@ def see_long_file(caller, content):
 
 
 def long_file(program, room):
-    """A file of more than 1 MiB is written in pieces, has a byte at 2^40 - 1 and none behind it, and is as it was after a kill and a restart."""
+    """A file of more than 1 MiB is written in pieces, has a byte at 2^40 - 1 and none after it, and is as it was after a kill and a restart."""
     home = f"{room}/home"
     content = random.Random(40).randbytes(3 * (1 << 20) + 5)
     server = Server(program, "--home", home, *OFFICE)

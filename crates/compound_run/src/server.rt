@@ -134,7 +134,8 @@ impl<A: Allocator + Copy> Server<A> {
     ///
     /// `Misfit`: the open files don't fit. An open's number isn't above those before it, or wasn't given out yet. Its
     /// file doesn't exist, or its client has no record. Its owner has more than 1,024 bytes, its access isn't 1, 2 or
-    /// 3, or its seqid is 0. Or they are more than 4,096, or the number of the next one is 0 or above 2^63.
+    /// 3, or its seqid is 0. Or they are more than the profile permits, or the number of the next one is 0 or above
+    /// 2^63.
     pub fn restored(
         alloc: A,
         tree: Tree<A>,

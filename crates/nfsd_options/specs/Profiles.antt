@@ -9,7 +9,7 @@ use Rattle.nfsd_options.specs.declared.profile.Profile.{Profile}
 use Rattle.nfsd_options.specs.declared.profile.Profile.TheVariants.{Standard, Office}
 
 -- the profile of a name, where one has it
-abbrev pub profile_named : Text → Option Profile
+unfoldable pub profile_named : Text → Option Profile
 profile_named name =
     if bytes_eq name (codes "standard") then Some Standard
     else if bytes_eq name (codes "office") then Some Office

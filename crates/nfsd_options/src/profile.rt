@@ -16,6 +16,7 @@ pub enum Profile {
 }
 
 /// The profile of a name. `None`: no profile has it.
+#[tactic(auto, unfolding(crate::specs::Profiles::profile_named))]
 fn profile_named(name: &str) -> Option<Profile>
     ensures { result ≡ profile_named name.now }
 {
