@@ -17,6 +17,9 @@ use store_folder::{Bounded, file_limit};
 /// The seconds after which the numbers are written anew.
 const EVERY: u64 = 10;
 
+/// The most objects whose bytes are summed for each text.
+const FEW: usize = 65_536;
+
 /// Everybody may read the numbers who may enter the home.
 const METRICS_MODE: u32 = 0o644;
 
@@ -45,6 +48,8 @@ pub(crate) struct MetricsFile<'a, R> {
     written: Option<u64>,
     /// A connection was open when the server was looked at last.
     was_open: bool,
+    /// The bytes of all files, when they were counted last.
+    content: u64,
     /// The last attempt to write failed, and was reported.
     has_failed: bool,
 }
@@ -165,18 +170,28 @@ impl<'a, R: Files + Alloc + Clock> MetricsFile<'a, R> {
             start_time: u64::try_from(second(rt)).unwrap_or(0),
             written: None,
             was_open: false,
+            content: 0,
             has_failed: false,
         })
     }
 
-    /// Whether the numbers are to be written: each 10 seconds, and once the last connection is closed.
-    fn is_due(&self, open: usize) -> bool {
+    /// Whether the numbers weren't written for 10 seconds.
+    fn is_old(&self) -> bool {
         match self.written {
-            Some(written) => {
-                steady_second(self.rt).saturating_sub(written) >= EVERY
-                    || (self.was_open && open == 0)
-            }
+            Some(written) => steady_second(self.rt).saturating_sub(written) >= EVERY,
             None => true,
+        }
+    }
+
+    /// Whether the last connection was closed since the server was looked at last.
+    fn is_left(&self, open: usize) -> bool {
+        self.was_open && open == 0
+    }
+
+    /// Counts the bytes of all files. Of many objects that takes long, so it is done only each 10 seconds.
+    fn count_content(&mut self, server: &Server) {
+        if self.is_old() || server.tree().object_count() <= FEW {
+            self.content = content_bytes(server);
         }
     }
 
@@ -204,7 +219,7 @@ impl<'a, R: Files + Alloc + Clock> MetricsFile<'a, R> {
             sessions: usage(sessions, limits.sessions()),
             opens: usage(server.opens().len(), limits.opens()),
             objects: usage(tree.object_count(), limits.objects()),
-            content: content_bytes(server),
+            content: self.content,
             capacity: None,
             calls: calls.as_slice(),
             acl_refusals: refusals(counts),
@@ -262,7 +277,8 @@ impl<R: Files + Alloc + Clock + Eprint> MetricsFile<'_, R> {
     /// Writes the numbers of a server if that is due, given how many connections are open. Serving goes on where they
     /// can't be written.
     pub(crate) fn keep(&mut self, server: &Server, open: usize, store: &StoreUse) {
-        if self.is_due(open) {
+        if self.is_old() || self.is_left(open) {
+            self.count_content(server);
             self.written = Some(steady_second(self.rt));
             let end = self.write(server, open, store);
             self.note_end(end);
