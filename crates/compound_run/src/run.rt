@@ -144,14 +144,16 @@ impl<A: Allocator + Copy> Realm<A> {
         ensures settled { self.new.tree.log.held ≡ [] }
     {
         let start = out.len();
-        let result = match self.run(step, op, refused, out) {
-            Ok(handles) => Ok(handles),
+        match self.run(step, op, refused, out) {
+            Ok(handles) => {
+                self.counts.note(bytes_after(out.bytes(), start));
+                Ok(handles)
+            }
             Err(status) => {
                 put_refusal(op.number(), status, out);
+                self.counts.note(bytes_after(out.bytes(), start));
                 Err(status)
             }
-        };
-        self.counts.note(bytes_after(out.bytes(), start));
-        result
+        }
     }
 }
