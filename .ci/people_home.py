@@ -3,6 +3,7 @@ import os
 import re
 import subprocess
 import sys
+import time
 
 from people_lab import PATIENCE, Lab, built, read, see, write
 
@@ -15,8 +16,8 @@ VERSION = "nfsd (Zoclesavory) 0.9, commit not recorded\n"
 
 
 def modes_below(home):
-    """The mode of a home, and the modes of each folder and file in it, by their paths."""
-    paths = [home, *(f"{at}/{name}" for at, folders, files in os.walk(home) for name in folders + files)]
+    """The mode of a home, and the modes of each folder and file in it, by their paths. Not of metrics.prom, which each server makes anew by its umask."""
+    paths = [home, *(f"{at}/{name}" for at, folders, files in os.walk(home) for name in folders + files if not name.startswith("metrics.prom"))]
     return {os.path.relpath(path, home): os.stat(path).st_mode & 0o7777 for path in paths}
 
 
@@ -45,8 +46,7 @@ def private_homes(tree, room):
         see("the mode of its book", found["book.toml"], 0o644)
     for path, mode in ((".", 0o750), ("store", 0o755), ("trail.txt", 0o640), ("had-book", 0o644)):
         os.chmod(f"{home}/{path}", mode)
-    # metrics.prom is made anew by each server, by its umask
-    before = {**modes_below(home), "metrics.prom": 0o644}
+    before = modes_below(home)
     serve_once(tree, home, 0)
     see("the modes of a home that is there", modes_below(home), before)
 
@@ -77,8 +77,12 @@ def numbers_for_people(tree, room):
     program, home = built(tree, "nfstat"), f"{room}/numbers"
     path = f"{home}/metrics.prom"
     lab = Lab(tree, "--home", home)
-    lab.see(0, ("put", "/note", "12345"), "")
-    lab.see(0, ("cat", "/note"), "12345")
+    lab.see(0, ("put", "/note", "12345"), "ok\n")
+    lab.see(0, ("cat", "/note"), "12345\n")
+    until = time.monotonic() + PATIENCE
+    while b'operation="READ"' not in read(path):
+        see("numbers in time", time.monotonic() < until, True)
+        time.sleep(0.05)
     lab.stop()
     printed, complaint, status = ran_with(program, home)
     see("nfstat's complaint and status", (complaint, status), ("", 0))
