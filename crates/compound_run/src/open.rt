@@ -37,6 +37,9 @@ use rpc_record::Caller;
 use std::alloc::{AllocError, Allocator};
 use xdr_wire::Writer;
 
+/// The most bytes of a file that is made with a size. They are allocated at once, and each of them is zero.
+const MOST_AT_ONCE: usize = 1_048_576;
+
 /// Whether a file may be created.
 fn is_creating(how: &OpenHow<'_>) -> bool
     ensures { result ≡ rows.is_creating (parts.how (open_how_value how.now)) }
@@ -177,7 +180,7 @@ impl<A: Allocator + Copy> Realm<A> {
 
 impl<A: Allocator + Copy> Realm<A> {
     /// A new file for a directory, of the size that is set; each byte of it is zero. `NoSpc`: its ACL would exceed the
-    /// bounds of an ACL. `Delay`: an allocation fails.
+    /// bounds of an ACL. `Delay`: an allocation fails, or more than [`MOST_AT_ONCE`] bytes would have to be allocated.
     fn new_file(
         &self,
         directory: u64,
@@ -197,6 +200,9 @@ impl<A: Allocator + Copy> Realm<A> {
             text: &[],
         };
         let mut new = self.new_object(directory, draft, wanted, caller)?;
+        if size > MOST_AT_ONCE {
+            return Err(Status::Delay);
+        }
         match new.bytes.resize(size, 0) {
             Ok(()) => Ok(new),
             Err(AllocError) => Err(Status::Delay),

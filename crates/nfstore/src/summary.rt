@@ -13,9 +13,6 @@ use store_journal::{Chosen, Slot, choose};
 /// The version of CURRENT and of frames. A store of another version isn't opened.
 const FORMAT: u64 = 3;
 
-/// The profile of checkpoints. A store of another profile isn't opened.
-const PROFILE: u64 = 0;
-
 /// How many objects a tree has.
 pub(crate) fn count_objects(tree: &Tree) -> u64 {
     let mut count = 0u64;
@@ -81,9 +78,9 @@ fn write_file<W: Write>(
         Slot::A => "tree.a",
         Slot::B => "tree.b",
     };
-    let (format, profile) = (FORMAT, PROFILE);
+    let profile = looked.restart.server().tree().limits().profile();
     let frames = frames_of(current.identity, current.generation, &looked.file);
-    writeln!(out, "format {format}")?;
+    writeln!(out, "format {FORMAT}")?;
     writeln!(out, "machine {}", current.machine)?;
     writeln!(out, "profile {profile}")?;
     writeln!(out, "file {file}")?;
