@@ -1,13 +1,14 @@
 #!/usr/bin/env python3
 """Random calls to nfsd and to the plain program of `model.py`, side by side.
 
-    calls.py NFSD bare|net|many FIRST SEEDS CALLS [BOOK ..]
+    calls.py NFSD bare|net|many FIRST SEEDS CALLS [BOOK ..] [--profile standard|office]
 
 Each seed from FIRST on begins a server, over standard input and output (bare), or over 127.0.0.1 with sessions (net, many), and makes that many calls. A reply
 that differs in a byte is printed, and the status is 1; with net and many the first line in which the audit trail's file differs is printed too. Both have the names and
 members of the file BOOK, if it is given. With many there are four connections at once: a call may arrive in two parts, between which the others make theirs;
 several may be sent at once; a fifth connection breaks now and then; and if several books are given, one after the other is loaded. Times aren't requested,
-since the server's clock is its own.
+since the server's clock is its own. Server and plain program have the limits of one profile, standard if the option isn't given. With office sizes and
+offsets around 2^40 are drawn too, and there may be more clients. A server without sessions (bare) has no office profile.
 """
 import random, shutil, socket, subprocess, sys, tempfile, time, os, tomllib
 sys.path.insert(0, os.path.dirname(os.path.abspath(__file__)))
@@ -22,11 +23,20 @@ ANON = (0, bytes(12))
 BYP = (0xffffffff, b'\xff' * 12)
 
 
+# what is drawn beside the standard profile's sizes, and beside its offsets of READ and of WRITE: around 2 MiB and 2^40
+SIZES = [2 ** 21 - 1, 2 ** 21 + 7, 3 * 2 ** 20, 2 ** 40 - 1, 2 ** 40 + 1]
+PLACES = [2 ** 20 - 1, 2 ** 20, 2 ** 21, 2 ** 40 - 3000, 2 ** 40 - 5, 2 ** 40 - 1, 2 ** 40]
+
+
 class Gen:
     def __init__(self, rng, srv):
         self.r = rng
         self.s = srv
         self.sids = []
+        is_long = srv.profile == 'office'
+        self.sizes = [0, 0, 0, 1, 3, 10, 5000, 1048576, 1048577, 2 ** 40] + SIZES * is_long
+        self.reads = [0, 0, 1, 2, 100, 2 ** 63, 2 ** 64 - 1] + PLACES * is_long
+        self.writes = [0, 0, 1, 2, 3, 5, 100, 1048575, 1048576, 2 ** 64 - 1] + PLACES * is_long
 
     def name(self):
         return self.r.choice(ODD) if self.r.random() < 0.06 else self.r.choice(NAMES)
@@ -88,7 +98,7 @@ class Gen:
         r = self.r
         d = {}
         if r.random() < size:
-            d[4] = U(r.choice([0, 0, 0, 1, 3, 10, 5000, 1048576, 1048577, 2 ** 40]))
+            d[4] = U(r.choice(self.sizes))
         if r.random() < 0.25:
             d[12] = self.acl()
         if r.random() < 0.3:
@@ -162,7 +172,7 @@ class Gen:
             a = o(model.as_handle(k)) if r.random() < 0.97 else o(r.choice([b'', b'x' * 16, bytes(15), b'1' * 129]))
         elif n == 25:
             s = self.S()
-            a = u(s[0]) + s[1] + U(r.choice([0, 0, 1, 2, 100, 2 ** 63, 2 ** 64 - 1])) + u(r.choice([0, 1, 10, 4096, 32768, 2 ** 32 - 1]))
+            a = u(s[0]) + s[1] + U(r.choice(self.reads)) + u(r.choice([0, 1, 10, 4096, 32768, 2 ** 32 - 1]))
         elif n == 26:
             a = U(r.choice([0, 0, 0, 0, 1, 2, 3, 4, 5, 2 ** 64 - 1] + [ck for d in self.s.names.values() for _, ck in d.values()][:6])) + bytes(8) + u(0) + u(r.choice([0, 15, 16, 40, 56, 64, 100, 200, 1000, 60000, 2 ** 32 - 1])) + M(self.want())
         elif n == 29:
@@ -172,7 +182,7 @@ class Gen:
             a = u(s[0]) + s[1] + self.F(0.2)
         elif n == 38:
             s = self.S()
-            a = u(s[0]) + s[1] + U(r.choice([0, 0, 1, 2, 3, 5, 100, 1048575, 1048576, 2 ** 64 - 1])) + u(r.choice([0, 1, 2, 2, 2, 3]) if r.random() < 0.1 else 2) + o(r.choice([b'', b'x', b'hello', b'y' * 100, b'z' * 3000]))
+            a = u(s[0]) + s[1] + U(r.choice(self.writes)) + u(r.choice([0, 1, 2, 2, 2, 3]) if r.random() < 0.1 else 2) + o(r.choice([b'', b'x', b'hello', b'y' * 100, b'z' * 3000]))
         elif n == 53:
             a = bytes(8) + U(1) + u(1) + u(0) + u(0) + u(0)
         elif n == 42:
@@ -235,7 +245,7 @@ class Gen:
         x = r.random()
         sess = sorted(s.sessions)
         if x < 0.05 or not s.clients:
-            e = u(42) + r.choice([b'v' * 8, b'v' * 8, b'w' * 8]) + o(r.choice([b'own1', b'own2', b'own3', b'own%d' % r.randint(4, 80)])) + u(r.choice([0, 0, 0, 0, 0x80000000, 0x40000000, 0xc0000000, 3])) + u(r.choice([0] * 20 + [1, 3])) + (u(0) if r.random() < 0.8 else u(1) + o(b'd') + o(b'n') + I(5) + u(7))
+            e = u(42) + r.choice([b'v' * 8, b'v' * 8, b'w' * 8]) + o(r.choice([b'own1', b'own2', b'own3', b'own%d' % r.randint(4, s.limits['clients'] + 16)])) + u(r.choice([0, 0, 0, 0, 0x80000000, 0x40000000, 0xc0000000, 3])) + u(r.choice([0] * 20 + [1, 3])) + (u(0) if r.random() < 0.8 else u(1) + o(b'd') + o(b'n') + I(5) + u(7))
             return self.call([e])
         if x < 0.12 or not sess:
             n = r.choice(sorted(s.clients)) if r.random() < 0.9 else r.randint(1, s.cnum)
@@ -365,16 +375,25 @@ def begun(nfsd, rng, words):
         p.wait()
 
 
-def run(seed, n, nfsd, bare, books, trailfile):
+def profile_of(words):
+    """The profile that `--profile NAME` says, and the other words; None where it says another one."""
+    if '--profile' not in words:
+        return 'standard', words
+    at = words.index('--profile')
+    name = ''.join(words[at + 1:at + 2])
+    return name if name in model.PROFILES else None, words[:at] + words[at + 2:]
+
+
+def run(seed, n, nfsd, bare, books, profile, trailfile):
     rng = random.Random(seed)
-    srv = model.Server(book_of(books[0]) if books else model.Book(), bare)
+    srv = model.Server(book_of(books[0]) if books else model.Book(), bare, profile=profile)
     g = Gen(rng, srv)
     g.hist, g.opened = {}, False
     if bare:
         p = subprocess.Popen([nfsd, '--bare'], stdin=subprocess.PIPE, stdout=subprocess.PIPE)
         wr, rd = p.stdin, p.stdout
     else:
-        p, port = begun(nfsd, random.Random(), ['--connections', '1', '--trail', trailfile] + (['--book', books[0]] if books else []))
+        p, port = begun(nfsd, random.Random(), ['--profile', profile, '--connections', '1', '--trail', trailfile] + (['--book', books[0]] if books else []))
         sk = socket.create_connection(('127.0.0.1', port))
         wr, rd = sk.makefile('wb'), sk.makefile('rb')
     counts = {}
@@ -403,15 +422,15 @@ def breaks(port):
         return sk.recv(1) == b''
 
 
-def run_many(seed, n, nfsd, books, trailfile):
+def run_many(seed, n, nfsd, books, profile, trailfile):
     rng = random.Random(seed)
-    srv = model.Server(book_of(books[0]) if books else model.Book(), False)
+    srv = model.Server(book_of(books[0]) if books else model.Book(), False, profile=profile)
     g = Gen(rng, srv)
     g.hist, g.opened = {}, False
     path = trailfile + '.toml'
     if books:
         shutil.copy(books[0], path)
-    p, port = begun(nfsd, random.Random(), ['--concurrent', '--trail', trailfile] + (['--book', path] if books else []))
+    p, port = begun(nfsd, random.Random(), ['--profile', profile, '--concurrent', '--trail', trailfile] + (['--book', path] if books else []))
     streams = [socket.create_connection(('127.0.0.1', port)) for _ in range(4)]
     for it in streams:
         it.setsockopt(socket.IPPROTO_TCP, socket.TCP_NODELAY, 1)
@@ -459,15 +478,18 @@ def run_many(seed, n, nfsd, books, trailfile):
 
 
 if __name__ == '__main__':
-    nfsd, mode, first, seeds, n = (sys.argv[1], sys.argv[2], int(sys.argv[3]), int(sys.argv[4]), int(sys.argv[5]))
-    books = sys.argv[6:]
+    profile, words = profile_of(sys.argv[1:])
+    if len(words) < 5 or words[1] not in ('bare', 'net', 'many') or profile is None or (words[1], profile) == ('bare', 'office'):
+        sys.exit(__doc__)
+    nfsd, mode, first, seeds, n = (words[0], words[1], int(words[2]), int(words[3]), int(words[4]))
+    books = words[5:]
     tot = {}
     bad = 0
     t0 = time.time()
     with tempfile.TemporaryDirectory(prefix='judge-') as folder:
         for s in range(first, first + seeds):
             trail = f'{folder}/{s}'
-            c, ok = run_many(s, n, nfsd, books, trail) if mode == 'many' else run(s, n, nfsd, mode == 'bare', books, trail)
+            c, ok = run_many(s, n, nfsd, books, profile, trail) if mode == 'many' else run(s, n, nfsd, mode == 'bare', books, profile, trail)
             bad += not ok
             for k, v in c.items():
                 tot[k] = tot.get(k, 0) + v
