@@ -4,13 +4,15 @@
     stores_beside.py NFSD NFSTORE runs FIRST SEEDS CALLS [BOOK ..]
     stores_beside.py NFSD NFSTORE damage SEED CALLS [STEP]
     stores_beside.py NFSD NFSTORE forms SEED CALLS [STEP]
+    stores_beside.py NFSD NFSTORE edges
 
 Each takes `--profile standard|office` too: the profile of the stores, standard if it isn't given.
 Each seed fills a store by random calls, over three starts of a server that is killed. With BOOKs one after the other is loaded. The reports of both are
 compared: the values, the tree, the calls, and a checkpoint that `nfstore --close` makes of a copy, byte for byte. "damage" changes a small store: a bit of
 each byte, each length of each file, and files that are missing, foreign or exchanged. "forms" changes each byte of a part or record and computes its checksums again.
 Of a longer one these are the first and the last of its bytes. If one refuses a store, the other has to. Else their reports have to be equal. With STEP each
-STEPth change is tried. A difference is printed, and the status is 1.
+STEPth change is tried. "edges" compares a store of the written calls of calls.py: files of the greatest size with holes, many clients, open files and names.
+A difference is printed, and the status is 1.
 """
 import os
 import random
@@ -72,6 +74,19 @@ def fill(nfsd, folder, profile, seed, count, books):
                 time.sleep(1.2)  # for a mark
         ran.kill()
         ran.wait()
+
+
+def fill_edges(nfsd, folder, profile):
+    """Makes a store of a profile by written calls."""
+    srv = model.Server(lasting=True, profile=profile)
+    ran, port = calls.begun(nfsd, random.Random(), ['--profile', profile, '--connections', '1', '--store', folder])
+    with socket.create_connection(('127.0.0.1', port)) as peer, peer.makefile('rb') as replies:
+        for record in calls.edges(srv):
+            srv.record(record, (0, 0))
+            peer.sendall(calls.head(record))
+            replies.read(int.from_bytes(replies.read(4), 'big') & 0x7fffffff)
+    ran.kill()
+    ran.wait()
 
 
 # what both say
@@ -153,13 +168,22 @@ def runs(nfsd, nfstore, room, profile, first, seeds, count, *books):
     for seed in range(int(first), int(first) + int(seeds)):
         folder = f'{room}/{seed}'
         fill(nfsd, folder, profile, seed, int(count), books)
-        if not compare(nfstore, folder, f'seed {seed}:'):
-            differs(f'seed {seed}:', read(folder))
-            continue
-        compare_lists(nfstore, folder, f'seed {seed}:')
-        compare_closed(nfstore, folder, f'seed {seed}:')
+        compare_all(nfstore, folder, f'seed {seed}:')
         shutil.rmtree(folder)
     return int(seeds)
+
+
+def compare_all(nfstore, folder, what):
+    if not compare(nfstore, folder, what):
+        return differs(what, read(folder))
+    compare_lists(nfstore, folder, what)
+    compare_closed(nfstore, folder, what)
+
+
+def edges(nfsd, nfstore, room, profile):
+    fill_edges(nfsd, f'{room}/store', profile)
+    compare_all(nfstore, f'{room}/store', 'edges:')
+    return 1
 
 
 # stores that are damaged
@@ -297,13 +321,13 @@ def forms(nfsd, nfstore, room, profile, seed, count, step='1'):
 def main(profile, nfsd, nfstore, mode, *words_of_mode):
     since = time.time()
     with tempfile.TemporaryDirectory(prefix='stores-') as room:
-        tried = {'runs': runs, 'damage': damage, 'forms': forms}[mode](os.path.abspath(nfsd), os.path.abspath(nfstore), room, profile, *words_of_mode)
+        tried = {'runs': runs, 'damage': damage, 'forms': forms, 'edges': edges}[mode](os.path.abspath(nfsd), os.path.abspath(nfstore), room, profile, *words_of_mode)
     print(f'{mode}: {tried} stores, {len(DIFFER)} differences, {time.time() - since:.0f} s')
     return 1 if DIFFER else 0
 
 
 if __name__ == '__main__':
     profile_asked, words_given = calls.profile_of(sys.argv[1:])
-    if len(words_given) < 5 or words_given[2] not in ('runs', 'damage', 'forms') or profile_asked is None:
+    if words_given[2:] != ['edges'] and (len(words_given) < 5 or words_given[2] not in ('runs', 'damage', 'forms')) or profile_asked is None:
         sys.exit(__doc__)
     sys.exit(main(profile_asked, *words_given))
