@@ -203,7 +203,8 @@ class Gen:
             a = a[:-4]
         if a and r.random() < 0.003:
             k = r.randrange(len(a))
-            a = a[:k] + bytes([a[k] ^ 1 << r.randrange(8)]) + a[k + 1:]
+            other = a[:k] + bytes([a[k] ^ 1 << r.randrange(8)]) + a[k + 1:]
+            a = a if asks_times(n, other) else other
         return u(n) + a
 
     def open_up(self):
@@ -284,6 +285,15 @@ class Gen:
     def bare_call(self):
         r = self.r
         return self.call(self.ops(16), tag=r.choice([b'', b'', b'', b'tag', b'\xff']), minor=r.choice([1] * 50 + [0, 2]))
+
+
+def asks_times(n, a):
+    """Whether arguments ask for times, as those of GETATTR or READDIR may by a turned bit."""
+    try:
+        it = model.read_args(n, Rd(a)) if n in (9, 26) else None
+    except model.Short:
+        return False
+    return bool({52, 53} & (it if n == 9 else it[2] if n == 26 else set()))
 
 
 def head(rec):
