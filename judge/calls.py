@@ -10,7 +10,8 @@ members of the file BOOK, if it is given. With many there are four connections a
 several may be sent at once; a fifth connection breaks now and then; and if several books are given, one after the other is loaded. Times aren't requested,
 since the server's clock is its own. Server and plain program have the limits of one profile, standard if the option isn't given. With office sizes and
 offsets around 2^40 are drawn too, and there may be more clients. A server without sessions (bare) has no office profile. With edges the calls are written,
-and go up to limits of the profile and one further: bytes and names of a file, clients and sessions, and names and open files where these are few enough.
+and go up to limits of the profile and one further. These are the bytes and names of a file, clients and sessions. Under the standard profile they are the names
+of a directory and open files too.
 """
 import random, shutil, socket, subprocess, sys, tempfile, time, os, tomllib
 sys.path.insert(0, os.path.dirname(os.path.abspath(__file__)))
