@@ -412,7 +412,8 @@ def long_files(call, root, anyone, most):
         return u(34) + anyone + M({4}) + o(U(size))
 
     said = [u(9) + M({4, 27}), *(u(25) + anyone + U(at) + u(100) for at in (0, most // 2 - 3, 3 * most // 4, most - 50, most, 2 ** 64 - 1))]
-    for at, data in ((most // 2, b'middle'), (most - 3, b'end'), (most - 3, b'ends'), (most, b'x'), (most, b''), (2 ** 64 - 1, b'x'), (most - 7000, b'y' * 3000)):
+    pieces = ((most // 2, b'middle'), (most - 3, b'end'), (most - 3, b'ends'), (most, b'x'), (most, b''), (2 ** 64 - 1, b'x'), (most - 7000, b'y' * 3000))
+    for at, data in pieces:
         yield call(put(2), write(at, data))
         yield call(put(2), *said)
     for size in (most, most + 1, 2 ** 64 - 1, most - 1, most, most // 2 + 3, most, 3, most // 4 + 5):

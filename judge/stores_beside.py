@@ -321,7 +321,8 @@ def forms(nfsd, nfstore, room, profile, seed, count, step='1'):
 def main(profile, nfsd, nfstore, mode, *words_of_mode):
     since = time.time()
     with tempfile.TemporaryDirectory(prefix='stores-') as room:
-        tried = {'runs': runs, 'damage': damage, 'forms': forms, 'edges': edges}[mode](os.path.abspath(nfsd), os.path.abspath(nfstore), room, profile, *words_of_mode)
+        made = {'runs': runs, 'damage': damage, 'forms': forms, 'edges': edges}[mode]
+        tried = made(os.path.abspath(nfsd), os.path.abspath(nfstore), room, profile, *words_of_mode)
     print(f'{mode}: {tried} stores, {len(DIFFER)} differences, {time.time() - since:.0f} s')
     return 1 if DIFFER else 0
 
