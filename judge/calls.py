@@ -1,13 +1,17 @@
 #!/usr/bin/env python3
 """Random calls to nfsd and to the plain program of `model.py`, side by side.
 
-    calls.py NFSD bare|net|many FIRST SEEDS CALLS [BOOK ..]
+    calls.py NFSD bare|net|many FIRST SEEDS CALLS [BOOK ..] [--profile standard|office]
+    calls.py NFSD edges [--profile standard|office]
 
 Each seed from FIRST on begins a server, over standard input and output (bare), or over 127.0.0.1 with sessions (net, many), and makes that many calls. A reply
 that differs in a byte is printed, and the status is 1; with net and many the first line in which the audit trail's file differs is printed too. Both have the names and
 members of the file BOOK, if it is given. With many there are four connections at once: a call may arrive in two parts, between which the others make theirs;
 several may be sent at once; a fifth connection breaks now and then; and if several books are given, one after the other is loaded. Times aren't requested,
-since the server's clock is its own.
+since the server's clock is its own. Server and plain program have the limits of one profile, standard if the option isn't given. With office sizes and
+offsets around 2^40 are drawn too, and there may be more clients. A server without sessions (bare) has no office profile. With edges the calls are written,
+and go up to limits of the profile and one further. These are the bytes and names of a file, clients and sessions. Under the standard profile they are the names
+of a directory and open files too.
 """
 import random, shutil, socket, subprocess, sys, tempfile, time, os, tomllib
 sys.path.insert(0, os.path.dirname(os.path.abspath(__file__)))
@@ -22,11 +26,20 @@ ANON = (0, bytes(12))
 BYP = (0xffffffff, b'\xff' * 12)
 
 
+# what is drawn beside the standard profile's sizes, and beside its offsets of READ and of WRITE: around 2 MiB and 2^40
+SIZES = [2 ** 21 - 1, 2 ** 21 + 7, 3 * 2 ** 20, 2 ** 40 - 1, 2 ** 40 + 1]
+PLACES = [2 ** 20 - 1, 2 ** 20, 2 ** 21, 2 ** 40 - 3000, 2 ** 40 - 5, 2 ** 40 - 1, 2 ** 40]
+
+
 class Gen:
     def __init__(self, rng, srv):
         self.r = rng
         self.s = srv
         self.sids = []
+        is_long = srv.profile == 'office'
+        self.sizes = [0, 0, 0, 1, 3, 10, 5000, 1048576, 1048577, 2 ** 40] + SIZES * is_long
+        self.reads = [0, 0, 1, 2, 100, 2 ** 63, 2 ** 64 - 1] + PLACES * is_long
+        self.writes = [0, 0, 1, 2, 3, 5, 100, 1048575, 1048576, 2 ** 64 - 1] + PLACES * is_long
 
     def name(self):
         return self.r.choice(ODD) if self.r.random() < 0.06 else self.r.choice(NAMES)
@@ -88,7 +101,7 @@ class Gen:
         r = self.r
         d = {}
         if r.random() < size:
-            d[4] = U(r.choice([0, 0, 0, 1, 3, 10, 5000, 1048576, 1048577, 2 ** 40]))
+            d[4] = U(r.choice(self.sizes))
         if r.random() < 0.25:
             d[12] = self.acl()
         if r.random() < 0.3:
@@ -162,7 +175,7 @@ class Gen:
             a = o(model.as_handle(k)) if r.random() < 0.97 else o(r.choice([b'', b'x' * 16, bytes(15), b'1' * 129]))
         elif n == 25:
             s = self.S()
-            a = u(s[0]) + s[1] + U(r.choice([0, 0, 1, 2, 100, 2 ** 63, 2 ** 64 - 1])) + u(r.choice([0, 1, 10, 4096, 32768, 2 ** 32 - 1]))
+            a = u(s[0]) + s[1] + U(r.choice(self.reads)) + u(r.choice([0, 1, 10, 4096, 32768, 2 ** 32 - 1]))
         elif n == 26:
             a = U(r.choice([0, 0, 0, 0, 1, 2, 3, 4, 5, 2 ** 64 - 1] + [ck for d in self.s.names.values() for _, ck in d.values()][:6])) + bytes(8) + u(0) + u(r.choice([0, 15, 16, 40, 56, 64, 100, 200, 1000, 60000, 2 ** 32 - 1])) + M(self.want())
         elif n == 29:
@@ -172,7 +185,7 @@ class Gen:
             a = u(s[0]) + s[1] + self.F(0.2)
         elif n == 38:
             s = self.S()
-            a = u(s[0]) + s[1] + U(r.choice([0, 0, 1, 2, 3, 5, 100, 1048575, 1048576, 2 ** 64 - 1])) + u(r.choice([0, 1, 2, 2, 2, 3]) if r.random() < 0.1 else 2) + o(r.choice([b'', b'x', b'hello', b'y' * 100, b'z' * 3000]))
+            a = u(s[0]) + s[1] + U(r.choice(self.writes)) + u(r.choice([0, 1, 2, 2, 2, 3]) if r.random() < 0.1 else 2) + o(r.choice([b'', b'x', b'hello', b'y' * 100, b'z' * 3000]))
         elif n == 53:
             a = bytes(8) + U(1) + u(1) + u(0) + u(0) + u(0)
         elif n == 42:
@@ -191,7 +204,8 @@ class Gen:
             a = a[:-4]
         if a and r.random() < 0.003:
             k = r.randrange(len(a))
-            a = a[:k] + bytes([a[k] ^ 1 << r.randrange(8)]) + a[k + 1:]
+            other = a[:k] + bytes([a[k] ^ 1 << r.randrange(8)]) + a[k + 1:]
+            a = a if asks_times(n, other) else other
         return u(n) + a
 
     def open_up(self):
@@ -235,7 +249,7 @@ class Gen:
         x = r.random()
         sess = sorted(s.sessions)
         if x < 0.05 or not s.clients:
-            e = u(42) + r.choice([b'v' * 8, b'v' * 8, b'w' * 8]) + o(r.choice([b'own1', b'own2', b'own3', b'own%d' % r.randint(4, 80)])) + u(r.choice([0, 0, 0, 0, 0x80000000, 0x40000000, 0xc0000000, 3])) + u(r.choice([0] * 20 + [1, 3])) + (u(0) if r.random() < 0.8 else u(1) + o(b'd') + o(b'n') + I(5) + u(7))
+            e = u(42) + r.choice([b'v' * 8, b'v' * 8, b'w' * 8]) + o(r.choice([b'own1', b'own2', b'own3', b'own%d' % r.randint(4, s.limits['clients'] + 16)])) + u(r.choice([0, 0, 0, 0, 0x80000000, 0x40000000, 0xc0000000, 3])) + u(r.choice([0] * 20 + [1, 3])) + (u(0) if r.random() < 0.8 else u(1) + o(b'd') + o(b'n') + I(5) + u(7))
             return self.call([e])
         if x < 0.12 or not sess:
             n = r.choice(sorted(s.clients)) if r.random() < 0.9 else r.randint(1, s.cnum)
@@ -272,6 +286,15 @@ class Gen:
     def bare_call(self):
         r = self.r
         return self.call(self.ops(16), tag=r.choice([b'', b'', b'', b'tag', b'\xff']), minor=r.choice([1] * 50 + [0, 2]))
+
+
+def asks_times(n, a):
+    """Whether arguments ask for times, as those of GETATTR or READDIR may by a turned bit."""
+    try:
+        it = model.read_args(n, Rd(a)) if n in (9, 26) else None
+    except model.Short:
+        return False
+    return bool({52, 53} & (it if n == 9 else it[2] if n == 26 else set()))
 
 
 def head(rec):
@@ -328,6 +351,97 @@ def next_call(g, seed, srv):
     return rec, g.last_cred
 
 
+# written calls
+
+
+def put(number):
+    return u(22) + o(model.as_handle(number))
+
+
+def opening_of(name, owner, size=None):
+    """An OPEN for both of a new file, or of the current one where the name is None."""
+    attributes = M(set()) + o(b'') if size is None else M({4}) + o(U(size))
+    how = u(1) + u(0) + attributes + u(0) + o(name) if name is not None else u(0) + u(4)
+    return u(18) + u(0) + u(3) + u(0) + U(1) + o(owner) + how
+
+
+def edges(srv):
+    """Calls up to limits of the profile and one further, each made when the plain program has answered the one before it."""
+    g, most = Gen(random.Random(0), srv), srv.limits
+    channel = u(0) + u(65536) * 3 + u(16) + u(8) + u(0)
+    narrow = u(0) + u(4096) * 3 + u(2) + u(1) + u(0)
+    cred = u(1) + o(u(0) + o(b'h') + u(0) + u(0) + u(0)) + u(0) + u(0)
+    anyone, root = u(0) + bytes(12), u(24)
+
+    def client(n):
+        return g.call([u(42) + bytes(8) + o(b'edge%d' % n) + u(0) * 3], cred=cred)
+
+    def session(n, width):
+        return g.call([u(43) + U(n) + u(srv.clients[n]['seq'] + 1) + u(0) + width * 2 + u(0) * 2], cred=cred)
+
+    def call(*ops):
+        return g.call([u(53) + bytes(8) + U(1) + u(srv.sessions[1]['slots'][0]['last'] + 1) + u(0) * 3, *ops], cred=cred)
+
+    yield client(1)
+    yield session(1, channel)
+    yield call(root, opening_of(b'f', b'o'))
+    yield from long_files(call, root, anyone, most['file'])
+    for n in range(most['names'] // most['links'] + 1 if most['names'] < 5000 else 1):
+        yield call(root, opening_of(b'file%d' % n, b'o'))
+        there = put(srv.num - 1)
+        for k in range(0, most['links'] + 1, 12):
+            yield call(there, u(32), root, *(u(11) + o(b'%d.%d' % (n, k + j)) for j in range(12)))
+    for k in range(0, min(most['opens'], 4200) + 1, 14):
+        yield call(put(2), *(opening_of(None, b'%d' % (k + j)) for j in range(14)))
+    yield call(root, u(26) + U(0) + bytes(8) + u(0) + u(60000) + M({4, 20}))
+    for n in range(2, most['clients'] + 2):
+        yield client(n)
+    for n in range(2, most['sessions'] + 1):
+        yield session(n, narrow)
+    yield session(2, narrow)
+    yield g.call([u(44) + bytes(8) + U(3)], cred=cred)
+    yield session(2, narrow)
+
+
+def long_files(call, root, anyone, most):
+    """Calls on the file 2 up to its greatest size, with holes, and on new files of that size and of one byte more."""
+    def write(at, data):
+        return u(38) + anyone + U(at) + u(2) + o(data)
+
+    def resize(size):
+        return u(34) + anyone + M({4}) + o(U(size))
+
+    said = [u(9) + M({4, 27}), *(u(25) + anyone + U(at) + u(100) for at in (0, most // 2 - 3, 3 * most // 4, most - 50, most, 2 ** 64 - 1))]
+    pieces = ((most // 2, b'middle'), (most - 3, b'end'), (most - 3, b'ends'), (most, b'x'), (most, b''), (2 ** 64 - 1, b'x'), (most - 7000, b'y' * 3000))
+    for at, data in pieces:
+        yield call(put(2), write(at, data))
+        yield call(put(2), *said)
+    for size in (most, most + 1, 2 ** 64 - 1, most - 1, most, most // 2 + 3, most, 3, most // 4 + 5):
+        yield call(put(2), resize(size))
+        yield call(put(2), *said)
+    yield call(put(2), write(most // 4 + 2, b'over the end'), *said)
+    for name, size in ((b'of most', most), (b'of more', most + 1)):
+        yield call(root, opening_of(name, b'o', size), *said)
+
+
+def run_edges(nfsd, profile, trailfile):
+    """The written calls on both, and the trail."""
+    srv = model.Server(profile=profile)
+    p, port = begun(nfsd, random.Random(), ['--profile', profile, '--connections', '1', '--trail', trailfile])
+    counts, ok = {}, True
+    with socket.create_connection(('127.0.0.1', port)) as sk, sk.makefile('rb') as rd:
+        for i, rec in enumerate(edges(srv)):
+            want = srv.record(rec, (0, 0))
+            sk.sendall(head(rec))
+            count(counts, want)
+            ok = ok and is_same(rd, 'edges', i, rec, want)
+            if not ok:
+                break
+    p.kill()
+    p.wait()
+    return counts, ok and is_same_trail(trailfile, 'edges', srv)
+
+
 def count(counts, want):
     if len(want) > 28:
         st = int.from_bytes(want[24:28], 'big')
@@ -365,16 +479,25 @@ def begun(nfsd, rng, words):
         p.wait()
 
 
-def run(seed, n, nfsd, bare, books, trailfile):
+def profile_of(words):
+    """The profile that `--profile NAME` says, and the other words; None where it says another one."""
+    if '--profile' not in words:
+        return 'standard', words
+    at = words.index('--profile')
+    name = ''.join(words[at + 1:at + 2])
+    return name if name in model.PROFILES else None, words[:at] + words[at + 2:]
+
+
+def run(seed, n, nfsd, bare, books, profile, trailfile):
     rng = random.Random(seed)
-    srv = model.Server(book_of(books[0]) if books else model.Book(), bare)
+    srv = model.Server(book_of(books[0]) if books else model.Book(), bare, profile=profile)
     g = Gen(rng, srv)
     g.hist, g.opened = {}, False
     if bare:
         p = subprocess.Popen([nfsd, '--bare'], stdin=subprocess.PIPE, stdout=subprocess.PIPE)
         wr, rd = p.stdin, p.stdout
     else:
-        p, port = begun(nfsd, random.Random(), ['--connections', '1', '--trail', trailfile] + (['--book', books[0]] if books else []))
+        p, port = begun(nfsd, random.Random(), ['--profile', profile, '--connections', '1', '--trail', trailfile] + (['--book', books[0]] if books else []))
         sk = socket.create_connection(('127.0.0.1', port))
         wr, rd = sk.makefile('wb'), sk.makefile('rb')
     counts = {}
@@ -403,15 +526,15 @@ def breaks(port):
         return sk.recv(1) == b''
 
 
-def run_many(seed, n, nfsd, books, trailfile):
+def run_many(seed, n, nfsd, books, profile, trailfile):
     rng = random.Random(seed)
-    srv = model.Server(book_of(books[0]) if books else model.Book(), False)
+    srv = model.Server(book_of(books[0]) if books else model.Book(), False, profile=profile)
     g = Gen(rng, srv)
     g.hist, g.opened = {}, False
     path = trailfile + '.toml'
     if books:
         shutil.copy(books[0], path)
-    p, port = begun(nfsd, random.Random(), ['--concurrent', '--trail', trailfile] + (['--book', path] if books else []))
+    p, port = begun(nfsd, random.Random(), ['--profile', profile, '--concurrent', '--trail', trailfile] + (['--book', path] if books else []))
     streams = [socket.create_connection(('127.0.0.1', port)) for _ in range(4)]
     for it in streams:
         it.setsockopt(socket.IPPROTO_TCP, socket.TCP_NODELAY, 1)
@@ -459,20 +582,27 @@ def run_many(seed, n, nfsd, books, trailfile):
 
 
 if __name__ == '__main__':
-    nfsd, mode, first, seeds, n = (sys.argv[1], sys.argv[2], int(sys.argv[3]), int(sys.argv[4]), int(sys.argv[5]))
-    books = sys.argv[6:]
+    profile, words = profile_of(sys.argv[1:])
+    is_edges = len(words) == 2 and words[1] == 'edges'
+    if profile is None or not is_edges and (len(words) < 5 or words[1] not in ('bare', 'net', 'many') or (words[1], profile) == ('bare', 'office')):
+        sys.exit(__doc__)
+    nfsd, mode, first, seeds = words[0], words[1], *map(int, (0, 1) if is_edges else words[2:4])
+    n, books = 0 if is_edges else int(words[4]), words[5:]
     tot = {}
     bad = 0
     t0 = time.time()
     with tempfile.TemporaryDirectory(prefix='judge-') as folder:
         for s in range(first, first + seeds):
             trail = f'{folder}/{s}'
-            c, ok = run_many(s, n, nfsd, books, trail) if mode == 'many' else run(s, n, nfsd, mode == 'bare', books, trail)
+            if is_edges:
+                c, ok = run_edges(nfsd, profile, trail)
+            else:
+                c, ok = run_many(s, n, nfsd, books, profile, trail) if mode == 'many' else run(s, n, nfsd, mode == 'bare', books, profile, trail)
             bad += not ok
             for k, v in c.items():
                 tot[k] = tot.get(k, 0) + v
             if bad > 3:
                 break
     inv = {v: k for k, v in model.ST.items()}
-    print(seeds, 'seeds of', n, 'calls,', bad, 'differ,', round(time.time() - t0), 's;', {inv.get(k, k): v for k, v in sorted(tot.items())})
+    print(seeds, 'seeds of', n or sum(tot.values()), 'calls,', bad, 'differ,', round(time.time() - t0), 's;', {inv.get(k, k): v for k, v in sorted(tot.items())})
     sys.exit(1 if bad else 0)

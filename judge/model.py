@@ -3,7 +3,8 @@
 It was written from the profile of the protocol alone, by an author who had seen neither the definitions nor the code, and shares nothing with either.
 dacl, sacl and a book's members were added later from the same profile, but by an author who knew the definitions and the code. It is slow and simple:
 a map of objects, a map of names for each directory, access control lists walked bit by bit. `calls.py` sends random calls to it and to `nfsd`, and
-compares the replies byte for byte.
+compares the replies byte for byte. A server has the limits of one of the two profiles of docs/profile.md, by PROFILES. The bytes of a file are a map of
+the pieces that were written, since under the office profile a file may have 2^40 bytes.
 
 The letters of the items are those of XDR here: u is a u32, U a u64, I an i64, o variable opaque data, M a bitmap (`bitmap4`), F attributes
 (`fattr4`), S a stateid (`stateid4`), H a filehandle.
@@ -261,6 +262,55 @@ class Book:
 
 class Obj:
     pass
+PIECE = 4096
+
+
+class Bytes:
+    """The bytes of a file or of a link's text: their number, and the pieces that were written, by their place. Whatever no piece has is 0."""
+
+    def __init__(self, data=b''):
+        self.size = 0
+        self.pieces = {}
+        self.write(0, data)
+
+    def copy(self):
+        it = Bytes()
+        it.size = self.size
+        it.pieces = dict(self.pieces)
+        return it
+
+    def whole(self, first, last):
+        """the pieces from a place on, up to another one"""
+        return b''.join(self.pieces.get(k, bytes(PIECE)) for k in range(first, last))
+
+    def read(self, at, n):
+        """the bytes from a place on, at most so many"""
+        end = min(at + n, self.size)
+        if end <= at:
+            return b''
+        first = at // PIECE
+        return self.whole(first, -(-end // PIECE))[at - first * PIECE:end - first * PIECE]
+
+    def write(self, at, data):
+        """these bytes from a place on, and zeros from the end up to there"""
+        if not data:
+            return
+        end = at + len(data)
+        first = at // PIECE
+        last = -(-end // PIECE)
+        it = self.whole(first, last)
+        it = it[:at - first * PIECE] + data + it[end - first * PIECE:]
+        for k in range(first, last):
+            self.pieces[k] = it[(k - first) * PIECE:(k - first + 1) * PIECE]
+        self.size = max(self.size, end)
+
+    def resize(self, n):
+        """cut, or with zeros at the end"""
+        k = n // PIECE
+        self.pieces = {j: it for j, it in self.pieces.items() if j <= k}
+        if n < self.size and k in self.pieces:
+            self.pieces[k] = self.pieces[k][:n % PIECE] + bytes(PIECE - n % PIECE)
+        self.size = n
 SUPP = {n for n in range(96) if [0xe8183fff, 0x0cb0003a, 0x800][n // 32] >> n % 32 & 1}
 SETTABLE = {4, 12, 33, 36, 37, 58, 59}
 OPS = {3, 4, 5, 6, 9, 10, 11, 15, 16, 17, 18, 22, 24, 25, 26, 27, 28, 29, 31, 32, 34, 37, 38, 42, 43, 44, 53, 57, 58}
@@ -427,11 +477,17 @@ def as_handle(n):
 CHG = lambda a, b: u(1) + U(a) + U(b)
 ANON = bytes(12)
 BYPASS = b'\xff' * 12
-LIMITS = dict(names=4096, objects=16384, opens=4096, links=1000, file=1048576)
+# the limits of each profile: docs/profile.md, "The two profiles"
+PROFILES = dict(
+    standard=dict(clients=64, sessions=64, opens=4096, objects=16384, names=4096, links=1000, file=1048576),
+    office=dict(clients=256, sessions=256, opens=65536, objects=1048576, names=1048576, links=32767, file=2 ** 40),
+)
 
 
 class Server:
-    def __init__(self, book=None, bare=False, lasting=False):
+    def __init__(self, book=None, bare=False, lasting=False, profile='standard'):
+        self.profile = profile
+        self.limits = PROFILES[profile]
         self.book = book or Book()
         self.bare = bare
         self.lasting = lasting
@@ -470,7 +526,7 @@ class Server:
         x.tm = x.tc = now
         x.change = self.tick
         self.tick += 1
-        x.data = bytearray(data or b'')
+        x.data = Bytes(data or b'')
         x.up = 0
         x.links = 1
         self.objs[x.n] = x
@@ -533,7 +589,7 @@ class Server:
         if a == 3:
             return U(x.change)
         if a == 4:
-            return U(len(x.data))
+            return U(x.data.size)
         if a in (5, 6, 9):
             return u(1)
         if a == 7:
@@ -555,7 +611,7 @@ class Server:
         if a in (20, 55):
             return U(x.n)
         if a == 27:
-            return U(1048576)
+            return U(self.limits['file'])
         if a == 29:
             return u(255)
         if a == 30:
@@ -884,32 +940,30 @@ class Server:
         self.isfile(x)
         self.state(S, x, 1, self.cl)
         self.bits(x, 1, self.c, 25)
-        left = max(0, len(x.data) - off)
-        n = min(cnt, 32768, left, (self.room - 16) // 4 * 4)
-        d = bytes(x.data[off:off + n]) if n else b''
-        return u(1 if off + len(d) >= len(x.data) else 0) + o(d)
+        n = min(cnt, 32768, (self.room - 16) // 4 * 4)
+        d = x.data.read(off, n)
+        return u(1 if off + len(d) >= x.data.size else 0) + o(d)
 
     def op27(self, a):
         x = self.cur()
         need(x.kind == 5, 'WRONG_TYPE')
         self.bits(x, 1, self.c, 27)
-        if 8 + len(o(bytes(x.data))) > self.room:
+        text = o(x.data.read(0, x.data.size))
+        if 8 + len(text) > self.room:
             self.toobig()
-        return o(bytes(x.data))
+        return text
 
     def op38(self, a):
         S, off, d = a
         x = self.cur()
         self.isfile(x)
         self.state(S, x, 2, self.cl)
-        n = len(x.data)
+        n = x.data.size
         mask = 2 if not d else 4 if off == n else 2 if off + len(d) <= n else 6
         self.bits(x, mask, self.c, 38)
         if d:
-            need(off + len(d) <= LIMITS['file'], 'FBIG')
-            if off > n:
-                x.data += bytes(off - n)
-            x.data[off:off + len(d)] = d
+            need(off + len(d) <= self.limits['file'], 'FBIG')
+            x.data.write(off, d)
             t = self.tick
             self.tick += 1
             self.touch(x, t, self.now)
@@ -958,10 +1012,10 @@ class Server:
         if 4 in got:
             need(x.kind == 1, 'INVAL')
             self.state(S, x, 2, self.cl)
-        mask = (2 | (4 if got[4] > len(x.data) else 0) if 4 in got else 0) | (WACL if {12, 33, 58, 59} & got.keys() else 0) | (WOWN if {36, 37} & got.keys() else 0)
+        mask = (2 | (4 if got[4] > x.data.size else 0) if 4 in got else 0) | (WACL if {12, 33, 58, 59} & got.keys() else 0) | (WOWN if {36, 37} & got.keys() else 0)
         self.bits(x, mask, self.c, 34)
         if 4 in got:
-            need(got[4] <= LIMITS['file'], 'FBIG')
+            need(got[4] <= self.limits['file'], 'FBIG')
         lst = x.lst
         if 12 in got:
             lst = got[12]
@@ -983,11 +1037,7 @@ class Server:
                 x.gr = got[37]
             if 4 in got:
                 x.tm = self.now
-                n = got[4]
-                if n < len(x.data):
-                    del x.data[n:]
-                else:
-                    x.data += bytes(n - len(x.data))
+                x.data.resize(got[4])
         return M(set(got))
 
     def perm(self, got):
@@ -995,7 +1045,7 @@ class Server:
         need(37 not in got or got[37] in self.c[1], 'PERM')
 
     def full(self, p):
-        need(len(self.names[p.n]) < LIMITS['names'], 'NOSPC')
+        need(len(self.names[p.n]) < self.limits['names'], 'NOSPC')
 
     def add(self, p, name, kind, got, data):
         lst, high = self.born(p, kind, got)
@@ -1022,7 +1072,7 @@ class Server:
         need(name not in self.names[p.n], 'EXIST')
         self.perm(got)
         self.full(p)
-        need(len(self.objs) < LIMITS['objects'], 'NOSPC')
+        need(len(self.objs) < self.limits['objects'], 'NOSPC')
         x, C = self.add(p, name, typ, got, text)
         self.fh = x.n
         return C + M(set(got))
@@ -1063,21 +1113,22 @@ class Server:
         else:
             self.bits(x, 2, self.c, 18)
             self.perm(got)
-            need(got.get(4, 0) <= LIMITS['file'], 'FBIG')
+            need(got.get(4, 0) <= self.limits['file'], 'FBIG')
             self.full(x)
-            need(len(self.objs) < LIMITS['objects'], 'NOSPC')
+            need(len(self.objs) < self.limits['objects'], 'NOSPC')
             joined = []
         if not joined:
-            need(len(self.opens) < LIMITS['opens'], 'NOSPC')
+            need(len(self.opens) < self.limits['opens'], 'NOSPC')
         C = CHG(x.change, x.change) if name is not None else CHG(0, 0)
         B = M(set())
         if y is None:
-            y, C = self.add(x, name, 1, got, bytes(got.get(4, 0)))
+            y, C = self.add(x, name, 1, got, b'')
+            y.data.resize(got.get(4, 0))
             B = M(set(got))
         elif trunc:
             t = self.tick
             self.tick += 1
-            y.data = bytearray()
+            y.data = Bytes()
             self.touch(y, t, self.now)
             B = M({4})
         if joined:
@@ -1099,7 +1150,7 @@ class Server:
         check_name(name)
         self.bits(p, EXEC | 2, self.c, 11)
         need(name not in self.names[p.n], 'EXIST')
-        need(x.links < LIMITS['links'], 'MLINK')
+        need(x.links < self.limits['links'], 'MLINK')
         self.full(p)
         t = self.tick
         self.tick += 1
@@ -1208,7 +1259,7 @@ class Server:
                     self.drop_client(k)
                 return self.eid(n, 0x80010000)
         gone += unc
-        need(len(self.clients) - len(gone) < 64, 'NOSPC')
+        need(len(self.clients) - len(gone) < self.limits['clients'], 'NOSPC')
         for k in gone:
             self.drop_client(k)
         n = self.cnum
@@ -1233,7 +1284,7 @@ class Server:
         try:
             need(r['conf'] or self.c[0] == r['uid'], 'CLID_INUSE')
             need(F[2] >= 4096, 'TOOSMALL')
-            need(len(self.sessions) < 64, 'NOSPC')
+            need(len(self.sessions) < self.limits['sessions'], 'NOSPC')
         except Fail as f:
             r['seq'] = sq
             r['kept'] = (f.name, None)

@@ -5,7 +5,7 @@
 
 Each seed from FIRST on makes a script of that many lines, for four users, over few names and random access control lists. `Plain` runs each command by the operations that the
 profile gives for it, one call for each, on the plain program. What nfslab prints must be the same: the answers, the trail and the status. A script whose output differs is
-printed with the first line that differs, and the status is 1.
+printed with the first line that differs, and the status is 1. nfslab has the limits of the standard profile alone, and so has the plain program here.
 """
 import os
 import random

@@ -1,16 +1,20 @@
 """The content of the parts of a checkpoint and of the records of a log.
 
 Written from docs/checkpoint.md, docs/log-entries.md, the forms in the README of session_slots, and docs/profile.md. It shares nothing with the server.
+A checkpoint of either profile is read. Its head has the profile's number, which says the limits and how many parts the clients have.
 """
 import dataclasses
 import tomllib
 
-from model import LIMITS, I, Rd, Short, U, kept, o, u
+from model import PIECE, PROFILES, Bytes, I, Rd, Short, U, kept, o, u
 from store_files import Refused
 
 DIRECTORY, FILE, LINK = 2, 1, 5
 CREATED, REFUSALS = 0, {28: 'NOSPC', 10005: 'TOOSMALL', 10017: 'CLID_INUSE'}
-CLIENTS, SESSIONS, SLOTS, END_OF_NUMBERS = 64, 64, 8, 2 ** 63
+NUMBERED = ('standard', 'office')  # the profile of each number of a head
+CLIENT_PARTS = {'standard': 3, 'office': 17}
+SESSIONS_OF_A_PART, OPENS_OF_A_PART, MOST_OF_A_PART = 32, 4096, 1048576
+SLOTS, END_OF_NUMBERS = 8, 2 ** 63
 BYTES, LEAST_REPLY, REPLY_HEAD = 65536, 4096, 24
 BOOK = {'domain': str, 'root_owner': int, 'root_group': int, 'root_mode': int, 'users': dict, 'groups': dict}
 DIGITS = '0123456789'
@@ -29,6 +33,7 @@ def want(holds, sentence):
 @dataclasses.dataclass
 class State:
     """What outlives a restart. Lists rise by their numbers."""
+    profile: str = 'standard'
     book: bytes = None
     next_open: int = 1
     next_client: int = 1
@@ -120,10 +125,10 @@ def entries_of_list(r):
 def object_of(r):
     number, kind = r.U(), r.u()
     want(kind in (FILE, DIRECTORY, LINK), f'the kind of an object is {kind}')
-    data, owner, group, entries, high = opaque(r, LIMITS['file']), r.u(), r.u(), entries_of_list(r), r.u()
+    data, owner, group, entries, high = opaque(r, MOST_OF_A_PART), r.u(), r.u(), entries_of_list(r), r.u()
     want(kind != DIRECTORY or not data, 'a directory has bytes')
     want(kind != LINK or len(data) <= 1024, f'the text of a link has {len(data)} bytes')
-    return number, (kind, data, owner, group, entries, high, r.U(), moment(r), moment(r), r.U())
+    return number, (kind, Bytes(data), owner, group, entries, high, r.U(), moment(r), moment(r), r.U())
 
 
 def name_of(r):
@@ -181,7 +186,8 @@ def read_head(state, r):
     profile = r.u()
     state.book = text(r)
     want(r.end(), 'bytes are left')
-    want(profile == 0, f'its profile is {profile}, which is not known')
+    want(profile < len(NUMBERED), f'its profile is {profile}, which is not known')
+    state.profile = NUMBERED[profile]
     book_of(state.book)
 
 
@@ -197,15 +203,10 @@ def read_known(state, r):
         take_session(state, *session(r))
     elif kind == 3:
         take_call(state, *call(r))
-    elif kind == 4:
-        count = r.u()
-        state.opens = dict(list(state.opens.items())[:count])
     elif kind == 5:
         number, it = opened(r)
         want(number not in state.opens, f'open {number} is there twice')
         state.opens[number] = it
-    elif kind == 6:
-        let_go(state, r.U())
     else:
         raise Bad(f'a change of clients is {kind}')
 
@@ -213,7 +214,8 @@ def read_known(state, r):
 def take_record(state, number, it):
     want(number < state.next_client and number not in state.records, f'client {number} is there twice, or not below the next number')
     want(not it[3] or not any(other[0] == it[0] and other[3] for other in state.records.values()), f'the owner of client {number} has two confirmed records')
-    want(len(state.records) < CLIENTS, f'there are more than {CLIENTS} clients')
+    most = PROFILES[state.profile]['clients']
+    want(len(state.records) < most, f'there are more than {most} clients')
     state.records[number] = it
 
 
@@ -222,7 +224,8 @@ def take_session(state, number, it):
     want(number < state.next_session and number not in state.sessions, f'session {number} is there twice, or not below the next number')
     want(client in state.records and state.records[client][3], f'the client of session {number} has no confirmed record')
     want(request <= BYTES and LEAST_REPLY <= reply <= BYTES and operations <= 16 and 1 <= slots <= SLOTS, f'session {number} is granted too much')
-    want(len(state.sessions) < SESSIONS, f'there are more than {SESSIONS} sessions')
+    most = PROFILES[state.profile]['sessions']
+    want(len(state.sessions) < most, f'there are more than {most} sessions')
     state.sessions[number] = it
 
 
@@ -233,15 +236,6 @@ def take_call(state, place, it):
     want(len(it[4]) <= request and len(it[5]) <= reply - REPLY_HEAD, f'slot {slot} of session {number} has no room for its call')
     want(all(a < b for a, b in zip(it[3], it[3][1:])), f'the groups of the caller in slot {slot} of session {number} do not rise')
     state.calls[place] = it
-
-
-def let_go(state, client):
-    want(client in state.records, f'client {client}, which is gone, was not there')
-    del state.records[client]
-    gone = {number for number, it in state.sessions.items() if it[0] == client}
-    state.sessions = {number: it for number, it in state.sessions.items() if number not in gone}
-    state.calls = {place: it for place, it in state.calls.items() if place[0] not in gone}
-    state.opens = {number: it for number, it in state.opens.items() if it[0] != client}
 
 
 def read_clients(state, r):
@@ -263,22 +257,34 @@ def read_part(state, r):
     elif kind == 2:
         want(state.counters is not None, 'a name comes before the counters')
         add_risen(state.names, name_of(r), 'cookie')
+    elif kind == 3:
+        take_rest(state, r.U(), r.U(), opaque(r, MOST_OF_A_PART))
     else:
         raise Bad(f'a part of the tree is {kind}')
     want(r.end(), 'bytes are left')
 
 
+def take_rest(state, number, offset, data):
+    """Further bytes of a file. Those before them that nothing gave are 0."""
+    want(number in state.objects and state.objects[number][0] == FILE, f'a rest is of object {number}, and no file of that number came before it')
+    there = state.objects[number][1]
+    want(offset >= there.size, f'a rest of file {number} begins at {offset}, within its {there.size} bytes')
+    want(offset + len(data) <= PROFILES[state.profile]['file'], f'file {number} has too many bytes')
+    there.resize(offset)
+    there.write(offset, data)
+
+
 def read_state(log):
     """The state that the parts of a checkpoint hold."""
     state, name = State(), log.current.file()
-    if len(log.parts) < 5:
-        raise Refused(f'{name}: at byte {log.end}: its checkpoint has {len(log.parts)} parts, and so no tree')
-    readers = [read_head] + [read_clients] * 3
     for place, frame in enumerate(log.parts):
+        reader = read_head if place == 0 else read_clients if place <= CLIENT_PARTS[state.profile] else read_part
         try:
-            (readers[place] if place < 4 else read_part)(state, Rd(frame.body))
+            reader(state, Rd(frame.body))
         except (Bad, Short) as why:
             raise Refused(f'{name}: at byte {frame.at}: part {place} of the checkpoint: {str(why) or "it ends too soon"}') from why
+    if len(log.parts) <= 1 + CLIENT_PARTS[state.profile]:
+        raise Refused(f'{name}: at byte {log.end}: its checkpoint has {len(log.parts)} parts, and so no tree')
     try:
         judge_tree(state)
         judge_opens(state)
@@ -293,8 +299,9 @@ def read_state(log):
 def judge_tree(state):
     want(state.counters is not None, 'there are no counters')
     number, tick, stamp, cookie = state.counters
+    limits = PROFILES[state.profile]
     want(max(state.counters) <= END_OF_NUMBERS, 'a counter is above 2^63')
-    want(len(state.objects) <= LIMITS['objects'], 'there are too many objects')
+    want(len(state.objects) <= limits['objects'], 'there are too many objects')
     stamps = set()
     for key, it in state.objects.items():
         want(0 < key < number and it[6] < tick and it[9] < stamp, f'object {key} is not below the counters')
@@ -302,10 +309,10 @@ def judge_tree(state):
         stamps.add(it[9])
     want(cookie >= 3 and all(3 <= key < cookie for key in state.names), 'a cookie is below 3, or not below the counter')
     want(1 in state.objects and state.objects[1][0] == DIRECTORY, 'there is no root')
-    judge_names(state)
+    judge_names(state, limits)
 
 
-def judge_names(state):
+def judge_names(state, limits):
     seen, names, homes = set(), {}, {}
     for cookie, (directory, word, child) in state.names.items():
         want(directory in state.objects and state.objects[directory][0] == DIRECTORY, f'the name of cookie {cookie} is in no directory')
@@ -314,10 +321,10 @@ def judge_names(state):
         seen.add((directory, word))
         names[directory] = names.get(directory, 0) + 1
         homes.setdefault(child, []).append(directory)
-    want(all(count <= LIMITS['names'] for count in names.values()), 'a directory has too many names')
+    want(all(count <= limits['names'] for count in names.values()), 'a directory has too many names')
     for key, it in state.objects.items():
         count = len(homes.get(key, []))
-        want(key == 1 or 1 <= count <= (1 if it[0] == DIRECTORY else LIMITS['links']), f'object {key} has {count} names')
+        want(key == 1 or 1 <= count <= (1 if it[0] == DIRECTORY else limits['links']), f'object {key} has {count} names')
     for key in homes:
         steps = 0
         while key != 1:
@@ -326,7 +333,7 @@ def judge_names(state):
 
 
 def judge_opens(state):
-    want(len(state.opens) <= LIMITS['opens'], 'there are too many open files')
+    want(len(state.opens) <= PROFILES[state.profile]['opens'], 'there are too many open files')
     want(0 < state.next_open <= END_OF_NUMBERS, f'the next open is {state.next_open}')
     before = 0
     for number, (client, _, key, access, seqid) in state.opens.items():
@@ -396,7 +403,16 @@ def put_object(number, it):
     kind, data, owner, group, entries, high, change, modify, metadata, stamp = it
     listed = u(len(entries)) + b''.join(u(t) + u(f) + u(m) + put_who(w) for t, f, m, w in entries)
     times = b''.join(I(seconds) + u(nanoseconds) for seconds, nanoseconds in (modify, metadata))
-    return U(number) + u(kind) + o(data) + u(owner) + u(group) + listed + u(high) + U(change) + times + U(stamp)
+    return U(number) + u(kind) + o(data.read(0, MOST_OF_A_PART)) + u(owner) + u(group) + listed + u(high) + U(change) + times + U(stamp)
+
+
+def rests_of(data):
+    """The offset and the bytes of each rest of a file: of the last one, and of those before it that aren't 0 alone."""
+    last = (data.size - 1) // MOST_OF_A_PART
+    for place in sorted({at * PIECE // MOST_OF_A_PART for at in data.pieces} | {last}):
+        rest = data.read(place * MOST_OF_A_PART, MOST_OF_A_PART)
+        if place > 0 and (place == last or rest.strip(b'\0')):
+            yield place * MOST_OF_A_PART, rest
 
 
 def put_clients(state, changes):
@@ -405,17 +421,21 @@ def put_clients(state, changes):
 
 def parts_of(state):
     """The parts of a checkpoint of this state, as docs/checkpoint.md says that they are written."""
-    yield u(0) + (u(0) if state.book is None else u(1) + o(state.book))
+    yield u(NUMBERED.index(state.profile)) + (u(0) if state.book is None else u(1) + o(state.book))
     first = [u(0) + U(state.next_client) + U(state.next_session)]
     first += [u(1) + put_record(number, it) for number, it in sorted(state.records.items())]
     first += [u(2) + U(number) + U(it[0]) + put_channel(it[1]) for number, it in sorted(state.sessions.items())]
-    first += [u(5) + U(n) + U(it[0]) + o(it[1]) + U(it[2]) + u(it[3]) + u(it[4]) for n, it in sorted(state.opens.items())]
-    yield put_clients(state, first)
-    early = set(sorted(state.sessions)[:32])
-    for is_early in (True, False):
-        yield put_clients(state, [u(3) + put_call(place, it) for place, it in sorted(state.calls.items()) if (place[0] in early) == is_early])
+    opens = [u(5) + U(n) + U(it[0]) + o(it[1]) + U(it[2]) + u(it[3]) + u(it[4]) for n, it in sorted(state.opens.items())]
+    yield put_clients(state, first + opens[:OPENS_OF_A_PART])
+    sessions = sorted(state.sessions)
+    for place in range(1, CLIENT_PARTS[state.profile]):
+        those = set(sessions[SESSIONS_OF_A_PART * (place - 1):SESSIONS_OF_A_PART * place])
+        calls = [u(3) + put_call(slot, it) for slot, it in sorted(state.calls.items()) if slot[0] in those]
+        yield put_clients(state, calls + opens[OPENS_OF_A_PART * place:OPENS_OF_A_PART * (place + 1)])
     yield u(0) + b''.join(map(U, state.counters))
     for number, it in sorted(state.objects.items()):
         yield u(1) + put_object(number, it)
+        for offset, rest in rests_of(it[1]):
+            yield u(3) + U(number) + U(offset) + o(rest)
     for cookie, (directory, word, child) in sorted(state.names.items()):
         yield u(2) + U(cookie) + U(directory) + o(word) + U(child)

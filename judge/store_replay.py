@@ -1,6 +1,7 @@
 """The entries of a log, run again by the plain program of `model.py` over the state of a checkpoint.
 
-Written from docs/store.md, docs/log-entries.md and docs/profile.md alone. It shares nothing with the server.
+Written from docs/store.md, docs/log-entries.md and docs/profile.md alone. It shares nothing with the server. The plain program has the limits of the
+checkpoint's profile.
 """
 import model
 from model import Fail, Rd, U, u
@@ -26,7 +27,7 @@ class Replay(model.Server):
     """A server that goes on from a state, whose slots lag before each call."""
 
     def __init__(self, state):
-        super().__init__(book_from(state.book), lasting=True)
+        super().__init__(book_from(state.book), lasting=True, profile=state.profile)
         self.text, self.delayed, self.in_session = state.book, None, False
         self.restore_tree(state)
         self.restore_clients(state)
@@ -38,7 +39,7 @@ class Replay(model.Server):
             x = self.objs[number] = model.Obj()
             x.n, x.up, x.links = number, 0, 1 if it[0] == 2 else 0
             x.kind, data, x.ow, x.gr, entries, x.high, x.change, x.tm, x.tc, x.stamp = it
-            x.data, x.lst = bytearray(data), list(entries)
+            x.data, x.lst = data.copy(), list(entries)
             if x.kind == 2:
                 self.names[number] = {}
         for cookie, (directory, word, child) in state.names.items():
@@ -124,7 +125,7 @@ class Replay(model.Server):
 
     def lasting_state(self):
         """What outlives a restart, now."""
-        it = State(self.text, self.onum, self.cnum, self.snum, (self.num, self.tick, self.stamp, self.cookie))
+        it = State(self.profile, self.text, self.onum, self.cnum, self.snum, (self.num, self.tick, self.stamp, self.cookie))
         for number, r in self.clients.items():
             it.records[number] = r['own'], r['ver'], r['uid'], r['conf'], made_of(r), r['done']
         for number, s in self.sessions.items():
@@ -136,7 +137,7 @@ class Replay(model.Server):
         for number, q in self.opens.items():
             it.opens[number] = q['cl'], q['own'], q['obj'], q['acc'], q['seq']
         for number, x in self.objs.items():
-            it.objects[number] = x.kind, bytes(x.data), x.ow, x.gr, tuple(x.lst), x.high, x.change, x.tm, x.tc, x.stamp
+            it.objects[number] = x.kind, x.data.copy(), x.ow, x.gr, tuple(x.lst), x.high, x.change, x.tm, x.tc, x.stamp
         for directory, there in self.names.items():
             for word, (child, cookie) in there.items():
                 it.names[cookie] = directory, word, child

@@ -7,7 +7,8 @@
 
 It was written from docs/store.md and the pages that it names, and from docs/profile.md. It shares nothing with the server. It checks each checksum and the chain
 of frames. It reads the checkpoint, and replays the entries of the log, whose results must have the stored checksums. The hash is SHA-256 of the parts
-of a checkpoint of that state. A store that isn't intact is refused: a sentence names the file and the place, and the status is 1.
+of a checkpoint of that state. A store that isn't intact is refused: a sentence names the file and the place, and the status is 1. The profile, standard (0)
+or office (1), is the one that the checkpoint names; the limits and the replay are by it.
 """
 import datetime
 import hashlib
@@ -17,7 +18,7 @@ import sys
 sys.dont_write_bytecode = True
 sys.path.insert(0, os.path.dirname(os.path.abspath(__file__)))
 from store_files import VERSION, Current, Refused, read_folder
-from store_forms import parts_of, read_entries, read_state
+from store_forms import NUMBERED, parts_of, read_entries, read_state
 from store_replay import replay
 import model
 from model import Rd, Short
@@ -53,7 +54,7 @@ class Store:
         return {
             'format': VERSION,
             'machine': log.current.machine,
-            'profile': 0,
+            'profile': NUMBERED.index(it.profile),
             'file': log.current.file(),
             'generation': log.current.generation,
             'begun': log.current.begun,
@@ -93,7 +94,7 @@ class Store:
         while left:
             path, number = left.pop()
             kind, data, owner, group, entries, high, *_ = self.state.objects[number]
-            yield f'{number} {model_kind(kind)} {high | model.mode_of(entries):04o} {owner} {group} {len(data)} {path}'
+            yield f'{number} {model_kind(kind)} {high | model.mode_of(entries):04o} {owner} {group} {data.size} {path}'
             here = [(path.rstrip('/') + '/' + spelled(word), child) for word, child in below.get(number, [])]
             left += reversed(here)
 

@@ -4,11 +4,15 @@
     stores_beside.py NFSD NFSTORE runs FIRST SEEDS CALLS [BOOK ..]
     stores_beside.py NFSD NFSTORE damage SEED CALLS [STEP]
     stores_beside.py NFSD NFSTORE forms SEED CALLS [STEP]
+    stores_beside.py NFSD NFSTORE edges
 
+Each takes `--profile standard|office` too: the profile of the stores, standard if it isn't given.
 Each seed fills a store by random calls, over three starts of a server that is killed. With BOOKs one after the other is loaded. The reports of both are
 compared: the values, the tree, the calls, and a checkpoint that `nfstore --close` makes of a copy, byte for byte. "damage" changes a small store: a bit of
 each byte, each length of each file, and files that are missing, foreign or exchanged. "forms" changes each byte of a part or record and computes its checksums again.
-If one refuses a store, the other has to. Else their reports have to be equal. With STEP each STEPth change is tried. A difference is printed, and the status is 1.
+Of a longer one these are the first and the last of its bytes. If one refuses a store, the other has to. Else their reports have to be equal. With STEP each
+STEPth change is tried. "edges" compares a store of the written calls of calls.py: files of the greatest size with holes, many clients, open files and names.
+A difference is printed, and the status is 1.
 """
 import os
 import random
@@ -20,6 +24,7 @@ import subprocess
 import sys
 import tempfile
 import time
+from itertools import chain
 
 sys.dont_write_bytecode = True
 sys.path.insert(0, os.path.dirname(os.path.abspath(__file__)))
@@ -30,6 +35,7 @@ from store_files import MARK, Refused, frames_of, read_current
 from store_forms import parts_of
 
 STARTS = 3
+END = 2048  # so many bytes at each end of a long body are changed by "forms"
 # without what makes each start of a program with checks slow
 AROUND = {**os.environ, 'ASAN_OPTIONS': 'detect_stack_use_after_return=0:replace_intrin=0'}
 DIFFER = []
@@ -43,15 +49,15 @@ def differs(*words):
 # stores that a server makes
 
 
-def fill(nfsd, folder, seed, count, books):
-    """Makes a store by so many calls, over some starts."""
+def fill(nfsd, folder, profile, seed, count, books):
+    """Makes a store of a profile by so many calls, over some starts."""
     rng, book = random.Random(seed), f'{folder}.toml'
     if books:
         shutil.copy(books[0], book)
-    srv = model.Server(calls.book_of(books[0]) if books else model.Book(), lasting=True)
+    srv = model.Server(calls.book_of(books[0]) if books else model.Book(), lasting=True, profile=profile)
     g = calls.Gen(rng, srv)
     g.hist, g.opened = {}, False
-    words = ['--connections', '1', '--store', folder] + (['--book', book] if books else [])
+    words = ['--profile', profile, '--connections', '1', '--store', folder] + (['--book', book] if books else [])
     for start in range(STARTS):
         ran, port = calls.begun(nfsd, random.Random(), words)
         with socket.create_connection(('127.0.0.1', port)) as peer, peer.makefile('rb') as replies:
@@ -68,6 +74,19 @@ def fill(nfsd, folder, seed, count, books):
                 time.sleep(1.2)  # for a mark
         ran.kill()
         ran.wait()
+
+
+def fill_edges(nfsd, folder, profile):
+    """Makes a store of a profile by written calls."""
+    srv = model.Server(lasting=True, profile=profile)
+    ran, port = calls.begun(nfsd, random.Random(), ['--profile', profile, '--connections', '1', '--store', folder])
+    with socket.create_connection(('127.0.0.1', port)) as peer, peer.makefile('rb') as replies:
+        for record in calls.edges(srv):
+            srv.record(record, (0, 0))
+            peer.sendall(calls.head(record))
+            replies.read(int.from_bytes(replies.read(4), 'big') & 0x7fffffff)
+    ran.kill()
+    ran.wait()
 
 
 # what both say
@@ -145,30 +164,44 @@ def compare_closed(nfstore, folder, what):
         differs(what, 'closed: another state')
 
 
-def runs(nfsd, nfstore, room, first, seeds, count, *books):
+def runs(nfsd, nfstore, room, profile, first, seeds, count, *books):
     for seed in range(int(first), int(first) + int(seeds)):
         folder = f'{room}/{seed}'
-        fill(nfsd, folder, seed, int(count), books)
-        if not compare(nfstore, folder, f'seed {seed}:'):
-            differs(f'seed {seed}:', read(folder))
-            continue
-        compare_lists(nfstore, folder, f'seed {seed}:')
-        compare_closed(nfstore, folder, f'seed {seed}:')
+        fill(nfsd, folder, profile, seed, int(count), books)
+        compare_all(nfstore, folder, f'seed {seed}:')
         shutil.rmtree(folder)
     return int(seeds)
+
+
+def compare_all(nfstore, folder, what):
+    if not compare(nfstore, folder, what):
+        return differs(what, read(folder))
+    compare_lists(nfstore, folder, what)
+    compare_closed(nfstore, folder, what)
+
+
+def edges(nfsd, nfstore, room, profile):
+    fill_edges(nfsd, f'{room}/store', profile)
+    compare_all(nfstore, f'{room}/store', 'edges:')
+    return 1
 
 
 # stores that are damaged
 
 
-def bits(data, rng):
-    for at in range(len(data)):
+def ends(data):
+    """The places of all bytes, or of a long body those of the first and the last ones."""
+    return [at for at in range(len(data)) if at < END or at >= len(data) - END]
+
+
+def bits(data, rng, places=None):
+    for at in range(len(data)) if places is None else places:
         bit = rng.randrange(8)
         yield f'bit {bit} of byte {at} turned', data[:at] + bytes([data[at] ^ 1 << bit]) + data[at + 1:]
 
 
-def lengths(data):
-    for size in range(len(data)):
+def lengths(data, places=None):
+    for size in range(len(data)) if places is None else places:
         yield f'cut to {size} bytes', data[:size]
     for more in (b'\0', bytes(64), b'x', b'x' * 64):
         yield f'{len(more)} bytes more, {more[:1]!r}', data + more
@@ -230,9 +263,9 @@ def try_changes(nfstore, folder, changes, step):
     return tried
 
 
-def damage(nfsd, nfstore, room, seed, count, step='1'):
+def damage(nfsd, nfstore, room, profile, seed, count, step='1'):
     folder = f'{room}/store'
-    fill(nfsd, folder, int(seed), int(count), ())
+    fill(nfsd, folder, profile, int(seed), int(count), ())
     return try_changes(nfstore, folder, damages(folder, random.Random(int(seed))), int(step))
 
 
@@ -261,7 +294,7 @@ def forms_of(folder, rng):
     bodies = [(frame.kind, frame.body) for frame in frames if frame.kind != MARK]
     for place, (kind, body) in enumerate(bodies):
         front, back = bodies[:place], bodies[place + 1:]
-        for what, done in (*bits(body, rng), *lengths(body), *words(body)):
+        for what, done in chain(bits(body, rng, ends(body)), lengths(body, ends(body)), words(body)):
             yield f'body {place}: {what}', {current.file(): file_with(current, [*front, (kind, done), *back])}
         yield f'body {place} gone', {current.file(): file_with(current, front + back)}
         yield f'body {place} twice', {current.file(): file_with(current, [*front, (kind, body), (kind, body), *back])}
@@ -271,29 +304,31 @@ def forms_of(folder, rng):
 
 def words(body):
     """Each word one more and one less, and the greatest."""
-    for at in range(0, len(body) - 3, 4):
+    for at in [at for at in ends(body) if at % 4 == 0 and at + 4 <= len(body)]:
         word = int.from_bytes(body[at:at + 4], 'big')
         for other in {(word + 1) % 2 ** 32, (word - 1) % 2 ** 32, 2 ** 32 - 1} - {word}:
             yield f'word {at // 4} is {other}', body[:at] + other.to_bytes(4, 'big') + body[at + 4:]
 
 
-def forms(nfsd, nfstore, room, seed, count, step='1'):
+def forms(nfsd, nfstore, room, profile, seed, count, step='1'):
     folder = f'{room}/store'
-    fill(nfsd, folder, int(seed), int(count), (f'{os.path.dirname(os.path.abspath(__file__))}/members.toml',))
+    fill(nfsd, folder, profile, int(seed), int(count), (f'{os.path.dirname(os.path.abspath(__file__))}/members.toml',))
     tried = try_changes(nfstore, folder, forms_of(folder, random.Random(int(seed))), int(step))
     said(nfstore, folder, '--close')
     return tried + try_changes(nfstore, folder, forms_of(folder, random.Random(int(seed))), int(step))
 
 
-def main(nfsd, nfstore, mode, *words_of_mode):
+def main(profile, nfsd, nfstore, mode, *words_of_mode):
     since = time.time()
     with tempfile.TemporaryDirectory(prefix='stores-') as room:
-        tried = {'runs': runs, 'damage': damage, 'forms': forms}[mode](os.path.abspath(nfsd), os.path.abspath(nfstore), room, *words_of_mode)
+        made = {'runs': runs, 'damage': damage, 'forms': forms, 'edges': edges}[mode]
+        tried = made(os.path.abspath(nfsd), os.path.abspath(nfstore), room, profile, *words_of_mode)
     print(f'{mode}: {tried} stores, {len(DIFFER)} differences, {time.time() - since:.0f} s')
     return 1 if DIFFER else 0
 
 
 if __name__ == '__main__':
-    if len(sys.argv) < 6 or sys.argv[3] not in ('runs', 'damage', 'forms'):
+    profile_asked, words_given = calls.profile_of(sys.argv[1:])
+    if words_given[2:] != ['edges'] and (len(words_given) < 5 or words_given[2] not in ('runs', 'damage', 'forms')) or profile_asked is None:
         sys.exit(__doc__)
-    sys.exit(main(*sys.argv[1:]))
+    sys.exit(main(profile_asked, *words_given))
