@@ -7,7 +7,7 @@ import subprocess
 from together_lab import PATIENCE, ROOT, Server, Session, compound, free_port, lookup, make_file, null, null_reply, opaque, reply, see, some, words
 
 OFFICE = ("--profile", "office")
-NOSPC, FBIG = 28, 27
+NOSPC, FBIG, DELAY = 28, 27, 10008
 # bytes of the longest file (RFC 8881, section 5.8.2.26)
 MOST = 1 << 40
 # bytes of one WRITE and of one READ
@@ -32,6 +32,11 @@ def read_at(offset, count):
 def size_to(size):
     """SETATTR of a size."""
     return words(34, 0, 0, 0, 0, 1, 0x10) + opaque(hyper(size))
+
+
+def make_sized(name, size):
+    """OPEN that makes a file of this size, for read and write."""
+    return words(18, 0, 3, 0, 0, 0) + opaque(b"o") + words(1, 0, 1, 0x10) + opaque(hyper(size)) + words(0) + opaque(name)
 
 
 class Caller(Session):
@@ -110,6 +115,8 @@ def long_file(program, room):
     see("the status of a WRITE at the end", caller.status(3, there + write_at(MOST - 1, b"!")), 0)
     for operation in (write_at(MOST, b"!"), write_at(MOST - 1, b"!!"), size_to(MOST + 1)):
         see("the status beyond the end", caller.status(3, there + operation), FBIG)
+    for size, status in ((1 << 20, 0), ((1 << 20) + 1, DELAY), (MOST, DELAY), (MOST + 1, FBIG)):
+        see(f"the status of an OPEN that makes {size} bytes", caller.status(2, ROOT + make_sized(b"sized %d" % size, size)), status)
     see_long_file(caller, content)
     server.ran.kill()
     server.ends(-9, "")
