@@ -78,9 +78,10 @@ fn write_file<W: Write>(
         Slot::A => "tree.a",
         Slot::B => "tree.b",
     };
-    let profile = looked.restart.server().tree().limits().profile();
+    let limits = looked.restart.server().tree().limits();
+    let (format, profile) = (FORMAT, limits.profile());
     let frames = frames_of(current.identity, current.generation, &looked.file);
-    writeln!(out, "format {FORMAT}")?;
+    writeln!(out, "format {format}")?;
     writeln!(out, "machine {}", current.machine)?;
     writeln!(out, "profile {profile}")?;
     writeln!(out, "file {file}")?;
