@@ -28,7 +28,7 @@ pub(crate) struct StoreUse {
 
 /// A number of CURRENT, which is in the order of XDR (RFC 4506, section 4.5).
 fn word(current: &[u8], at: usize) -> Option<u64> {
-    let bytes = current.get(at..at + WORD)?;
+    let bytes = current.get(at..)?.get(..WORD)?;
     let mut number = 0;
     for byte in bytes {
         number = number << 8 | u64::from(*byte);

@@ -232,8 +232,11 @@ impl<R: Files + Clock> Disk for Served<'_, R> {
         let Some(folder) = &mut self.folder else {
             return false;
         };
-        let more = prefix.len() as u64 + body.len() as u64 + back.len() as u64;
-        self.store_use.note_end(slot, at.saturating_add(more));
+        let end = at
+            .saturating_add(prefix.len() as u64)
+            .saturating_add(body.len() as u64)
+            .saturating_add(back.len() as u64);
+        self.store_use.note_end(slot, end);
         folder.write(slot, at, prefix, body, back)
     }
 
