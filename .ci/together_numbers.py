@@ -13,12 +13,12 @@ OFFICE_LIMITS = {"connections": 256, "clients": 256, "sessions": 256, "opens": 6
 
 
 def samples(text):
-    """The samples of a text by their names and labels. Each metric has its help and its type before its samples, and stands once."""
+    """The samples of a text by their names and labels. Each metric has its help and its type before its samples, and comes once."""
     found, kinds, last = {}, {}, None
     for line in text.split("\n")[:-1]:
         if line.startswith("# HELP "):
             last = line.split(" ")[2]
-            see("a metric that stands once", last in kinds, False)
+            see("a metric that comes once", last in kinds, False)
         elif line.startswith("# TYPE "):
             see("a type after its help", line.split(" ")[2], last)
             kinds[last] = line.split(" ")[3]
@@ -27,7 +27,7 @@ def samples(text):
             see(f"a sample: {line}", sample is not None and sample[1] == last and kinds.get(last) in ("gauge", "counter"), True)
             see("a counter's name", (kinds[last] == "counter"), last.endswith("_total"))
             series = sample[1].removeprefix("zoclesavory_") + (sample[2] or "")
-            see("a series that stands once", series in found, False)
+            see("a series that comes once", series in found, False)
             found[series] = float(sample[3]) if "." in sample[3] else int(sample[3])
     see("the end of the text", text[-1:], "\n")
     return found
@@ -55,7 +55,7 @@ def at_rest(found):
 
 
 def some_calls(server):
-    """A directory that is closed to others, a file with 5 bytes of which 3 are read, and a LOOKUP that is refused."""
+    """A directory that is closed to others, a file of 5 bytes, a READ of the last 3, and a LOOKUP that is refused."""
     root = Session(server, 0x61, 0)
     see("the status of CREATE", root.status(2, ROOT + create_of(b"closed", 0o700)), 0)
     see("the status of OPEN", root.status(2, ROOT + make_file(b"file", 0o644)), 0)

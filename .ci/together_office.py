@@ -21,7 +21,7 @@ def hyper(number):
 
 
 def write_at(offset, content):
-    """WRITE by a stateid that stands for none (RFC 8881, section 8.2.3), to stable storage."""
+    """WRITE by the anonymous stateid (RFC 8881, section 8.2.3), to stable storage."""
     return words(38, 0, 0, 0, 0) + hyper(offset) + words(2) + opaque(content)
 
 

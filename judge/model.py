@@ -284,7 +284,7 @@ class Bytes:
         return b''.join(self.pieces.get(k, bytes(PIECE)) for k in range(first, last))
 
     def read(self, at, n):
-        """the bytes from a place on, at most so many"""
+        """at most n bytes from a place on"""
         end = min(at + n, self.size)
         if end <= at:
             return b''

@@ -20,7 +20,8 @@ use Rattle.nfs_streams.specs.declared.serving.Limits.{Limits}
 use Rattle.nfs_streams.specs.Acts.{Act, OnDisk, Adds}
 use Rattle.nfs_streams.specs.All.{ServesAll}
 use Rattle.kept_server.specs.declared.serving.KeptEnd.{KeptEnd}
-use Rattle.kept_server.specs.declared.serving.KeptEnd.TheVariants.{Ended, Unopened, Unready, Memory, Exhausted, OtherProfile}
+use Rattle.kept_server.specs.declared.serving.KeptEnd.TheVariants.{Ended, Unopened, Unready, Memory}
+use Rattle.kept_server.specs.declared.serving.KeptEnd.TheVariants.{Exhausted, OtherProfile}
 use Rattle.kept_server.specs.Beginning.{Before, BeginsWith, RepresentsMeanwhile}
 
 -- acts of the disk as acts of the site
@@ -91,4 +92,5 @@ pub record ServesKept (A : Type 0) (before : Before) (profile : profiles.Limits)
   pub acts : List DiskAct
   pub mid : Option (List Act)
   pub adds : Adds old mid (on_disk acts)
-  pub goes : IsHonest (acts ++ before.history) → Goes A before profile book limits end acts mid new ⊎ Collision before.logs
+  pub goes : IsHonest (acts ++ before.history)
+      → Goes A before profile book limits end acts mid new ⊎ Collision before.logs

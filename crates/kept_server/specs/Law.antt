@@ -32,7 +32,8 @@ pub record Leaves (limits : Limits) (start : State) (prefix : List Act) (history
 abbrev pub GoesOnLaw : Type 0 → Type 0
 GoesOnLaw A =
     (before : Before) (profile : profiles.Limits) (book : Content) (limits : Limits) (end : AllEnd)
-    (acts : List DiskAct) (mid new : Option (List Act)) (run : Serves A before profile book limits end acts mid new) (later prefix : List Act)
+    (acts : List DiskAct) (mid new : Option (List Act))
+    (run : Serves A before profile book limits end acts mid new) (later prefix : List Act)
     → run.serves.acts ≡ later ++ prefix → Leaves limits run.serves.start prefix (acts ++ before.history)
 
 -- The result of a start that is interrupted after these of its acts of the disk. The next run finds exactly that. Each

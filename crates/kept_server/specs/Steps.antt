@@ -16,7 +16,8 @@ use Rattle.nfs_hub.specs.Machine.{State, BeginLog, Reload, IsHistory}
 use Rattle.nfs_hub.specs.Hub.{IsHub, IsHistoryOf}
 use Rattle.kept_server.specs.declared.opening.Kept.{Kept}
 use Rattle.kept_server.specs.declared.serving.KeptEnd.{KeptEnd}
-use Rattle.kept_server.specs.declared.serving.KeptEnd.TheVariants.{Ended, Unopened, Unready, Memory, Exhausted, OtherProfile}
+use Rattle.kept_server.specs.declared.serving.KeptEnd.TheVariants.{Ended, Unopened, Unready, Memory}
+use Rattle.kept_server.specs.declared.serving.KeptEnd.TheVariants.{Exhausted, OtherProfile}
 
 -- the log of a machine begins anew
 abbrev pub begun : State → State

@@ -43,7 +43,8 @@ pub fn serve_kept<A: Allocator + Copy, S: Site<A>, C: Clock>(
     start: Start,
     limits: Limits,
 ) -> KeptEnd
-    ensures { (before : Before) → ServesKept A before start.limits start.book limits result (S.acts site.old) (S.acts site.new) }
+    ensures { (before : Before) →
+        ServesKept A before start.limits start.book limits result (S.acts site.old) (S.acts site.new) }
 {
     let mut kept = match open_kept(site, alloc, global, clock.second(), start) {
         Ok(kept) => kept,

@@ -152,8 +152,8 @@ IsKept earlier s = HasKept s.served.state.trail s.served.state.total earlier
 -- The acts that are allowed after earlier acts.
 -- - After an end or a failure of a stream only its closing is allowed. After a failed wait, a trail that couldn't be
 --   kept, or a store that failed, nothing is.
--- - A stream is admitted only just after it has arrived. Its place is free and below 256, and fewer connections are open
---   than the limit.
+-- - A stream is admitted only just after it has arrived. Its place is free and below 256, and fewer connections are
+--   open than the limit.
 -- - At most 131,072 bytes are read at once. By then everything that was read from that stream before is given, no bytes
 --   are pending on its connection, and its turns aren't used up.
 -- - A piece begins only while at most 4,096 bytes are pending on its connection.

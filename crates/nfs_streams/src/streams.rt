@@ -70,10 +70,10 @@ pub enum StreamEnd {
     Stopped = 10,
 }
 
-/// The streams of a server over the allocator `A`, each at a place, whose number is below 256. Beside them the trait has
-/// the file, or another medium, in which the server's trail is kept. It has the files of the store, if any (`Disk`),
-/// and the source of other books of names. A place has one stream at a time, from `admit` to `close`. No other call is
-/// made for a place without a stream. Only `wait` waits for a peer.
+/// The streams of a server over the allocator `A`, each at a place, whose number is below 256. Beside them the trait
+/// has the file, or another medium, in which the server's trail is kept. It has the files of the store, if any
+/// (`Disk`), and the source of other books of names. A place has one stream at a time, from `admit` to `close`. No
+/// other call is made for a place without a stream. Only `wait` waits for a peer.
 pub trait Streams<A: Allocator + Copy>: Disk {
     // The calls so far and their results, the newest first, if they are known. Those of the disk are among them.
     ghost acts: { Self → Option (List Act) } = { λ _. None };

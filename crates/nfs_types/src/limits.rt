@@ -61,8 +61,8 @@ impl Model for Limits {
 }
 
 impl Limits {
-    /// The standard profile: 16 connections, 64 clients, 64 sessions, 4,096 open files, 16,384 objects, 4,096 names in a
-    /// directory, 1,000 names of an object, and 1,048,576 bytes of a file.
+    /// The standard profile: 16 connections, 64 clients, 64 sessions, 4,096 open files, 16,384 objects, 4,096 names in
+    /// a directory, 1,000 names of an object, and 1,048,576 bytes of a file.
     pub fn standard() -> Self
         ensures { result ≡ standard }
     {
@@ -97,7 +97,8 @@ impl Limits {
         }
     }
 
-    /// The limits of the profile of a number: 0 is the standard profile, 1 the office profile. `None`: no profile has it.
+    /// The limits of the profile of a number: 0 is the standard profile, 1 the office profile. `None`: no profile has
+    /// it.
     pub fn of(profile: u32) -> Option<Self>
         ensures { result ≡ limits_of profile }
     {

@@ -3,7 +3,7 @@ use Rattle.std.specs.Prelude.{◌*◌, ℕ, Bool, not, nat_le, nat_lt, if◌then
 use Rattle.nfsd.specs.declared.near_limits.Level.{Level}
 use Rattle.nfsd.specs.declared.near_limits.Level.TheVariants.{Low, High, Critical, Full}
 
--- at least so many hundredths of a limit are in use
+-- at least this number of hundredths of a limit is in use
 abbrev pub reaches : ℕ → ℕ → ℕ → Bool
 reaches hundredths used limit = nat_le (hundredths * limit) (100 * used)
 

@@ -17,7 +17,7 @@ pub(crate) enum Level {
     Full,
 }
 
-/// Whether at least so many hundredths of a limit are in use.
+/// Whether at least this number of hundredths of a limit is in use.
 fn reaches(hundredths: u8, used: usize, limit: usize) -> bool
     ensures { result ≡ reaches hundredths used limit }
 {
@@ -76,7 +76,7 @@ struct Count<'a> {
     limit: usize,
     /// The things that are counted.
     name: &'a str,
-    /// What happens at the limit, and what would help.
+    /// The effect at the limit, and what would help.
     advice: &'a str,
 }
 

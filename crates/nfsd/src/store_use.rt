@@ -1,4 +1,4 @@
-//! What the files of a store were used for since the server started.
+//! Counts of syncs, and the bytes of the files of a store, since the server started.
 use std::time::Duration;
 use store_journal::Slot;
 

@@ -41,7 +41,7 @@ pub(crate) struct Served<'a, R: Files> {
     open: usize,
     /// `None`: no limit is reported as nearly reached, as in the standard profile.
     near: Option<NearLimits>,
-    /// What the files of the store were used for.
+    /// Counts of syncs, and the bytes of the files of the store.
     store_use: StoreUse,
     /// The file of the server's numbers. `None`: the server has no home, or doesn't listen yet.
     metrics: Option<MetricsFile<'a, R>>,

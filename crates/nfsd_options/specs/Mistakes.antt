@@ -5,7 +5,8 @@ use Rattle.clap.specs.declared.error.kind.ErrorKind.TheVariants.{TooManyValues}
 use Rattle.nfsd_options.specs.declared.mistake.Mistake.{Mistake}
 use Rattle.nfsd_options.specs.declared.mistake.Mistake.TheVariants.{HomeWithOthers, TrailOfBare, PortsOfBare}
 use Rattle.nfsd_options.specs.declared.mistake.Mistake.TheVariants.{StoreOfBare, NothingToStamp}
-use Rattle.nfsd_options.specs.declared.mistake.Mistake.TheVariants.{ListeningOfBare, OfficeOfBare, AnyIsPrivileged, TooMany}
+use Rattle.nfsd_options.specs.declared.mistake.Mistake.TheVariants.{ListeningOfBare, OfficeOfBare}
+use Rattle.nfsd_options.specs.declared.mistake.Mistake.TheVariants.{AnyIsPrivileged, TooMany}
 use Rattle.nfsd_options.specs.declared.mistake.Mistake.TheVariants.{NobodyAllowed}
 
 abbrev pub kind_at : Mistake → ErrorKind

@@ -120,11 +120,11 @@ impl<'a> Options<'a> {
     /// Reads the words. The first one is the program's name, as in `env::args`.
     ///
     /// An error is `clap`'s own, and its `Display` is the text for the user. These are the errors: a mistake in the
-    /// words, a request for help or for the version, a name of no profile, a text that is no address or no network, and a
-    /// failed allocation.
-    /// So are too many addresses or networks, and options that can't be given together: `--home` with an option that it
-    /// stands for or with `--bare`; `--bare` with `--trail`, `--store`, the office profile or an option for listening; `--any-port` with
-    /// `--privileged-ports`; an address that isn't loopback without `--allow`; `--stamped` without `--trail`.
+    /// words, a request for help or for the version, a name of no profile, a text that is no address or no network,
+    /// and a failed allocation. Too many addresses or networks are an error too, and so are these options together:
+    /// `--home` with an option that it stands for or with `--bare`; `--bare` with `--trail`, `--store`, the office
+    /// profile or an option for listening; `--any-port` with `--privileged-ports`; an address that isn't loopback
+    /// without `--allow`; `--stamped` without `--trail`.
     pub fn read<S: AsStr>(alloc: Global, words: &'a [S]) -> Result<Options<'a>, Error>
         ensures options_are { IfOk result (OptionsOf (map S.text words.entry.now)) }
         ensures refused { IsTakenOr (map S.text words.entry.now) result }

@@ -5,7 +5,7 @@ ghost use Rattle.server_metrics.specs.Reading.{ReadsSeconds};
 
 use server_metrics::{Metric, Usage, micros_of, number_of};
 
-/// What is limited.
+/// The counts that have a limit.
 #[derive(Clone, Copy)]
 pub(crate) struct Limits {
     pub(crate) connections: Usage,
@@ -15,11 +15,11 @@ pub(crate) struct Limits {
     pub(crate) objects: Usage,
     /// The bytes of all files.
     pub(crate) content: u64,
-    /// The most bytes of all files, if there is such a limit.
+    /// The most bytes of all files, if there is a limit.
     pub(crate) capacity: Option<u64>,
 }
 
-/// What was done since the server started.
+/// The work since the server started.
 #[derive(Clone, Copy)]
 pub(crate) struct Work {
     pub(crate) acl_refusals: u64,

@@ -1,5 +1,6 @@
 -- Reading samples from a text of metrics.
-use Rattle.std.specs.Prelude.{◌≡◌, ◌≢◌, ℕ, ◌+◌, ◌<◌, ◌^◌, ◌==◌, ◌&&◌, Bool, nat_eq, List, Option, None, IfSome, MatchOption}
+use Rattle.std.specs.Prelude.{◌≡◌, ◌≢◌, ℕ, ◌+◌, ◌<◌, ◌^◌, ◌==◌, ◌&&◌, Bool, nat_eq, List, Option, None, IfSome}
+use Rattle.std.specs.Prelude.{MatchOption}
 use Rattle.std.specs.Prelude.{decimal, drop, find, length, option_map, slice_index}
 use Rattle.std.specs.List.{starts_with}
 use Rattle.std.specs.Str.Lines.{lines}
@@ -11,7 +12,7 @@ use Rattle.server_metrics.specs.declared.metric.Metric.{Metric}
 abbrev pub has_series : List ℕ → List ℕ → Bool
 has_series line series = starts_with nat_eq line series && (slice_index line (length series) == 32)
 
--- what stands after the series and the space, in the first line of the series
+-- the text after the series and the space, in the first line of the series
 abbrev pub value_of : List ℕ → List ℕ → Option (List ℕ)
 value_of text series =
     option_map (λ line. drop (length series + 1) line) (find (λ line. has_series line series) (lines text))

@@ -41,7 +41,7 @@ escaped_byte b =
 unfoldable pub escaped : List ℕ → List ℕ
 escaped text = flat_map escaped_byte text
 
--- a label's value after what stands before it
+-- a label's value after the text before it
 unfoldable pub label : List ℕ → List ℕ → List ℕ
 label before text = before ++ escaped text
 
@@ -64,7 +64,7 @@ clients_text m =
     ++ count metric.Opens m.opens.used
     ++ count metric.OpensLimit m.opens.limit
 
--- the most bytes of all files, where there is such a limit
+-- the most bytes of all files, if there is a limit
 unfoldable pub capacity_text : Option ℕ → List ℕ
 capacity_text None = []
 capacity_text (Some most) = count metric.ContentLimit most

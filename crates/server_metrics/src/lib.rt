@@ -1,4 +1,4 @@
-//! What a server is doing, in Prometheus' text exposition format.
+//! The numbers of a server, in Prometheus' text exposition format.
 #![tactic(auto)]
 
 mod metric;

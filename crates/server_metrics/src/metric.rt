@@ -40,7 +40,7 @@ pub enum Metric {
     ObjectsLimit,
     /// The bytes of all files.
     Content,
-    /// The most bytes of all files. It is left out if there is no such limit.
+    /// The most bytes of all files. It is left out if there is no limit.
     ContentLimit,
     /// The calls, by operation and status.
     Calls,

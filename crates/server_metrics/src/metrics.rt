@@ -1,4 +1,4 @@
-//! What is known of a server.
+//! The numbers of a server.
 
 /// How many there are of something, and the most that there may be.
 #[derive(Clone, Copy, PartialEq, Eq)]
@@ -20,7 +20,7 @@ pub struct CallCount<'a> {
     pub count: u64,
 }
 
-/// What a server is doing. Counters begin with 0 when it starts.
+/// The numbers of a server. Counters begin with 0 when it starts.
 #[derive(Clone, Copy, PartialEq, Eq)]
 pub struct Metrics<'a> {
     /// The version of the server.
@@ -39,9 +39,9 @@ pub struct Metrics<'a> {
     pub objects: Usage,
     /// The bytes of all files.
     pub content: u64,
-    /// The most bytes that all files may have. `None`: there is no such limit.
+    /// The most bytes that all files may have. `None`: there is no limit.
     pub capacity: Option<u64>,
-    /// The calls, by operation and status. Each pair of an operation and a status stands here once at most.
+    /// The calls, by operation and status. Each pair of an operation and a status is here once at most.
     pub calls: &'a [CallCount<'a>],
     /// The operations that an ACL (access control list) refused.
     pub acl_refusals: u64,

@@ -133,7 +133,7 @@ fn push_escaped<A: Allocator>(out: &mut Vec<u8, A>, text: &str) -> Result<(), Al
     Ok(())
 }
 
-/// Appends the value of a label after what stands before it.
+/// Appends the value of a label after the text before it.
 #[tactic(auto, unfolding(crate::specs::Text::label))]
 pub(crate) fn push_label<A: Allocator>(
     out: &mut Vec<u8, A>,

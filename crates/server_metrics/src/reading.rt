@@ -35,7 +35,7 @@ fn rest_of(bytes: &[u8], at: usize) -> &[u8]
     bytes.get(at..).unwrap_or(b"")
 }
 
-/// The value of a series: what stands after the series and a space, in the first line of a text that they begin. A
+/// The value of a series: the text after the series and a space, in the first line of a text that they begin. A
 /// series is a name, or a name and its labels as they are written. `None`: no line is of this series.
 pub fn value_of<'a>(text: &'a str, series: &str) -> Option<&'a [u8]>
     ensures { option_map (λ value. value.now) result ≡ value_of text.now series.now }
@@ -143,7 +143,7 @@ fn call_in(line: &str) -> Option<CallCount<'_>> {
     })
 }
 
-/// The calls that a line of a text states. `None`: it is no such line, or its labels have a backslash.
+/// The calls that a line of a text states. `None`: it is another line, or its labels have a backslash.
 ///
 /// The error is that an allocation failed.
 pub fn read_call<A: Allocator>(alloc: A, line: &str) -> Result<Option<CallCount<'_>>, AllocError>

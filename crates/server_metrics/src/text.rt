@@ -34,7 +34,7 @@ fn push_clients<A: Allocator>(out: &mut Vec<u8, A>, metrics: &Metrics<'_>) -> Re
     push_count(out, Metric::OpensLimit, metrics.opens.limit)
 }
 
-/// Appends the most bytes of all files, if there is such a limit.
+/// Appends the most bytes of all files, if there is a limit.
 #[tactic(auto, unfolding(crate::specs::Text::capacity_text))]
 fn push_capacity<A: Allocator>(
     out: &mut Vec<u8, A>,
