@@ -12,3 +12,4 @@ pub mod Placing
 pub mod Measured
 pub mod Listing
 pub mod Numbers
+pub mod Moments

@@ -13,7 +13,7 @@ use Rattle.nfs_types.specs.Forms.{trimmed}
 use Rattle.nfs_types.proofs.Numbers.{by_word}
 use Rattle.nfs_types.proofs.Shared.{common_at}
 use Rattle.nfs_types.specs.Sets.{has_number}
-use Rattle.nfs_types.specs.Attributes.{row, number_of, all, supported_words, settable_words}
+use Rattle.nfs_types.specs.Attributes.{row, number_of, all, all_words, supported_words, settable_words, is_of_times}
 use Rattle.nfs_types.specs.declared.attribute.Attribute.{Attribute}
 
 abbrev same : Bool → Bool → Bool
@@ -63,9 +63,13 @@ are_picked words pick short h n = one (cases_lt n 96)
     one (inl lt) = are_same (has_number words n) (list_any (λ a. pick a && nat_eq (number_of a) n) all) (below (λ m. same (has_number words m) (list_any (λ a. pick a && nat_eq (number_of a) m) all)) 96 n h lt)
     one (inr le) = past words n short le ∙ sym (none pick all n refl le)
 
-pub supported_are : (n : ℕ) → has_number supported_words n ≡ list_any (λ a. nat_eq (number_of a) n) all
+pub all_are : (n : ℕ) → has_number all_words n ≡ list_any (λ a. nat_eq (number_of a) n) all
 unfolding has_number
-supported_are = are_picked supported_words (λ a. true) (omega arith) refl
+all_are = are_picked all_words (λ a. true) (omega arith) refl
+
+pub standard_are : (n : ℕ) → has_number (supported_words false) n ≡ list_any (λ a. not (is_of_times a) && nat_eq (number_of a) n) all
+unfolding has_number
+standard_are = are_picked (supported_words false) (λ a. not (is_of_times a)) (omega arith) refl
 
 pub settable_are : (n : ℕ) → has_number settable_words n ≡ list_any (λ a. not (nat_eq (row a).set_by 0) && nat_eq (number_of a) n) all
 unfolding has_number

@@ -16,5 +16,7 @@ facts_value f = record {
   group = f.group;
   metadata = f.metadata;
   modify = f.modify;
+  access = f.access;
   most_bytes = f.most_bytes;
+  times = f.times;
 }

@@ -3,7 +3,7 @@ use Rattle.std.specs.Prelude.{ℕ, if◌then◌else◌, List, []}
 use Rattle.std.specs.List.{flat_map}
 use Rattle.xdr_wire.specs.Xdr.{spelling}
 use Rattle.who_book.specs.Content.{Content}
-use Rattle.nfs_types.specs.Attributes.{Facts, number_of, value_of, all, supported_words}
+use Rattle.nfs_types.specs.Attributes.{Facts, number_of, value_of, all, all_words}
 use Rattle.nfs_types.specs.Common.{common}
 use Rattle.nfs_types.specs.Forms.{trimmed}
 use Rattle.nfs_types.specs.Sets.{has_number}
@@ -21,6 +21,6 @@ part book o asked a = if has_number asked (number_of a) then attribute_bytes boo
 unfoldable pub given_values : Content → Facts → List ℕ → List ℕ
 given_values book o asked = flat_map (part book o asked) all
 
--- the set of the attributes that are returned: those requested and supported
+-- the set of the attributes that are returned: those requested that the server has
 abbrev pub given_set : List ℕ → List ℕ
-given_set asked = trimmed (common asked supported_words)
+given_set asked = trimmed (common asked all_words)

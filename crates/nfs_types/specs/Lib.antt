@@ -5,6 +5,7 @@ pub mod Forms
 pub mod Handles
 pub mod StateIds
 pub mod Sets
+pub mod Times
 pub mod Attributes
 pub mod Sent
 pub mod AceView

@@ -1,5 +1,5 @@
 -- The limits that a profile sets, and the two profiles.
-use Rattle.std.specs.Prelude.{◌≡◌, ◌<◌, ◌≤◌, ◌^◌, ◌==◌, if◌then◌else◌, ℕ, Option, Some, None}
+use Rattle.std.specs.Prelude.{◌≡◌, ◌<◌, ◌≤◌, ◌^◌, ◌==◌, if◌then◌else◌, ℕ, Bool, true, false, Option, Some, None}
 
 pub record Limits : Type 0 where
   -- the number of the profile
@@ -20,6 +20,8 @@ pub record Limits : Type 0 where
   pub links : ℕ
   -- the most bytes of a file
   pub bytes : ℕ
+  -- whether times can be set, and the time of the last access is kept
+  pub times : Bool
 
 -- the standard profile
 abbrev pub standard : Limits
@@ -33,6 +35,7 @@ standard = record {
   names = 4096;
   links = 1000;
   bytes = 1048576;
+  times = false;
 }
 
 -- the office profile
@@ -47,6 +50,7 @@ office = record {
   names = 1048576;
   links = 32767;
   bytes = 1099511627776;
+  times = true;
 }
 
 -- the limits of the profile of a number

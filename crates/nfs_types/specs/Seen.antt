@@ -9,9 +9,10 @@ use Rattle.nfs_types.specs.Forms.{trimmed}
 use Rattle.nfs_types.specs.Sets.{has_number}
 use Rattle.nfs_types.specs.Attributes.{text, ace, acl, acl41, is_within}
 use Rattle.nfs_types.specs.Sent.{chosen_at}
+use Rattle.nfs_types.specs.Times.{settime}
 use Rattle.nfs_types.specs.declared.attribute.Attribute.{Attribute}
 use Rattle.nfs_types.specs.declared.attribute.Attribute.TheVariants.{ObjectType, Size, RdattrError, Acl, Mode, Owner}
-use Rattle.nfs_types.specs.declared.attribute.Attribute.TheVariants.{OwnerGroup, Dacl, Sacl}
+use Rattle.nfs_types.specs.declared.attribute.Attribute.TheVariants.{OwnerGroup, TimeAccessSet, TimeModifySet, Dacl, Sacl}
 
 -- the values; None if an attribute isn't present
 pub record Seen : Type 0 where
@@ -22,13 +23,15 @@ pub record Seen : Type 0 where
   pub mode : Option ℕ
   pub owner : Option (List ℕ)
   pub group : Option (List ℕ)
+  pub access : Option (Value settime)
+  pub modify : Option (Value settime)
   pub dacl : Option (Value acl41)
   pub sacl : Option (Value acl41)
 
 -- the set of these attributes: 1 type, 4 size, 11 rdattr_error, 12 acl, 33 mode, 36 owner, 37
--- owner_group, 58 dacl, 59 sacl
+-- owner_group, 48 time_access_set, 54 time_modify_set, 58 dacl, 59 sacl
 abbrev pub seen_words : List ℕ
-seen_words = 0x0000_1812 ∷ 0x0c00_0032 ∷ []
+seen_words = 0x0000_1812 ∷ 0x0c41_0032 ∷ []
 
 -- one value after the other, by rising number
 abbrev pub seen_at : List ℕ → List ℕ → Read Seen
@@ -40,8 +43,10 @@ seen_at set bytes =
     chosen_at (has_number set 33) uint d.1 >>= λ e.
     chosen_at (has_number set 36) text e.1 >>= λ f.
     chosen_at (has_number set 37) text f.1 >>= λ g.
-    chosen_at (has_number set 58) acl41 g.1 >>= λ h.
-    chosen_at (has_number set 59) acl41 h.1 >>= λ i.
+    chosen_at (has_number set 48) settime g.1 >>= λ h.
+    chosen_at (has_number set 54) settime h.1 >>= λ i.
+    chosen_at (has_number set 58) acl41 i.1 >>= λ j.
+    chosen_at (has_number set 59) acl41 j.1 >>= λ k.
     Ok (
       record {
         kind = a.0;
@@ -51,10 +56,12 @@ seen_at set bytes =
         mode = e.0;
         owner = f.0;
         group = g.0;
-        dacl = h.0;
-        sacl = i.0;
+        access = h.0;
+        modify = i.0;
+        dacl = j.0;
+        sacl = k.0;
       },
-      i.1,
+      k.1,
     )
 
 -- no bytes follow the values
@@ -71,7 +78,8 @@ seen_of set bytes = if not (is_within set seen_words) then Err BadChoice else en
 
 -- these attributes, by rising number
 abbrev pub seen_all : List Attribute
-seen_all = ObjectType ∷ Size ∷ RdattrError ∷ Acl ∷ Mode ∷ Owner ∷ OwnerGroup ∷ Dacl ∷ Sacl ∷ []
+seen_all = ObjectType ∷ Size ∷ RdattrError ∷ Acl ∷ Mode ∷ Owner ∷ OwnerGroup ∷ TimeAccessSet ∷ TimeModifySet ∷ Dacl ∷ Sacl
+    ∷ []
 
 abbrev pub optional_spelling : (t : Xdr) → Option (Value t) → List ℕ
 optional_spelling t None = []
@@ -86,6 +94,8 @@ client_part s Acl = optional_spelling acl s.entries
 client_part s Mode = optional_spelling uint s.mode
 client_part s Owner = optional_spelling text s.owner
 client_part s OwnerGroup = optional_spelling text s.group
+client_part s TimeAccessSet = optional_spelling settime s.access
+client_part s TimeModifySet = optional_spelling settime s.modify
 client_part s Dacl = optional_spelling acl41 s.dacl
 client_part s Sacl = optional_spelling acl41 s.sacl
 client_part s _ = []
@@ -97,9 +107,14 @@ client_values s = flat_map (client_part s) seen_all
 abbrev pub bit_if : {X : Type 0} → Option X → ℕ → ℕ
 bit_if value bit = if is_some value then bit else 0
 
+-- the second word of the set of the attributes that are present
+abbrev pub second_word : Seen → ℕ
+second_word s =
+    bit_if s.mode 0x2 + bit_if s.owner 0x10 + bit_if s.group 0x20 + bit_if s.access 0x1_0000
+    + bit_if s.modify 0x40_0000 + bit_if s.dacl 0x400_0000 + bit_if s.sacl 0x800_0000
+
 -- the set of the attributes that are present
 abbrev pub client_set : Seen → List ℕ
 client_set s =
     trimmed ((bit_if s.kind 0x2 + bit_if s.size 0x10 + bit_if s.error 0x800 + bit_if s.entries 0x1000)
-    ∷ (bit_if s.mode 0x2 + bit_if s.owner 0x10 + bit_if s.group 0x20 + bit_if s.dacl 0x400_0000
-    + bit_if s.sacl 0x800_0000) ∷ [])
+    ∷ second_word s ∷ [])

@@ -3,6 +3,7 @@ use Rattle.std.specs.Prelude.{None, option_map}
 use Rattle.xdr_wire.specs.Wire.{array_values}
 use Rattle.nfs_types.specs.Attributes as attributes
 use Rattle.nfs_types.specs.Seen as specs
+use Rattle.nfs_types.specs.Times.{sent_time}
 use Rattle.nfs_types.specs.declared.seen.SeenAttributes.{SeenAttributes}
 
 abbrev pub seen_value : SeenAttributes → specs.Seen
@@ -14,6 +15,8 @@ seen_value s = record {
   mode = s.mode;
   owner = option_map (λ t. t.bytes.now) s.owner;
   group = option_map (λ t. t.bytes.now) s.group;
+  access = option_map sent_time s.access;
+  modify = option_map sent_time s.modify;
   dacl = option_map (λ a. (a.flags, array_values attributes.ace None a.entries.count a.entries.bytes.now)) s.dacl;
   sacl = option_map (λ a. (a.flags, array_values attributes.ace None a.entries.count a.entries.bytes.now)) s.sacl;
 }

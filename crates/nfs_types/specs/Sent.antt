@@ -17,6 +17,8 @@ use Rattle.who_book.specs.declared.kind.NameKind.{NameKind}
 use Rattle.who_book.specs.declared.kind.NameKind.TheVariants as kinds
 use Rattle.nfs_types.specs.Sets.{has_number}
 use Rattle.nfs_types.specs.Attributes.{text, ace, acl, acl41, supported_words, settable_words, is_within}
+use Rattle.nfs_types.specs.Times.{settime, taken_time}
+use Rattle.nfs_types.specs.declared.set_time.SetTime.{SetTime}
 use Rattle.nfs_types.specs.declared.status.Status.{Status}
 use Rattle.nfs_types.specs.declared.status.Status.TheVariants as status
 
@@ -32,11 +34,13 @@ pub record Sent : Type 0 where
   pub mode : Option ℕ
   pub owner : Option (List ℕ)
   pub group : Option (List ℕ)
+  pub access : Option (Value settime)
+  pub modify : Option (Value settime)
   pub dacl : Option (Value acl41)
   pub sacl : Option (Value acl41)
 
--- One value after the other, by rising number: 4 size, 12 acl, 33 mode, 36 owner, 37 owner_group,
--- 58 dacl, 59 sacl.
+-- One value after the other, by rising number: 4 size, 12 acl, 33 mode, 36 owner, 37 owner_group, 48 time_access_set,
+-- 54 time_modify_set, 58 dacl, 59 sacl.
 abbrev pub sent_at : List ℕ → List ℕ → Read Sent
 sent_at set bytes =
     chosen_at (has_number set 4) hyper bytes >>= λ a.
@@ -44,9 +48,21 @@ sent_at set bytes =
     chosen_at (has_number set 33) uint b.1 >>= λ c.
     chosen_at (has_number set 36) text c.1 >>= λ d.
     chosen_at (has_number set 37) text d.1 >>= λ e.
-    chosen_at (has_number set 58) acl41 e.1 >>= λ f.
-    chosen_at (has_number set 59) acl41 f.1 >>= λ g.
-    Ok (record { size = a.0; entries = b.0; mode = c.0; owner = d.0; group = e.0; dacl = f.0; sacl = g.0 }, g.1)
+    chosen_at (has_number set 48) settime e.1 >>= λ f.
+    chosen_at (has_number set 54) settime f.1 >>= λ g.
+    chosen_at (has_number set 58) acl41 g.1 >>= λ h.
+    chosen_at (has_number set 59) acl41 h.1 >>= λ i.
+    Ok (record {
+      size = a.0;
+      entries = b.0;
+      mode = c.0;
+      owner = d.0;
+      group = e.0;
+      access = f.0;
+      modify = g.0;
+      dacl = h.0;
+      sacl = i.0;
+    }, i.1)
 
 -- the values that the bytes encode, all of the bytes
 abbrev pub whole : Read Sent → Option Sent
@@ -65,17 +81,39 @@ pub record Wanted : Type 0 where
   pub mode : Option ℕ
   pub owner : Option ℕ
   pub group : Option ℕ
+  pub access : Option SetTime
+  pub modify : Option SetTime
   pub dacl : Option (List Entry)
   pub sacl : Option (List Entry)
 
 -- no value is set
 abbrev pub nothing : Wanted
-nothing = record { size = None; list = None; mode = None; owner = None; group = None; dacl = None; sacl = None }
+nothing = record {
+  size = None;
+  list = None;
+  mode = None;
+  owner = None;
+  group = None;
+  access = None;
+  modify = None;
+  dacl = None;
+  sacl = None;
+}
 
-abbrev pub made : Option ℕ → Option (List Entry) → Option ℕ → Option ℕ → Option ℕ → Option (List Entry)
-    → Option (List Entry) → Wanted
-made size list mode owner group dacl sacl =
-    record { size = size; list = list; mode = mode; owner = owner; group = group; dacl = dacl; sacl = sacl }
+abbrev pub made : Option ℕ → Option (List Entry) → Option ℕ → Option ℕ → Option ℕ → Option SetTime → Option SetTime
+    → Option (List Entry) → Option (List Entry) → Wanted
+made size list mode owner group access modify dacl sacl =
+    record {
+      size = size;
+      list = list;
+      mode = mode;
+      owner = owner;
+      group = group;
+      access = access;
+      modify = modify;
+      dacl = dacl;
+      sacl = sacl;
+    }
 
 -- whether an access control list (ACL) is set, or a part of one
 abbrev pub has_acl : Wanted → Bool
@@ -135,6 +173,13 @@ taken_plain book mode owner group =
     taken_mode mode >> λ m. taken_name book kinds.User owner >> λ o. taken_name book kinds.Group group
     >> λ g. Ok (m, (o, g))
 
+-- the times that are set: time_access, time_modify
+abbrev pub Times : Type 0
+Times = Option SetTime × Option SetTime
+
+abbrev pub taken_times : Option (Value settime) → Option (Value settime) → Result Times Status
+taken_times access modify = taken_time access >> λ a. taken_time modify >> λ m. Ok (a, m)
+
 -- A part of an ACL. Automatic inheritance isn't supported; no flag of the ACL is therefore known (section 6.4.3.2). The
 -- flags are checked before the ACEs.
 abbrev pub taken_part : Part → Content → Kind → Option (Value acl41) → Result (Option (List Entry)) Status
@@ -155,8 +200,9 @@ abbrev pub taken_each : Content → Kind → Sent → Result Wanted Status
 taken_each book kind sent =
     taken_acl book kind sent.entries >> λ list.
     taken_plain book sent.mode sent.owner sent.group >> λ plain.
+    taken_times sent.access sent.modify >> λ times.
     taken_parts book kind sent.dacl sent.sacl >> λ parts.
-    Ok (made sent.size list (mode_of plain) (owner_of plain) (group_of plain) parts.0 parts.1)
+    Ok (made sent.size list (mode_of plain) (owner_of plain) (group_of plain) times.0 times.1 parts.0 parts.1)
 
 -- whether both an ACL and a part of one are set
 abbrev pub is_set_twice : Sent → Bool
@@ -170,10 +216,10 @@ spelled book kind None = Err status.BadXdr
 spelled book kind (Some sent) = taken book kind sent
 
 -- The values that sent attributes set on an object of this type, or the first fault over the whole set. The faults come
--- in this order. An attribute isn't supported; one can't be set; the bytes aren't exactly the values; an ACL is beside
+-- in this order. An attribute isn't supported in the profile, with or without times; one can't be set; the bytes aren't exactly the values; an ACL is beside
 -- a part of one; a value has a fault.
-abbrev pub wanted_of : Content → Kind → List ℕ → List ℕ → Result Wanted Status
-wanted_of book kind set bytes =
-    if not (is_within set supported_words) then Err status.AttrNotSupp
+abbrev pub wanted_of : (times : Bool) → Content → Kind → List ℕ → List ℕ → Result Wanted Status
+wanted_of times book kind set bytes =
+    if not (is_within set (supported_words times)) then Err status.AttrNotSupp
     else if not (is_within set settable_words) then Err status.Inval
     else spelled book kind (whole (sent_at set bytes))

@@ -1,7 +1,8 @@
 //! The attributes: their numbers, their sets, and how the value of each is written (RFC 8881, section 5).
-ghost use Rattle.std.specs.Prelude.{◌≡◌, ◌≤◌, length};
+ghost use Rattle.std.specs.Prelude.{◌≡◌, ◌≤◌, ◌<◌, ◌^◌, length};
 ghost use Rattle.xdr_wire.specs.Xdr.{spelling};
 ghost use Rattle.who_book.specs.Spelling.{principal_text};
+ghost use Rattle.nfs_types.specs.Attributes as specs;
 ghost use Rattle.nfs_types.specs.Attributes.{text, type_number, typed};
 ghost use Rattle.nfs_types.specs.Writing.{IsWritten};
 
@@ -47,6 +48,8 @@ pub enum Attribute {
     Acl = 12,
     /// aclsupport: the types of access control entries (ACEs) that are supported.
     AclSupport = 13,
+    /// cansettime: times can be set.
+    CanSetTime = 15,
     /// filehandle: the object's own.
     FileHandle = 19,
     /// fileid: the object's number.
@@ -67,10 +70,20 @@ pub enum Attribute {
     Owner = 36,
     /// owner_group: the group's name.
     OwnerGroup = 37,
+    /// space_used: the bytes of the object's blocks, of 4,096 bytes each.
+    SpaceUsed = 45,
+    /// time_access: the time of the last access that was set, or of the object's making.
+    TimeAccess = 47,
+    /// time_access_set: sets time_access; it is never returned.
+    TimeAccessSet = 48,
+    /// time_delta: times are kept to the nanosecond.
+    TimeDelta = 51,
     /// time_metadata: the time of the last change.
     TimeMetadata = 52,
     /// time_modify: the time of the last change of the content.
     TimeModify = 53,
+    /// time_modify_set: sets time_modify; it is never returned.
+    TimeModifySet = 54,
     /// mounted_on_fileid: the object's number, since the server has only one file system.
     MountedOnFileId = 55,
     /// dacl: the part of the ACL that allows and denies.
@@ -82,7 +95,7 @@ pub enum Attribute {
 }
 
 /// All attributes, by rising number.
-pub const ALL: [Attribute; 30] = [
+pub const ALL: [Attribute; 36] = [
     Attribute::SupportedAttrs,
     Attribute::ObjectType,
     Attribute::FhExpireType,
@@ -97,6 +110,7 @@ pub const ALL: [Attribute; 30] = [
     Attribute::RdattrError,
     Attribute::Acl,
     Attribute::AclSupport,
+    Attribute::CanSetTime,
     Attribute::FileHandle,
     Attribute::FileId,
     Attribute::MaxFileSize,
@@ -107,8 +121,13 @@ pub const ALL: [Attribute; 30] = [
     Attribute::NumLinks,
     Attribute::Owner,
     Attribute::OwnerGroup,
+    Attribute::SpaceUsed,
+    Attribute::TimeAccess,
+    Attribute::TimeAccessSet,
+    Attribute::TimeDelta,
     Attribute::TimeMetadata,
     Attribute::TimeModify,
+    Attribute::TimeModifySet,
     Attribute::MountedOnFileId,
     Attribute::Dacl,
     Attribute::Sacl,
@@ -116,19 +135,24 @@ pub const ALL: [Attribute; 30] = [
 ];
 
 /// The words of the set of all attributes.
-pub(crate) const SUPPORTED: [u32; 8] = [0xe818_3fff, 0x0cb0_003a, 0x0000_0800, 0, 0, 0, 0, 0];
+pub(crate) const ALL_WORDS: [u32; 8] = [0xe818_bfff, 0x0cf9_a03a, 0x0000_0800, 0, 0, 0, 0, 0];
+
+/// The words of the set of the attributes that are supported where times can't be set.
+pub(crate) const WITHOUT_TIMES: [u32; 8] = [0xe818_3fff, 0x0cb0_003a, 0x0000_0800, 0, 0, 0, 0, 0];
 
 /// The words of the set of the attributes that can be set.
-pub(crate) const SETTABLE: [u32; 8] = [0x0000_1010, 0x0c00_0032, 0, 0, 0, 0, 0, 0];
+pub(crate) const SETTABLE: [u32; 8] = [0x0000_1010, 0x0c41_0032, 0, 0, 0, 0, 0, 0];
 
 /// The numbers of the attributes that READ_ATTRIBUTES lets a caller read (RFC 8881, section 6.2.1.3.1).
-pub const READ_BY_ATTRIBUTES: [u32; 8] = [
+pub const READ_BY_ATTRIBUTES: [u32; 10] = [
     Attribute::Change as u32,
     Attribute::Size as u32,
     Attribute::Mode as u32,
     Attribute::NumLinks as u32,
     Attribute::Owner as u32,
     Attribute::OwnerGroup as u32,
+    Attribute::SpaceUsed as u32,
+    Attribute::TimeAccess as u32,
     Attribute::TimeMetadata as u32,
     Attribute::TimeModify as u32,
 ];
@@ -189,9 +213,14 @@ pub struct ObjectFacts<'a> {
     pub metadata: Moment,
     /// The time of the last change of the content.
     pub modify: Moment,
+    /// The time of the last access.
+    pub access: Moment,
     /// The most bytes that a file may have.
     pub most_bytes: u64,
+    /// Whether times can be set.
+    pub times: bool,
     ghost few: { length entries.now ≤ 64 },
+    ghost is_small: { size < 2 ^ 62 },
 }
 
 /// The number of the type, `nfs_ftype4`.
@@ -202,6 +231,18 @@ fn number_of_type(kind: Kind) -> u32
         Kind::File => 1,
         Kind::Directory => 2,
         Kind::Link => 5,
+    }
+}
+
+/// The bytes of the blocks that an object takes, of 4,096 bytes each. A file takes those of its size, and any other
+/// object one.
+fn space_of(kind: Kind, size: u64) -> u64
+    requires { size < 2 ^ 62 }
+    ensures { result ≡ specs.space_of kind size }
+{
+    match kind {
+        Kind::File => (size + 4_095) / 4_096 * 4_096,
+        Kind::Directory | Kind::Link => 4_096,
     }
 }
 
@@ -242,7 +283,7 @@ impl<'a> ObjectFacts<'a> {
         ensures { IsWritten (value_of book.now (facts_value self.now) attribute) writer.old writer.new result }
     {
         match attribute {
-            Attribute::SupportedAttrs => put(Bitmap::supported(), writer),
+            Attribute::SupportedAttrs => put(Bitmap::supported(self.times), writer),
             Attribute::ObjectType => put(number_of_type(self.kind), writer),
             Attribute::FhExpireType => put(0u32, writer),
             Attribute::Change => put(self.change, writer),
@@ -256,6 +297,7 @@ impl<'a> ObjectFacts<'a> {
             Attribute::RdattrError => put(self.error.number(), writer),
             Attribute::Acl => write_list(book, self.entries, writer),
             Attribute::AclSupport => put(15u32, writer),
+            Attribute::CanSetTime => put(true, writer),
             Attribute::FileHandle => put(Handle::Object(self.number), writer),
             Attribute::FileId => put(self.number, writer),
             Attribute::MaxFileSize => put(self.most_bytes, writer),
@@ -266,8 +308,12 @@ impl<'a> ObjectFacts<'a> {
             Attribute::NumLinks => put(self.numlinks, writer),
             Attribute::Owner => put_principal(book, NameKind::User, self.owner, writer),
             Attribute::OwnerGroup => put_principal(book, NameKind::Group, self.group, writer),
+            Attribute::SpaceUsed => put(space_of(self.kind, self.size), writer),
+            Attribute::TimeAccess => put(self.access, writer),
+            Attribute::TimeDelta => put((0i64, 1u32), writer),
             Attribute::TimeMetadata => put(self.metadata, writer),
             Attribute::TimeModify => put(self.modify, writer),
+            Attribute::TimeAccessSet | Attribute::TimeModifySet => put((), writer),
             Attribute::MountedOnFileId => put(self.number, writer),
             Attribute::Dacl => write_part_of_list(book, self.entries, Part::Dacl, writer),
             Attribute::Sacl => write_part_of_list(book, self.entries, Part::Sacl, writer),

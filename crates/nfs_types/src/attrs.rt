@@ -8,9 +8,10 @@ ghost use Rattle.xdr_wire.specs.Wire.{array_values};
 ghost use Rattle.nfs_types.specs.Attributes.{ace};
 ghost use Rattle.nfs_types.specs.Sent as specs;
 ghost use Rattle.nfs_types.specs.Sent.{has_acl, made, taken, taken_each, taken_acl, taken_mode, taken_name};
-ghost use Rattle.nfs_types.specs.Sent.{taken_plain, wanted_of};
+ghost use Rattle.nfs_types.specs.Sent.{taken_plain, taken_times, wanted_of};
 ghost use Rattle.nfs_types.specs.SentFaults.{Answers};
 ghost use Rattle.nfs_types.specs.SentViews.{sent_value};
+ghost use Rattle.nfs_types.specs.Times.{sent_time};
 ghost use Rattle.nfs_types.specs.Views.{bitmap_value};
 
 use crate::ace::Ace;
@@ -19,6 +20,7 @@ use crate::attributes::Attributes;
 use crate::bitmap::Bitmap;
 use crate::parts::parts_of;
 use crate::sent::Sent;
+use crate::set_time::{SentTime, SetTime, time_of};
 use crate::status::Status;
 use acl_list::{AclList, Kind};
 use acl_shape::{AdmitFault, admit};
@@ -43,6 +45,10 @@ pub struct Attrs<A: Allocator = Global> {
     pub owner: Option<u32>,
     /// 37, owner_group: the number of the group.
     pub group: Option<u32>,
+    /// 48, time_access_set: the new time of the last access.
+    pub access: Option<SetTime>,
+    /// 54, time_modify_set: the new time of the last change of the content.
+    pub modify: Option<SetTime>,
     /// 58, dacl: that part of the ACL, as it is set on this type of object. `None` if the ACL is set.
     pub dacl: Option<AclList<A>>,
     /// 59, sacl: the same for the other part.
@@ -58,6 +64,8 @@ impl<A: Allocator> Attrs<A> {
           mode = None;
           owner = None;
           group = None;
+          access = None;
+          modify = None;
           dacl = None;
           sacl = None;
         } }
@@ -68,6 +76,8 @@ impl<A: Allocator> Attrs<A> {
             mode: None,
             owner: None,
             group: None,
+            access: None,
+            modify: None,
             dacl: None,
             sacl: None,
         }
@@ -207,6 +217,18 @@ fn plain_of(
     Ok((mode, (owner, group)))
 }
 
+/// The times that were sent: time_access, time_modify.
+fn times_of(
+    access: Option<SentTime>,
+    modify: Option<SentTime>,
+) -> Result<(Option<SetTime>, Option<SetTime>), Status>
+    ensures { result ≡ taken_times (option_map sent_time access) (option_map sent_time modify) }
+{
+    let access = time_of(access)?;
+    let modify = time_of(modify)?;
+    Ok((access, modify))
+}
+
 /// The values that are set if a part of an ACL isn't sent beside an ACL.
 fn each_of<'a, A: Allocator + Copy>(
     alloc: A,
@@ -214,7 +236,8 @@ fn each_of<'a, A: Allocator + Copy>(
     kind: Kind,
     sent: Sent<'a>,
 ) -> Result<Attrs<A>, AttrsFault>
-    ensures attrs { Answers (λ new. made new.size new.list new.mode new.owner new.group new.dacl new.sacl) has_acl
+    ensures attrs { Answers (λ new.
+        made new.size new.list new.mode new.owner new.group new.access new.modify new.dacl new.sacl) has_acl
         (taken_each book.now kind (sent_value sent.entry)) result }
     ensures bounded { IfOk result (λ new. IfSome new.list IsBounded) }
 {
@@ -224,6 +247,8 @@ fn each_of<'a, A: Allocator + Copy>(
         mode,
         owner,
         group,
+        access,
+        modify,
         dacl,
         sacl,
     } = sent;
@@ -231,11 +256,13 @@ fn each_of<'a, A: Allocator + Copy>(
         Err(AttrsFault::Refused(status)) => Err(AttrsFault::Refused(status)),
         Err(AttrsFault::Memory) => {
             plain_of(book, mode, owner, group)?;
+            times_of(access, modify)?;
             parts_of(alloc, book, kind, dacl, sacl)?;
             Err(AttrsFault::Memory)
         }
         Ok(list) => {
             let (mode, (owner, group)) = plain_of(book, mode, owner, group)?;
+            let (access, modify) = times_of(access, modify)?;
             let (dacl, sacl) = parts_of(alloc, book, kind, dacl, sacl)?;
             Ok(Attrs {
                 size,
@@ -243,6 +270,8 @@ fn each_of<'a, A: Allocator + Copy>(
                 mode,
                 owner,
                 group,
+                access,
+                modify,
                 dacl,
                 sacl,
             })
@@ -257,7 +286,8 @@ fn attrs_of<'a, A: Allocator + Copy>(
     kind: Kind,
     sent: Sent<'a>,
 ) -> Result<Attrs<A>, AttrsFault>
-    ensures attrs { Answers (λ new. made new.size new.list new.mode new.owner new.group new.dacl new.sacl) has_acl
+    ensures attrs { Answers (λ new.
+        made new.size new.list new.mode new.owner new.group new.access new.modify new.dacl new.sacl) has_acl
         (taken book.now kind (sent_value sent.entry)) result }
     ensures bounded { IfOk result (λ new. IfSome new.list IsBounded) }
 {
@@ -268,32 +298,36 @@ fn attrs_of<'a, A: Allocator + Copy>(
 }
 
 /// The values that sent attributes set on an object of this type, with the ACL over `alloc` (RFC 8881, sections 5.8,
-/// 5.9 and 6.2). They are any of 4 size, 12 acl, 33 mode, 36 owner, 37 owner_group, 58 dacl and 59 sacl.
+/// 5.9 and 6.2). They are any of 4 size, 12 acl, 33 mode, 36 owner, 37 owner_group, 48 time_access_set,
+/// 54 time_modify_set, 58 dacl and 59 sacl.
 ///
 /// They are refused for the first of these faults, over the whole set:
 ///
-/// - `AttrNotSupp`: an attribute isn't supported.
+/// - `AttrNotSupp`: an attribute isn't supported; 48 and 54 are only with `times`.
 /// - `Inval`: an attribute can't be set.
 /// - `BadXdr`: the bytes aren't exactly the encodings of the values.
 /// - `Inval`: an ACL is sent beside a part of one.
 /// - Then by rising number: an ACL as [`acl_shape::admit`] refuses it.
 /// - `Inval`: a mode above 0o7777.
 /// - `BadOwner`: an owner or a group that the book doesn't know.
+/// - `Inval`: a time that has 1,000,000,000 nanoseconds or more.
 /// - `AttrNotSupp`: a part of an ACL has flags other than 0. Then its ACEs as [`acl_shape::admit_part`] refuses them.
 ///
 /// `Memory` is returned only for values that aren't refused, and only if an ACL or a part of one was sent. Nothing else
 /// allocates.
 pub fn read_attrs<A: Allocator + Copy>(
     alloc: A,
+    times: bool,
     book: &Book,
     kind: Kind,
     sent: &Attributes<'_>,
 ) -> Result<Attrs<A>, AttrsFault>
-    ensures attrs { Answers (λ new. made new.size new.list new.mode new.owner new.group new.dacl new.sacl) has_acl
-        (wanted_of book.now kind (bitmap_value sent.now.set) sent.now.values.bytes.now) result }
+    ensures attrs { Answers (λ new.
+        made new.size new.list new.mode new.owner new.group new.access new.modify new.dacl new.sacl) has_acl
+        (wanted_of times book.now kind (bitmap_value sent.now.set) sent.now.values.bytes.now) result }
     ensures bounded { IfOk result (λ new. IfSome new.list IsBounded) }
 {
-    if !sent.set.is_within(&Bitmap::supported()) {
+    if !sent.set.is_within(&Bitmap::supported(times)) {
         return Err(AttrsFault::Refused(Status::AttrNotSupp));
     }
     if !sent.set.is_within(&Bitmap::settable()) {

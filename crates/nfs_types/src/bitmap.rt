@@ -2,7 +2,7 @@
 ghost use Rattle.std.specs.Prelude.{◌≡◌, ◌≤◌, ◌<◌, ◌||◌, ◌==◌, ℕ, [], ◌∷◌, length};
 ghost use Rattle.nfs_types.specs.Forms as forms;
 
-use crate::attribute::{SETTABLE, SUPPORTED};
+use crate::attribute::{ALL_WORDS, SETTABLE, WITHOUT_TIMES};
 use std::alloc::Allocator;
 use xdr_wire::{Full, Reader, Spell, Wire, Writer, XdrFault};
 
@@ -95,11 +95,25 @@ impl Bitmap {
         Bitmap { words }
     }
 
-    /// The attributes that are supported.
-    pub fn supported() -> Self
-        ensures { bitmap_value result ≡ specs.supported_words }
+    /// The attributes that are supported: with those of times and of space, if times can be set.
+    pub fn supported(times: bool) -> Self
+        ensures { bitmap_value result ≡ specs.supported_words times }
     {
-        Bitmap { words: SUPPORTED }
+        if times {
+            Bitmap { words: ALL_WORDS }
+        } else {
+            Bitmap {
+                words: WITHOUT_TIMES,
+            }
+        }
+    }
+
+    /// Whether an attribute is in the set that can only be set: time_access_set or time_modify_set (RFC 8881, section
+    /// 5.5).
+    pub fn has_set_only(&self) -> bool
+        ensures { result ≡ specs.has_set_only (bitmap_value self.now) }
+    {
+        self.has(48) || self.has(54)
     }
 
     /// The set of these first two words.
@@ -116,7 +130,7 @@ impl Bitmap {
         ensures { bitmap_value result ≡ seen_words }
     {
         Bitmap {
-            words: [0x0000_1812, 0x0c00_0032, 0, 0, 0, 0, 0, 0],
+            words: [0x0000_1812, 0x0c41_0032, 0, 0, 0, 0, 0, 0],
         }
     }
 

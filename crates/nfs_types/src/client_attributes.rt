@@ -1,7 +1,7 @@
 //! Attributes as a client writes them.
 ghost use Rattle.std.specs.Prelude.{◌≡◌, ◌≤◌, option_map};
 ghost use Rattle.xdr_wire.specs.Buffer.{Puts};
-ghost use Rattle.nfs_types.specs.Seen.{bit_if, optional_spelling, client_part, client_set, client_values};
+ghost use Rattle.nfs_types.specs.Seen.{bit_if, optional_spelling, client_part, second_word, client_set, client_values};
 ghost use Rattle.nfs_types.specs.ClientViews.{client_value};
 ghost use Rattle.nfs_types.specs.Views.{bitmap_value};
 
@@ -9,11 +9,12 @@ use crate::aces::Aces;
 use crate::acl41::Acl41;
 use crate::attribute::Attribute;
 use crate::bitmap::Bitmap;
+use crate::set_time::SentTime;
 use std::alloc::Allocator;
 use xdr_wire::{Full, Opaque, Spell, Writer};
 
 /// The attributes that a client writes, by rising number.
-const CLIENT_ATTRIBUTES: [Attribute; 9] = [
+const CLIENT_ATTRIBUTES: [Attribute; 11] = [
     Attribute::ObjectType,
     Attribute::Size,
     Attribute::RdattrError,
@@ -21,6 +22,8 @@ const CLIENT_ATTRIBUTES: [Attribute; 9] = [
     Attribute::Mode,
     Attribute::Owner,
     Attribute::OwnerGroup,
+    Attribute::TimeAccessSet,
+    Attribute::TimeModifySet,
     Attribute::Dacl,
     Attribute::Sacl,
 ];
@@ -42,6 +45,10 @@ pub struct ClientAttributes<'a> {
     pub owner: Option<Opaque<'a, 0xffff_ffff>>,
     /// 37, owner_group, as text.
     pub group: Option<Opaque<'a, 0xffff_ffff>>,
+    /// 48, time_access_set.
+    pub access: Option<SentTime>,
+    /// 54, time_modify_set.
+    pub modify: Option<SentTime>,
     /// 58, dacl.
     pub dacl: Option<Acl41<Aces<'a>>>,
     /// 59, sacl.
@@ -73,6 +80,19 @@ fn write_optional<T: Spell, A: Allocator>(
 }
 
 impl<'a> ClientAttributes<'a> {
+    /// The second word of the set of the attributes that are present.
+    fn second_word(&self) -> u32
+        ensures { result ≡ second_word (client_value self.now) }
+    {
+        bit_if(&self.mode, 0x2)
+            + bit_if(&self.owner, 0x10)
+            + bit_if(&self.group, 0x20)
+            + bit_if(&self.access, 0x1_0000)
+            + bit_if(&self.modify, 0x40_0000)
+            + bit_if(&self.dacl, 0x400_0000)
+            + bit_if(&self.sacl, 0x800_0000)
+    }
+
     /// The set of the attributes that are present.
     pub fn set(&self) -> Bitmap
         ensures { bitmap_value result ≡ client_set (client_value self.now) }
@@ -81,12 +101,7 @@ impl<'a> ClientAttributes<'a> {
             + bit_if(&self.size, 0x10)
             + bit_if(&self.error, 0x800)
             + bit_if(&self.entries, 0x1000);
-        let second = bit_if(&self.mode, 0x2)
-            + bit_if(&self.owner, 0x10)
-            + bit_if(&self.group, 0x20)
-            + bit_if(&self.dacl, 0x400_0000)
-            + bit_if(&self.sacl, 0x800_0000);
-        Bitmap::of_words(first, second)
+        Bitmap::of_words(first, self.second_word())
     }
 
     /// Writes the value of an attribute, if it is present.
@@ -105,6 +120,8 @@ impl<'a> ClientAttributes<'a> {
             Attribute::Mode => write_optional(self.mode, writer),
             Attribute::Owner => write_optional(self.owner, writer),
             Attribute::OwnerGroup => write_optional(self.group, writer),
+            Attribute::TimeAccessSet => write_optional(self.access, writer),
+            Attribute::TimeModifySet => write_optional(self.modify, writer),
             Attribute::Dacl => write_optional(self.dacl, writer),
             Attribute::Sacl => write_optional(self.sacl, writer),
             _ => Ok(()),

@@ -1,9 +1,9 @@
 //! Laws that follow from the definitions alone.
-ghost use Rattle.std.specs.Prelude.{◌≡◌, ◌==◌, ◌&&◌, ℕ, true, not, List, Ok, map};
+ghost use Rattle.std.specs.Prelude.{◌≡◌, ◌==◌, ◌&&◌, ℕ, true, false, not, List, Ok, map};
 ghost use Rattle.std.specs.List.{list_any};
 ghost use Rattle.acl_list.specs.declared.mask.TheConstants as mask;
 ghost use Rattle.nfs_types.specs.Attributes.{all, number_of, numbers_read_by, numbers_set_by, row, settable_words};
-ghost use Rattle.nfs_types.specs.Attributes.{supported_words};
+ghost use Rattle.nfs_types.specs.Attributes.{all_words, is_of_times, supported_words};
 ghost use Rattle.nfs_types.specs.declared.attribute.TheConstants as numbers;
 ghost use Rattle.nfs_types.specs.Given.{given_set};
 ghost use Rattle.nfs_types.specs.Rising.{rises};
@@ -11,11 +11,13 @@ ghost use Rattle.nfs_types.specs.Seen.{Seen, seen_of, client_set, client_values}
 ghost use Rattle.nfs_types.specs.Sendable.{IsSendable};
 ghost use Rattle.nfs_types.specs.Sets.{has_number};
 
-/// The words of the supported attributes are the numbers of the table. Those of the settable ones are the numbers of
-/// its rows that can be set. The table is in the order of rising numbers. The numbers that a permission lets a caller
+/// The words of all attributes are the numbers of the table. Without times, those of times and of space aren't
+/// supported. The words of the settable attributes are the numbers of the rows that can be set. The table is in the order of rising numbers. The numbers that a permission lets a caller
 /// read or set are those of the rows that name the permission.
 pub fn sets_are_the_table()
-    ensures supported { (n : ℕ) → has_number supported_words n ≡ list_any (λ a. number_of a == n) all }
+    ensures all { (n : ℕ) → has_number all_words n ≡ list_any (λ a. number_of a == n) all }
+    ensures standard { (n : ℕ) → has_number (supported_words false) n ≡
+        list_any (λ a. not (is_of_times a) && (number_of a == n)) all }
     ensures rising { rises (map number_of all) ≡ true }
     ensures settable { (n : ℕ) → has_number settable_words n ≡
         list_any (λ a. not ((row a).set_by == 0) && (number_of a == n)) all }
@@ -28,7 +30,7 @@ pub fn sets_are_the_table()
 /// The attributes that are returned for an object are those requested and supported.
 pub fn given_is_asked_and_supported()
     ensures { (asked : List ℕ) (n : ℕ) → has_number (given_set asked) n ≡ has_number asked n &&
-        has_number supported_words n }
+        has_number all_words n }
 {}
 
 /// The values that a client writes are read back as these values.

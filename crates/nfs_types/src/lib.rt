@@ -22,6 +22,7 @@ mod name;
 mod parts;
 mod seen;
 mod sent;
+mod set_time;
 mod stateid;
 mod status;
 
@@ -43,5 +44,6 @@ pub use moment::Moment;
 pub use name::{MAX_NAME, check_name};
 pub use seen::{SeenAttributes, read_given};
 pub use sent::read_chosen;
+pub use set_time::{SentTime, SetTime};
 pub use stateid::StateId;
 pub use status::Status;

@@ -16,6 +16,7 @@ pub struct Limits {
     names: usize,
     links: usize,
     bytes: u64,
+    times: bool,
 }
 
 impl Model for Limits {
@@ -33,6 +34,7 @@ impl Model for Limits {
       names = l.names;
       links = l.links;
       bytes = l.bytes;
+      times = l.times;
     } };
 
     ghost inverse = { λ l. record {
@@ -45,6 +47,7 @@ impl Model for Limits {
       names = l.names;
       links = l.links;
       bytes = l.bytes;
+      times = l.times;
     } };
 
     ghost invariant = { λ l. IsAllowed (record {
@@ -57,6 +60,7 @@ impl Model for Limits {
       names = l.names;
       links = l.links;
       bytes = l.bytes;
+      times = l.times;
     }) };
 }
 
@@ -76,6 +80,7 @@ impl Limits {
             names: 4_096,
             links: 1_000,
             bytes: 1_048_576,
+            times: false,
         }
     }
 
@@ -94,6 +99,7 @@ impl Limits {
             names: 1_048_576,
             links: 32_767,
             bytes: 1_099_511_627_776,
+            times: true,
         }
     }
 
@@ -171,5 +177,12 @@ impl Limits {
         ensures { result ≡ self.now.bytes }
     {
         self.bytes
+    }
+
+    /// Whether times can be set, and the time of the last access is kept (RFC 8881, section 5.8.2).
+    pub fn times(&self) -> bool
+        ensures { result ≡ self.now.times }
+    {
+        self.times
     }
 }

@@ -14,6 +14,23 @@ pub struct Moment {
     ghost is_fraction: { nanoseconds < 1000000000 },
 }
 
+impl Moment {
+    ghost use Rattle.nfs_types.specs.MomentView.{moment_in};
+
+    /// The moment of these seconds and nanoseconds. `None`: the nanoseconds are 1,000,000,000 or more.
+    pub fn of(seconds: i64, nanoseconds: u32) -> Option<Moment>
+        ensures { result ≡ moment_in (seconds, nanoseconds) }
+    {
+        if nanoseconds >= 1_000_000_000 {
+            return None;
+        }
+        Some(Moment {
+            seconds,
+            nanoseconds,
+        })
+    }
+}
+
 impl Spell for Moment {
     ghost use Rattle.std.specs.Prelude.{None};
     ghost use Rattle.nfs_types.specs.Forms.{time};

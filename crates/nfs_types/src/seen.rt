@@ -11,6 +11,7 @@ use crate::attribute::Attribute;
 use crate::attributes::Attributes;
 use crate::bitmap::Bitmap;
 use crate::sent::read_chosen;
+use crate::set_time::SentTime;
 use xdr_wire::{Array, Opaque, Reader, XdrFault};
 
 /// The attributes that a client requests, as the server returns them. `None`: the attribute isn't present.
@@ -30,6 +31,10 @@ pub struct SeenAttributes<'a> {
     pub owner: Option<Opaque<'a, 0xffff_ffff>>,
     /// 37, owner_group, as text.
     pub group: Option<Opaque<'a, 0xffff_ffff>>,
+    /// 48, time_access_set.
+    pub access: Option<SentTime>,
+    /// 54, time_modify_set.
+    pub modify: Option<SentTime>,
     /// 58, dacl.
     pub dacl: Option<Acl41<Array<'a, Ace<'a>, 0xffff_ffff>>>,
     /// 59, sacl.
@@ -48,6 +53,8 @@ fn values<'a>(set: &Bitmap, reader: &mut Reader<'a>) -> Result<SeenAttributes<'a
     let mode = read_chosen(set, Attribute::Mode.number(), &mut ahead)?;
     let owner = read_chosen(set, Attribute::Owner.number(), &mut ahead)?;
     let group = read_chosen(set, Attribute::OwnerGroup.number(), &mut ahead)?;
+    let access = read_chosen(set, Attribute::TimeAccessSet.number(), &mut ahead)?;
+    let modify = read_chosen(set, Attribute::TimeModifySet.number(), &mut ahead)?;
     let dacl = read_chosen(set, Attribute::Dacl.number(), &mut ahead)?;
     let sacl = read_chosen(set, Attribute::Sacl.number(), &mut ahead)?;
     *reader = ahead;
@@ -59,13 +66,15 @@ fn values<'a>(set: &Bitmap, reader: &mut Reader<'a>) -> Result<SeenAttributes<'a
         mode,
         owner,
         group,
+        access,
+        modify,
         dacl,
         sacl,
     })
 }
 
 /// Reads the attributes that a server returns for an object (RFC 8881, sections 3.3.9, 18.7 and 18.23); the result
-/// borrows. They are any of 1, 4, 11, 12, 33, 36, 37, 58 and 59. `BadChoice`: another attribute is present. Else the
+/// borrows. They are any of 1, 4, 11, 12, 33, 36, 37, 48, 54, 58 and 59. `BadChoice`: another attribute is present. Else the
 /// first fault of a value. `TooLong`: the bytes are more than the values take.
 pub fn read_given<'a>(given: &Attributes<'a>) -> Result<SeenAttributes<'a>, XdrFault>
     ensures { MatchResult result (λ seen. seen_of (bitmap_value given.now.set) given.now.values.bytes.now ≡

@@ -12,6 +12,7 @@ use crate::acl41::Acl41;
 use crate::attribute::Attribute;
 use crate::attributes::Attributes;
 use crate::bitmap::Bitmap;
+use crate::set_time::SentTime;
 use xdr_wire::{Array, Opaque, Reader, Wire, XdrFault};
 
 /// The values that were sent, of attributes that can be set.
@@ -22,6 +23,8 @@ pub(crate) struct Sent<'a> {
     pub mode: Option<u32>,
     pub owner: Option<Opaque<'a, 0xffff_ffff>>,
     pub group: Option<Opaque<'a, 0xffff_ffff>>,
+    pub access: Option<SentTime>,
+    pub modify: Option<SentTime>,
     pub dacl: Option<Acl41<Array<'a, Ace<'a>, 0xffff_ffff>>>,
     pub sacl: Option<Acl41<Array<'a, Ace<'a>, 0xffff_ffff>>>,
 }
@@ -53,6 +56,8 @@ fn values<'a>(set: &Bitmap, reader: &mut Reader<'a>) -> Result<Sent<'a>, XdrFaul
     let mode = read_chosen(set, Attribute::Mode.number(), &mut ahead)?;
     let owner = read_chosen(set, Attribute::Owner.number(), &mut ahead)?;
     let group = read_chosen(set, Attribute::OwnerGroup.number(), &mut ahead)?;
+    let access = read_chosen(set, Attribute::TimeAccessSet.number(), &mut ahead)?;
+    let modify = read_chosen(set, Attribute::TimeModifySet.number(), &mut ahead)?;
     let dacl = read_chosen(set, Attribute::Dacl.number(), &mut ahead)?;
     let sacl = read_chosen(set, Attribute::Sacl.number(), &mut ahead)?;
     *reader = ahead;
@@ -62,6 +67,8 @@ fn values<'a>(set: &Bitmap, reader: &mut Reader<'a>) -> Result<Sent<'a>, XdrFaul
         mode,
         owner,
         group,
+        access,
+        modify,
         dacl,
         sacl,
     })
