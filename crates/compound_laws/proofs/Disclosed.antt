@@ -20,6 +20,7 @@ use Rattle.compound_run.specs.Meaning.{here}
 use Rattle.compound_run.specs.Operations.Getattr.{attributes_of}
 use Rattle.compound_run.specs.Operations.Read.{most_of}
 use Rattle.compound_run.specs.Operations.{meaning}
+use Rattle.compound_run.specs.Requested.{requested}
 use Rattle.compound_run.specs.Operations.Setattr.{can_count, has_space_to_set, size_fault, wanted_on}
 use Rattle.compound_run.specs.Operations.Verify.{is_same}
 use Rattle.compound_laws.specs.Disclosure.{DisclosesNothing}
@@ -35,13 +36,17 @@ getattr_seen c h asked w = (
   refl,
   λ _. (
     refl,
-    λ set. (
+    λ some. (
       refl,
       λ live. (
         refl,
-        λ granted.
-            let same = values_seen c.book w c.caller (here h) statuses.Ok asked (may_see w c.caller h.current asked set live granted) in
-            (ap (λ values. nat_le (getattr_size (length (given_set asked)) (length values)) c.room) same, λ _. ap (λ values. Done kinds.GetAttr (given_set asked, values)) same),
+        λ _. (
+          refl,
+          λ granted.
+              let set = requested c asked in
+              let same = values_seen c.book w c.caller (here h) statuses.Ok set (may_see w c.caller h.current set some live granted) in
+              (ap (λ values. nat_le (getattr_size (length (given_set set)) (length values)) c.room) same, λ _. ap (λ values. Done kinds.GetAttr (given_set set, values)) same),
+        ),
       ),
     ),
   ),

@@ -8,7 +8,7 @@ use Rattle.xdr_wire.specs.Xdr.{Value}
 use Rattle.rpc_record.specs.Identity.{Identity}
 use Rattle.acl_list.specs.declared.entry.Kind.{Kind}
 use Rattle.acl_list.specs.declared.mask.TheConstants.{READ_ATTRIBUTES, READ_ACL}
-use Rattle.nfs_types.specs.Attributes.{supported_words}
+use Rattle.nfs_types.specs.Attributes.{all_words}
 use Rattle.nfs_types.specs.Given.{given_set}
 use Rattle.nfs_types.specs.Sets.{has_number}
 use Rattle.nfs_types.specs.declared.status.Status.{Status}
@@ -39,6 +39,7 @@ use Rattle.compound_run.specs.Rows.{object_of, first_facts, first_row}
 use Rattle.compound_run.specs.Meaning.{here}
 use Rattle.compound_run.specs.Operations.{meaning}
 use Rattle.compound_run.specs.Operations.Readdir.{allows, first_refused, permitted, judgment, entry_of, entry_by, judged_entry, judged_above, names_above, listed, refused_in, given_in, refuses_none, fits_some}
+use Rattle.compound_run.specs.Requested.{requested}
 use Rattle.compound_run.specs.Runs.{outcome}
 use Rattle.compound_run.specs.Exact.{ArePassed, FailsFirst}
 use Rattle.compound_laws.specs.EntriesExact.{ungoverned, IsExact, AreExact, GivesExactly, before_row, IsUnlisted, MeetsRefused}
@@ -66,20 +67,20 @@ any_of p [] = tt
 any_of p (n ∷ ns) = (λ is. rw is refl, each (λ m. p m ≡ true → list_any p ns ≡ true) (λ m. p m ≡ true → p n || list_any p ns ≡ true) ns (λ m f is. or_right (p n) (list_any p ns) (f is)) (any_of p ns))
 
 abbrev IsSupported : ℕ → Type 0
-IsSupported a = has_number supported_words a ≡ true
+IsSupported a = has_number all_words a ≡ true
 
 -- each of these is supported
 are_supported : AllByRecursion IsSupported governed
 unfolding has_number
-are_supported = all_pass (λ n. has_number supported_words n) governed refl
+are_supported = all_pass (λ n. has_number all_words n) governed refl
 
 lists_are_supported : AllByRecursion IsSupported list_giving
 unfolding has_number
-lists_are_supported = all_pass (λ n. has_number supported_words n) list_giving refl
+lists_are_supported = all_pass (λ n. has_number all_words n) list_giving refl
 
 others_are_supported : AllByRecursion IsSupported ungoverned
 unfolding has_number
-others_are_supported = all_pass (λ n. has_number supported_words n) ungoverned refl
+others_are_supported = all_pass (λ n. has_number all_words n) ungoverned refl
 
 -- the governed attributes among the permitted ones
 governed_words : (a l : Bool) → AllByRecursion (λ n. has_number (granted_words a l) n ≡ a) governed
@@ -105,8 +106,8 @@ other_words true false = all_pass (λ n. has_number (granted_words true false) n
 other_words false true = all_pass (λ n. has_number (granted_words false true) n) ungoverned refl
 other_words false false = all_pass (λ n. has_number (granted_words false false) n) ungoverned refl
 
-given_all : (set : List ℕ) (a : ℕ) → has_number supported_words a ≡ true → has_number (given_set set) a ≡ has_number set a
-given_all set a is = shared set supported_words a ∙ ap (λ b. has_number set a && b) is ∙ and_true (has_number set a)
+given_all : (set : List ℕ) (a : ℕ) → has_number all_words a ≡ true → has_number (given_set set) a ≡ has_number set a
+given_all set a is = shared set all_words a ∙ ap (λ b. has_number set a && b) is ∙ and_true (has_number set a)
 
 each_two : (P Q R : ℕ → Type 0) (ns : List ℕ) → ((n : ℕ) → P n → Q n → R n) → AllByRecursion P ns → AllByRecursion Q ns → AllByRecursion R ns
 each_two P Q R [] f p q = tt
@@ -221,11 +222,11 @@ module _ (c : Context) (asked : List ℕ) (s : Sight) where
       of false = tt
 
 listed_exact : (c : Context) (v : Value readdir_args) (directory : ℕ) (s : Sight) → AllByRecursion (λ n. IsSome (s.kinds n.child)) (names_above s directory (listed_after v))
-    → AreExact s.lists c.caller (listed_attributes v) (names_above s directory (listed_after v)) (given_in (listed c v directory s)).entries
+    → AreExact s.lists c.caller (requested c (listed_attributes v)) (names_above s directory (listed_after v)) (given_in (listed c v directory s)).entries
 unfolding listed listing
 listed_exact c v directory s live =
     let limit = readdir_limit (listed_at_most v) c.room in
-    listing_exact c (listed_attributes v) s limit (names_above s directory (listed_after v)) (first_refusal (judged_within limit (judged_above c (listed_attributes v) directory (listed_after v) s))) live
+    listing_exact c (requested c (listed_attributes v)) s limit (names_above s directory (listed_after v)) (first_refusal (judged_within limit (judged_above c (requested c (listed_attributes v)) directory (listed_after v) s))) live
 
 -- ---- names have existing objects
 
@@ -316,12 +317,12 @@ module _ (c : Context) (h : Handles) (v : Value readdir_args) (s : Sight) where
   limit = readdir_limit (listed_at_most v) c.room
 
   abbrev judged : Name → Judged Demand
-  judged = judged_entry c (listed_attributes v) s
+  judged = judged_entry c (requested c (listed_attributes v)) s
 
   -- the demand that refuses a listing
-  what_is : (d : Demand) → listed c v (here h) s ≡ Err (Refused d) → IsListing limit (judged_above c (listed_attributes v) (here h) (listed_after v) s) (Err (Refused d))
+  what_is : (d : Demand) → listed c v (here h) s ≡ Err (Refused d) → IsListing limit (judged_above c (requested c (listed_attributes v)) (here h) (listed_after v) s) (Err (Refused d))
   unfolding listed
-  what_is d is = subst (IsListing limit (judged_above c (listed_attributes v) (here h) (listed_after v) s)) is (listing_is limit (judged_above c (listed_attributes v) (here h) (listed_after v) s))
+  what_is d is = subst (IsListing limit (judged_above c (requested c (listed_attributes v)) (here h) (listed_after v) s)) is (listing_is limit (judged_above c (requested c (listed_attributes v)) (here h) (listed_after v) s))
 
   abbrev Refuses : Type 0
   Refuses = IsUnlisted c h v s ⊎ MeetsRefused c h v s
@@ -336,7 +337,7 @@ module _ (c : Context) (h : Handles) (v : Value readdir_args) (s : Sight) where
   meets d is passed granted =
       let r = what_is d is in
       let at = cut judged (names_above s (here h) (listed_after v)) r.before d r.others r.parts in
-      let none = unasked s.lists c.caller (listed_attributes v) at.name.child _ d (refusing c s at.name _ d at.refused) in
+      let none = unasked s.lists c.caller (requested c (listed_attributes v)) at.name.child _ d (refusing c s at.name _ d at.refused) in
       record {
         passed = passed;
         granted = granted;
@@ -366,25 +367,26 @@ module _ (c : Context) (h : Handles) (v : Value readdir_args) (s : Sight) where
   refuses demands (inr (a, inr (b, inl is))) = absurd (holds_apart _ _ _ demands is.0)
   refuses demands (inr (a, inr (b, inr (d, inl is)))) = absurd (holds_apart _ _ _ demands is.0)
   refuses demands (inr (a, inr (b, inr (d, inr (e, inl is))))) = absurd (holds_apart _ _ _ demands is.0)
-  refuses demands (inr (a, inr (b, inr (d, inr (e, inr (f, more)))))) = rows_refuse demands (a, (b, (d, (e, (f, tt))))) more
+  refuses demands (inr (a, inr (b, inr (d, inr (e, inr (f, inl is)))))) = absurd (valid_apart _ _ demands is.0)
+  refuses demands (inr (a, inr (b, inr (d, inr (e, inr (f, inr (g, more))))))) = rows_refuse demands (a, (b, (d, (e, (f, (g, tt)))))) more
 
   -- ---- the other direction
 
-  listed_refused : (m : MeetsRefused c h v s) (d : Demand) → first_refused s.lists c.caller (entry_demands (listed_attributes v) (object_of s (Some m.name.child))) ≡ Some d → listed c v (here h) s ≡ Err (Refused d)
+  listed_refused : (m : MeetsRefused c h v s) (d : Demand) → first_refused s.lists c.caller (entry_demands (requested c (listed_attributes v)) (object_of s (Some m.name.child))) ≡ Some d → listed c v (here h) s ≡ Err (Refused d)
   unfolding listed
   listed_refused m d is =
       let err : Result (Status × List ℕ) Demand = Err d in
       let one : judged m.name ≡ Err d =
-      ap (λ o. entry_by c s m.name (judgment s.lists c.caller (listed_attributes v) m.name.child o)) is
-      ∙ ap (λ b. entry_by c s m.name (cond b (Ok (statuses.Access, permitted s.lists c.caller m.name.child (listed_attributes v))) err)) m.unasked in
-      let parts : judged_above c (listed_attributes v) (here h) (listed_after v) s ≡ map Ok m.entries ++ Err d ∷ map judged m.later =
+      ap (λ o. entry_by c s m.name (judgment s.lists c.caller (requested c (listed_attributes v)) m.name.child o)) is
+      ∙ ap (λ b. entry_by c s m.name (cond b (Ok (statuses.Access, permitted s.lists c.caller m.name.child (requested c (listed_attributes v)))) err)) m.unasked in
+      let parts : judged_above c (requested c (listed_attributes v)) (here h) (listed_after v) s ≡ map Ok m.entries ++ Err d ∷ map judged m.later =
       ap (map judged) m.parts ∙ map-append judged m.before (m.name ∷ m.later) ∙ (λ i. m.given i ++ one i ∷ map judged m.later) in
       ap (listing limit) parts ∙ refused_listing limit m.entries (map judged m.later) d m.within
 
   not_granted : (m : MeetsRefused c h v s) → all_granted s.lists c.caller (refused_in (listed c v (here h) s) ∷ []) ≡ false
-  not_granted m = of (first_refused s.lists c.caller (entry_demands (listed_attributes v) (object_of s (Some m.name.child)))) refl m.refused
+  not_granted m = of (first_refused s.lists c.caller (entry_demands (requested c (listed_attributes v)) (object_of s (Some m.name.child)))) refl m.refused
     where
-      of : (o : Option Demand) → first_refused s.lists c.caller (entry_demands (listed_attributes v) (object_of s (Some m.name.child))) ≡ o → IsSome o → all_granted s.lists c.caller (refused_in (listed c v (here h) s) ∷ []) ≡ false
+      of : (o : Option Demand) → first_refused s.lists c.caller (entry_demands (requested c (listed_attributes v)) (object_of s (Some m.name.child))) ≡ o → IsSome o → all_granted s.lists c.caller (refused_in (listed c v (here h) s) ∷ []) ≡ false
       of None is some = cc
       of (Some d) is some =
           let refused = listed_refused m d is in
@@ -393,10 +395,10 @@ module _ (c : Context) (h : Handles) (v : Value readdir_args) (s : Sight) where
   is_refused : Refuses → failure c.caller s (meaning c h (Known kinds.ReadDir v)).questions ≡ Some statuses.Access
   is_refused (inl u) =
       by_row c.caller s (meaning c h (Known kinds.ReadDir v)).questions (λ s. first_demands (Known kinds.ReadDir v) (first_facts s h))
-      (inr (u.passed.0, inr (u.passed.1.0, inr (u.passed.1.1.0, inr (u.passed.1.1.1.0, inr (u.passed.1.1.1.1.0, inl (refl, u.refused)))))))
+      (inr (u.passed.0, inr (u.passed.1.0, inr (u.passed.1.1.0, inr (u.passed.1.1.1.0, inr (u.passed.1.1.1.1.0, inr (u.passed.1.1.1.1.1.0, inl (refl, u.refused))))))))
   is_refused (inr m) =
       by_row c.caller s (meaning c h (Known kinds.ReadDir v)).questions (λ s. refused_in (listed c v (here h) s) ∷ [])
-      (inr (m.passed.0, inr (m.passed.1.0, inr (m.passed.1.1.0, inr (m.passed.1.1.1.0, inr (m.passed.1.1.1.1.0, inr (m.granted, inl (refl, not_granted m))))))))
+      (inr (m.passed.0, inr (m.passed.1.0, inr (m.passed.1.1.0, inr (m.passed.1.1.1.0, inr (m.passed.1.1.1.1.0, inr (m.passed.1.1.1.1.1.0, inr (m.granted, inl (refl, not_granted m)))))))))
 
 result_failure : (f : Option Status) (o : Outcome) → result_unless f o ≡ Err statuses.Access → f ≡ Some statuses.Access
 result_failure None o is = cc

@@ -2,7 +2,7 @@
 use Rattle.std.proofs.Common.{◌≡◌, ℕ, ◌<◌, ◌≤◌, Bool, true, false, ◌&&◌, List, inl, inr, refl, sym, ap, subst, length, nat_lt, arith}
 use Rattle.std.specs.Prelude.{[], ◌∷◌, ◌++◌, ◌==◌, Option, Some, None, IsSome, Ok, not, unwrap_or, if◌then◌else◌}
 use Rattle.std.specs.List.{AllByRecursion}
-use Rattle.std.specs.Option.{option_map, option_map_or}
+use Rattle.std.specs.Option.{option_or, option_map, option_map_or}
 use Rattle.std.proofs.lemmas.Bool.Decides.{nat_tests}
 use Rattle.std.proofs.lemmas.List.{length-append, length-map}
 use Rattle.xdr_wire.specs.Xdr.{Value}
@@ -19,7 +19,7 @@ use Rattle.nfs_ops.specs.declared.OpKind.TheVariants as kinds
 use Rattle.session_slots.proofs.Members.{length_filter}
 use Rattle.node_tree.specs.declared.at.At.{At}
 use Rattle.node_tree.specs.World.{World, Object, object, kind_of, child_named}
-use Rattle.node_tree.specs.Changes.{touched, retold, written, resized, with_write, with_size, with_list, with_owner}
+use Rattle.node_tree.specs.Changes.{touched, retold, written, resized, with_write, with_size, with_list, with_owner, with_times}
 use Rattle.node_tree.proofs.Objects.{option_map-changed}
 use Rattle.compound_run.specs.Realm.{Realm, Opened}
 use Rattle.compound_run.specs.Context.{Context, Handles}
@@ -29,7 +29,8 @@ use Rattle.compound_run.specs.Meaning.{at, here, there, number_in}
 use Rattle.compound_run.specs.Operations.Close.{ended}
 use Rattle.compound_run.specs.Operations.Create.{created, list_at}
 use Rattle.compound_run.specs.Lists.{set_list}
-use Rattle.compound_run.specs.Operations.Setattr.{sets_acl, sets_owner, sized, listed, owned, set_on, setting}
+use Rattle.compound_run.specs.Operations.Setattr.{sets_acl, sets_owner, sized, listed, owned, timed, set_on, setting}
+use Rattle.compound_run.specs.Times.{moment_set, sets_times}
 use Rattle.compound_run.specs.Operations.Open.{access_of, found_by, found, found_fault, wanted, truncates, joined, reopened, with_reopened, with_open, new_open, file_of, file_in, opened_on, name_in, has_open_space, has_file_space, has_space_for}
 use Rattle.compound_run.specs.Operations.{meaning}
 use Rattle.compound_run.specs.Runs.{outcome}
@@ -94,6 +95,18 @@ owned_same w number o wanted at = of (sets_owner wanted)
     }
     of false = same_again w
 
+timed_same : (w : World) (number : ℕ) (wanted : Wanted) (at : At) → Same w (timed number wanted at w)
+timed_same w number wanted at = of (sets_times wanted)
+  where
+    of : (b : Bool) → Same w (if b then with_times w number (moment_set at.moment wanted.access) (moment_set at.moment wanted.modify) at else w)
+    of true = record {
+      kinds = λ k. option_map-changed (λ o. o.kind) number (λ x. retold at (record x { time_access = option_or (moment_set at.moment wanted.access) x.time_access; time_modify = unwrap_or (moment_set at.moment wanted.modify) x.time_modify })) w.objects (λ o. refl) k;
+      names = refl;
+      next = refl;
+      limits = refl;
+    }
+    of false = same_again w
+
 setting_same : (number : ℕ) (wanted : Wanted) (at : At) (w : World) → Same w (setting number wanted at w)
 unfolding setting
 setting_same number wanted at w = of (object w number)
@@ -103,7 +116,11 @@ setting_same number wanted at w = of (object w number)
     of (Some o) =
         let mid = sized number wanted.size at w in
         let next = listed number o wanted at mid in
-        same_then w mid (owned number o wanted at next) (sized_same w number wanted.size at) (same_then mid next (owned number o wanted at next) (listed_same mid number o wanted at) (owned_same next number o wanted at))
+        let last = owned number o wanted at next in
+        let end = timed number wanted at last in
+        same_then w mid end (sized_same w number wanted.size at)
+        (same_then mid next end (listed_same mid number o wanted at)
+        (same_then next last end (owned_same next number o wanted at) (timed_same last number wanted at)))
 
 -- ---- CLOSE
 

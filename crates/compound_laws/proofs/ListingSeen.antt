@@ -32,6 +32,7 @@ use Rattle.compound_run.specs.Values.{values_at}
 use Rattle.compound_run.specs.Rows.{object_of}
 use Rattle.compound_run.specs.Meaning.{here}
 use Rattle.compound_run.specs.Operations.{meaning}
+use Rattle.compound_run.specs.Requested.{requested}
 use Rattle.compound_run.specs.Operations.Readdir.{first_refused, permitted, judgment, entry_by, judged_entry, listed, refused_in, fits_in, given_in}
 use Rattle.compound_laws.specs.Disclosure.{DisclosesNothing}
 use Rattle.compound_laws.proofs.Seen.{IsSeen, discloses_nothing}
@@ -153,8 +154,8 @@ unfolding listed
 listed_seen c v directory w granted =
     let names = names_listed w c.caller directory granted in
     ap (listing (readdir_limit (listed_at_most v) c.room))
-    (entries_seen c (listed_attributes v) w (filter (λ n. nat_lt (listed_after v) n.cookie) ((whole w).names directory))
-    ∙ ap (λ all. map (judged_entry c (listed_attributes v) (view w c.caller)) (filter (λ n. nat_lt (listed_after v) n.cookie) all)) names)
+    (entries_seen c (requested c (listed_attributes v)) w (filter (λ n. nat_lt (listed_after v) n.cookie) ((whole w).names directory))
+    ∙ ap (λ all. map (judged_entry c (requested c (listed_attributes v)) (view w c.caller)) (filter (λ n. nat_lt (listed_after v) n.cookie) all)) names)
 
 readdir_seen : (c : Context) (h : Handles) (v : Value readdir_args) → IsSeen (meaning c h (Known kinds.ReadDir v))
 readdir_seen c h v w = (
@@ -169,9 +170,12 @@ readdir_seen c h v w = (
           refl,
           λ _. (
             refl,
-            λ granted.
-                let same = listed_seen c v (here h) w (lists_names w c.caller h.current set live granted) in
-                (ap (λ l. refused_in l ∷ []) same, λ _. (ap fits_in same, λ _. ap (λ l. readdir_outcome (given_in l)) same)),
+            λ _. (
+              refl,
+              λ granted.
+                  let same = listed_seen c v (here h) w (lists_names w c.caller h.current set live granted) in
+                  (ap (λ l. refused_in l ∷ []) same, λ _. (ap fits_in same, λ _. ap (λ l. readdir_outcome (given_in l)) same)),
+            ),
           ),
         ),
       ),

@@ -17,7 +17,7 @@ use Rattle.nfs_types.specs.Attributes.{all}
 use Rattle.nfs_types.specs.Given.{part, given_values}
 use Rattle.nfs_types.specs.Sets.{has_number}
 use Rattle.nfs_types.specs.declared.attribute.Attribute.{Attribute}
-use Rattle.nfs_types.specs.declared.attribute.Attribute.TheVariants.{Change, Mode, TimeMetadata, TimeModify}
+use Rattle.nfs_types.specs.declared.attribute.Attribute.TheVariants.{Change, Mode, TimeAccess, TimeMetadata, TimeModify}
 use Rattle.nfs_types.specs.declared.status.Status.{Status}
 use Rattle.node_tree.specs.Judged.{Judged, judged_of}
 use Rattle.node_tree.specs.World.{kind_of}
@@ -113,6 +113,7 @@ may_see w caller (Some number) asked set live h =
 abbrev is_governed : List ℕ → Attribute → Bool
 is_governed asked Change = has_number asked 3
 is_governed asked Mode = has_number asked 33
+is_governed asked TimeAccess = has_number asked 47
 is_governed asked TimeMetadata = has_number asked 52
 is_governed asked TimeModify = has_number asked 53
 is_governed asked _ = false
@@ -120,6 +121,7 @@ is_governed asked _ = false
 ungoverned : (asked : List ℕ) → has_any asked governed ≡ false → (a : Attribute) → is_governed asked a ≡ false
 ungoverned asked none Change = fails (λ n. has_number asked n) governed 3 none refl
 ungoverned asked none Mode = fails (λ n. has_number asked n) governed 33 none refl
+ungoverned asked none TimeAccess = fails (λ n. has_number asked n) governed 47 none refl
 ungoverned asked none TimeMetadata = fails (λ n. has_number asked n) governed 52 none refl
 ungoverned asked none TimeModify = fails (λ n. has_number asked n) governed 53 none refl
 ungoverned asked none _ = refl
@@ -131,6 +133,7 @@ module _ (book : Content) (w : Realm) (caller : Identity) (number : ℕ) (error 
   part_seen : (a : Attribute) → is_governed asked a ≡ false → In a
   part_seen Change none = rw none refl
   part_seen Mode none = rw none refl
+  part_seen TimeAccess none = rw none refl
   part_seen TimeMetadata none = rw none refl
   part_seen TimeModify none = rw none refl
   part_seen _ none = refl

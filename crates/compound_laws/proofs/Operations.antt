@@ -108,7 +108,7 @@ laws_of c h (Known kinds.GetAttr v) = record {
   changes = inl (λ r. refl);
   asks = (refl, refl);
   first_asked = inl (inl refl);
-  first_granted = λ s p. p.1.1.1.0;
+  first_granted = λ s p. p.1.1.1.1.0;
   second_asked = inr (λ facts. tt);
   second_granted = λ s p. inl refl;
 }
@@ -198,9 +198,9 @@ laws_of c h (Known kinds.ReadDir v) = record {
   changes = inl (λ r. refl);
   asks = (refl, refl);
   first_asked = inl (inl refl);
-  first_granted = λ s p. p.1.1.1.1.1.0;
+  first_granted = λ s p. p.1.1.1.1.1.1.0;
   second_asked = inl (inr (inl refl));
-  second_granted = λ s p. inl p.1.1.1.1.1.1.0;
+  second_granted = λ s p. inl p.1.1.1.1.1.1.1.0;
 }
 laws_of c h (Known kinds.ReadLink tt) = record {
   discloses = readlink_discloses_nothing c h;

@@ -11,7 +11,7 @@ use Rattle.nfs_types.specs.Name.{name_fault}
 use Rattle.nfs_types.specs.StateIds.{is_special}
 use Rattle.nfs_ops.specs.Operations.{Operation, Known, Unsupported, Illegal, Bad}
 use Rattle.nfs_ops.specs.Parts.{claim_of, closed_stateid, created_name, created_type, how_of, new_name, old_name}
-use Rattle.nfs_ops.specs.Parts.{read_stateid, set_of, set_stateid, write_stateid}
+use Rattle.nfs_ops.specs.Parts.{listed_attributes, read_stateid, set_of, set_stateid, write_stateid}
 use Rattle.nfs_ops.specs.declared.OpKind.TheVariants as kinds
 use Rattle.session_slots.specs.Destroying.{complete_already}
 use Rattle.access_rows.specs.Rows.{Demands, is_to_read, is_to_write}
@@ -26,6 +26,7 @@ use Rattle.compound_run.specs.Operations.Create as creations
 use Rattle.compound_run.specs.Operations.Open as opens
 use Rattle.compound_run.specs.Operations.Setattr as settings
 use Rattle.compound_run.specs.Operations.Verify.{set_fault}
+use Rattle.compound_run.specs.Requested.{requested, set_only_fault}
 use Rattle.compound_laws.specs.RowsAsked.{first_of, second_of}
 
 -- ---- steps
@@ -99,7 +100,9 @@ line_with first second c h (Known kinds.Create v) =
     ∷ Tests statuses.Perm
     ∷ Tests statuses.NoSpc
     ∷ [])
-line_with first second c h (Known kinds.GetAttr v) = with_object (first ∷ Tests (too_big_for c.calling) ∷ [])
+line_with first second c h (Known kinds.GetAttr v) =
+    -- of the requested attributes: INVAL
+    with_object (Checks (λ s. set_only_fault (requested c v)) ∷ first ∷ Tests (too_big_for c.calling) ∷ [])
 line_with first second c h (Known kinds.GetFh v) = with_object []
 line_with first second c h (Known kinds.Link name) =
     with_object (with_object
@@ -118,7 +121,7 @@ line_with first second c h (Known kinds.LookupP v) =
     with_object (Tests statuses.Symlink ∷ Tests statuses.NotDir ∷ first ∷ Tests statuses.NoEnt ∷ [])
 line_with first second c h (Known kinds.NVerify v) =
     -- of the attributes: ATTRNOTSUPP, INVAL
-    with_object (Checks (λ s. set_fault (set_of v)) ∷ first ∷ Tests statuses.Same ∷ [])
+    with_object (Checks (λ s. set_fault c.times (set_of v)) ∷ first ∷ Tests statuses.Same ∷ [])
 line_with first second c h (Known kinds.Open v) =
     with_object
     -- of the current object: by name NOTDIR, by filehandle ISDIR, SYMLINK
@@ -148,7 +151,14 @@ line_with first second c h (Known kinds.Read v) =
     ∷ [])
 line_with first second c h (Known kinds.ReadDir v) =
     with_object
-    (Tests statuses.NotDir ∷ Tests statuses.BadCookie ∷ first ∷ second ∷ Tests statuses.TooSmall ∷ [])
+    (Tests statuses.NotDir
+    ∷ Tests statuses.BadCookie
+    -- of the requested attributes: INVAL
+    ∷ Checks (λ s. set_only_fault (requested c (listed_attributes v)))
+    ∷ first
+    ∷ second
+    ∷ Tests statuses.TooSmall
+    ∷ [])
 line_with first second c h (Known kinds.ReadLink v) =
     with_object (Tests statuses.WrongType ∷ first ∷ Tests (too_big_for c.calling) ∷ [])
 line_with first second c h (Known kinds.Remove name) =
@@ -190,7 +200,7 @@ line_with first second c h (Known kinds.SetAttr v) =
     ∷ Tests statuses.NoSpc
     ∷ [])
 line_with first second c h (Known kinds.Verify v) =
-    with_object (Checks (λ s. set_fault (set_of v)) ∷ first ∷ Tests statuses.NotSame ∷ [])
+    with_object (Checks (λ s. set_fault c.times (set_of v)) ∷ first ∷ Tests statuses.NotSame ∷ [])
 line_with first second c h (Known kinds.Write v) =
     with_object
     (Tests statuses.IsDir

@@ -16,14 +16,18 @@ use Rattle.compound_run.specs.Operations.Open as opens
 use Rattle.compound_run.specs.Operations.Readdir as listings
 use Rattle.compound_run.specs.Operations.Rename as renames
 use Rattle.compound_run.specs.Operations.Setattr.{wanted_on}
+use Rattle.compound_run.specs.Requested.{requested}
+use Rattle.compound_run.specs.Times.{clock_of}
 
 -- ---- the rows of the table
 
--- The first row: of SETATTR with the sizes of the file before and after it, of WRITE with the size before it.
+-- The first row: of SETATTR with the sizes of the file before and after it and whose time it sets, of WRITE with the
+-- size before it, of GETATTR with the requested attributes that the profile supports.
 abbrev pub first_of : Context → Handles → Operation → Sight → Demands
 first_of c h (Known kinds.SetAttr v) s =
-    first_demands (Known kinds.SetAttr v) (sized_facts s h (wanted_on c v (here h) s).size)
-first_of c h (Known kinds.Write v) s = first_demands (Known kinds.Write v) (sized_facts s h None)
+    first_demands (Known kinds.SetAttr v) (sized_facts s h (wanted_on c v (here h) s).size (clock_of (wanted_on c v (here h) s)))
+first_of c h (Known kinds.Write v) s = first_demands (Known kinds.Write v) (sized_facts s h None None)
+first_of c h (Known kinds.GetAttr asked) s = first_demands (Known kinds.GetAttr (requested c asked)) (first_facts s h)
 first_of c h op s = first_demands op (first_facts s h)
 
 -- The second row, by the objects of the names: OPEN's file, REMOVE's child, RENAME's child and

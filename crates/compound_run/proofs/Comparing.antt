@@ -8,7 +8,7 @@ use Rattle.xdr_wire.specs.Reading.{Gives, Read, read_at}
 use Rattle.xdr_wire.specs.Wire.{in_normal_form}
 use Rattle.xdr_wire.specs.declared.fault.XdrFault.{XdrFault}
 use Rattle.xdr_wire.proofs.Spelling.{again, spelled}
-use Rattle.nfs_types.specs.Attributes.{supported_words}
+use Rattle.nfs_types.specs.Attributes.{all_words}
 use Rattle.nfs_types.specs.Common.{common}
 use Rattle.nfs_types.specs.Forms.{attributes, cons_trimmed, trimmed, trimmed_set}
 use Rattle.nfs_types.specs.Given.{given_set}
@@ -37,8 +37,8 @@ common_short (v ∷ vs) (w ∷ ws) = let more = common_short vs ws in omega (ari
 
 pub set_short : (asked : List ℕ) → length (given_set asked) ≤ 3
 set_short asked =
-    let first = trimmed_short (common asked supported_words) in
-    let second = common_short asked supported_words in
+    let first = trimmed_short (common asked all_words) in
+    let second = common_short asked all_words in
     omega (arith, first, second)
 
 -- ---- values that don't fit differ from those that were sent

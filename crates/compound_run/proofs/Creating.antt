@@ -22,6 +22,7 @@ use Rattle.compound_run.specs.Context.{Context}
 use Rattle.compound_run.specs.Meaning.{at, number_in}
 use Rattle.compound_run.specs.Questions.{failure, trace, result_unless}
 use Rattle.compound_run.specs.Runs.{waits}
+use Rattle.compound_run.specs.Times.{first_access, first_modify}
 use Rattle.compound_run.specs.Operations.Create as specs
 use Rattle.compound_run.specs.Operations.Create.{Draft, can_add, created, list_at, making, with_created}
 use Rattle.compound_run.specs.Lists.{new_fits, new_list}
@@ -32,9 +33,10 @@ pub world_created : {A : Type 0} (c : Context) (h : FileHandles) (v : Value crea
     → h.current ≡ Some d → specs.draft v ≡ m → specs.wanted c v ≡ want → a ≡ at c w
     → new.kind ≡ m.kind → new.bytes.items ≡ m.text → new.owner ≡ c.caller.uid → new.group ≡ unwrap_or want.group c.caller.gid
     → new.list ≡ new_list want m.kind (list_at w d) → new.high ≡ created_high want.mode
+    → new.time_access ≡ first_access c.times c.now want.access → new.time_modify ≡ first_modify c.now want.modify
     → with_new w d (created_name v) (made new w.next_stamp a) a ≡ with_created c h v w
-world_created c h v new m want w d a here is_draft is_wanted when kind bytes owner group list high =
-    (λ i. with_new w d (created_name v) (new_object (kind i) (bytes i) (owner i) (group i) (list i) (high i) (record { stamp = w.next_stamp; at = when i })) (when i))
+world_created c h v new m want w d a here is_draft is_wanted when kind bytes owner group list high access modify =
+    (λ i. with_new w d (created_name v) (new_object (kind i) (bytes i) (owner i) (group i) (list i) (high i) (record { stamp = w.next_stamp; at = when i; access = access i; modify = modify i })) (when i))
     ∙ (λ i. with_new w (number_in (sym here i)) (created_name v) (created c (sym is_draft i) (sym is_wanted i) (list_at w (number_in (sym here i))) w.next_stamp (at c w)) (at c w))
 
 -- A tick is left, and the access control list (ACL) is within its bounds. So the object and its name are created, or

@@ -145,9 +145,9 @@ there_is false x r is full = absurd (apart (sym is ∙ full refl))
 -- ---- a file that is created
 
 pub file_made : {A : Type 0} (c : Context) (v : Value open_args) (new : NewObject A) (want : Wanted) (w : World) (d : ℕ) (name : List ℕ) (a : At) → claim_of v ≡ ByName name → wanted c v ≡ want → a ≡ at c w
-    → MakesFile c.caller w.limits (list_at w d) want new → with_new w d name (made new w.next_stamp a) a ≡ file_in c v d None w
+    → MakesFile c.times c.now c.caller w.limits (list_at w d) want new → with_new w d name (made new w.next_stamp a) a ≡ file_in c v d None w
 file_made c v new want w d name a claims is_wanted when m =
-    (λ i. with_new w d (name_in (sym claims i)) (new_object (m.kind i) (m.bytes i) (m.owner i) (m.group i) (m.list i) (m.high i) (record { stamp = w.next_stamp; at = when i })) (when i))
+    (λ i. with_new w d (name_in (sym claims i)) (new_object (m.kind i) (m.bytes i) (m.owner i) (m.group i) (m.list i) (m.high i) (record { stamp = w.next_stamp; at = when i; access = m.access i; modify = m.modify i })) (when i))
     ∙ (λ i. with_new w d (name_in (claim_of v)) (created c (file_of (sym is_wanted i)) (sym is_wanted i) (list_at w d) w.next_stamp (at c w)) (at c w))
 
 -- ---- the result

@@ -77,10 +77,10 @@ SlotRuns call v operations new e bytes ended f =
 
 on_slot : {A : Type 0} (call : IncomingCall) (v : Value sequence_args) (operations : List ℕ) (new : NewCall) (e begun f : realms.Realm A) (bytes : List ℕ) → e.tree.log.held ≡ []
     → begun ≡ record e { clients = begun_in (realm_of e) (call_of call) call.compound.count v operations } → length bytes ≤ new.reply_size - 24
-    → (ended : Ended) → SequencedCached call.refused (series call.compound.tag.now (context_after_sequence e.tree.book call v new) operations) v (sequence_done v new.highest_slot) begun bytes ended f
+    → (ended : Ended) → SequencedCached call.refused (series call.compound.tag.now (context_after_sequence e.tree.book e.tree.world.limits.times call v new) operations) v (sequence_done v new.highest_slot) begun bytes ended f
     → SlotRuns call v operations new e bytes ended f
 on_slot call v operations new e begun f bytes settled is few ended kept =
-    let context = context_after_sequence e.tree.book call v new in
+    let context = context_after_sequence e.tree.book e.tree.world.limits.times call v new in
     let tag = call.compound.tag.now in
     let done = sequence_done v new.highest_slot in
     let registry = begun_in (realm_of e) (call_of call) call.compound.count v operations in
@@ -91,7 +91,7 @@ on_slot call v operations new e begun f bytes settled is few ended kept =
 
 pub answers_new : {A : Type 0} (call : IncomingCall) (v : Value sequence_args) (operations : List ℕ) (new : NewCall) (b : Begin) (e begun f : realms.Realm A) (ended : Ended) (passed : Bool) (ran : Ran) (before after : Buffer) → e.tree.log.held ≡ []
     → begins.New new ≡ b → begun ≡ record e { clients = begun_in (realm_of e) (call_of call) call.compound.count v operations } → new.reply_size ≤ 65536
-    → WritesWithin (new.reply_size - 24) (λ bytes. SequencedCached call.refused (series call.compound.tag.now (context_after_sequence e.tree.book call v new) operations) v (sequence_done v new.highest_slot) begun bytes ended f) before after
+    → WritesWithin (new.reply_size - 24) (λ bytes. SequencedCached call.refused (series call.compound.tag.now (context_after_sequence e.tree.book e.tree.world.limits.times call v new) operations) v (sequence_done v new.highest_slot) begun bytes ended f) before after
     → passed ≡ passes (last_at e.clients (session_of (sequence_session v)) (sequence_slot v)) (sequence_number v)
     → ran.kept ≡ (ended.changed || passed) → ran.delayed ≡ ended.delayed
     → WritesWithin MAX_RESULTS (λ bytes. AnswersAs (fate_by call.compound.tag.now v e.clients b) (RanByDelaying call.refused b (sequenced (call_of call) call.compound.tag.now call.compound.count v operations) (state_of e)) (state_of e) bytes ran (state_of f)) before after

@@ -26,12 +26,13 @@ use Rattle.compound_run.specs.Asking.{sight_of}
 use Rattle.compound_run.specs.Context.{Context}
 use Rattle.compound_run.specs.Operations.Create.{list_at, wanted_in}
 use Rattle.compound_run.specs.Lists.{set_fits, set_list}
-use Rattle.compound_run.specs.internal.Permits.{Permits, permitted, entitled}
+use Rattle.compound_run.specs.internal.Permits.{Permits, permitted, entitled, retimed}
 use Rattle.node_tree.specs.declared.at.At.{At}
 use Rattle.node_tree.specs.Changes.{with_list}
 use Rattle.compound_run.specs.Meaning.{at, here}
 use Rattle.compound_run.specs.Questions.{failure, trace, result_unless, all_granted, demand_lines}
 use Rattle.compound_run.specs.Rows.{sized_facts}
+use Rattle.compound_run.specs.Times.{clock_of}
 use Rattle.compound_run.specs.Runs.{spelled, waits}
 use Rattle.compound_run.specs.Operations.Setattr.{setattr, sent, size_fault, size_fits, can_count, sets_acl, sized, listed, set_on, setting, with_attributes}
 use Rattle.compound_run.specs.Sight.{kind_at}
@@ -85,7 +86,7 @@ not_sized room c h v e out number wanted status is_here there is_wanted wrong = 
 
 -- the demands on the access control list (ACL)
 abbrev pub demanded : {A : Type 0} → Value setattr_args → FileHandles → realms.Realm A → Wanted → Demands
-demanded v h e wanted = first_demands (Known kinds.SetAttr v) (sized_facts (sight_of e) h wanted.size)
+demanded v h e wanted = first_demands (Known kinds.SetAttr v) (sized_facts (sight_of e) h wanted.size (clock_of wanted))
 
 -- all questions pass
 module _ {A : Type 0} (c : Context) (h : FileHandles) (v : Value setattr_args) (e : realms.Realm A) (wanted : Wanted)
@@ -226,11 +227,11 @@ same_list number o wanted a (Some p) before w there some is =
     (λ i. with_list w number (list i) (high i) a)
     ∙ (λ i. if some i then with_list w number (set_list wanted o.kind o.list) (changed_high o.high wanted.mode) a else w)
 
--- setting the size, the ACL, and the owner with the group, one after the other, sets all attributes
+-- setting the size, the ACL, the owner with the group, and the times, one after the other, sets all attributes
 pub set_by_parts : {A : Type 0} (number : ℕ) (o : Object) (wanted : Wanted) (a : At) (made : Option (Permissions A)) (w : World)
     → object w number ≡ Some o → is_some made ≡ sets_acl wanted → IfSome made (Permits w number wanted)
-    → entitled number wanted.owner wanted.group (o.owner, o.group) a (permitted number made a (sized number wanted.size a w)) ≡ setting number wanted a w
+    → retimed number wanted.access wanted.modify a (entitled number wanted.owner wanted.group (o.owner, o.group) a (permitted number made a (sized number wanted.size a w))) ≡ setting number wanted a w
 unfolding setting
 set_by_parts number o wanted a made w there some is =
-    ap (entitled number wanted.owner wanted.group (o.owner, o.group) a) (same_list number o wanted a made w (sized number wanted.size a w) there some is)
+    ap (λ x. retimed number wanted.access wanted.modify a (entitled number wanted.owner wanted.group (o.owner, o.group) a x)) (same_list number o wanted a made w (sized number wanted.size a w) there some is)
     ∙ (λ i. option_map_or (λ o. set_on number o wanted a w) (sym there i) w)

@@ -1,6 +1,7 @@
 -- The fault of a name, a filehandle or attributes is neither ACCESS nor DELAY, nor OK.
 use Rattle.std.specs.Prelude.{ℕ, ◌==◌, ◌&&◌, Bool, true, false, cond, not, is_none, nat_lt, List, [], ◌∷◌, length}
 use Rattle.std.specs.Prelude.{map, take, Option, Some, None, Result, Ok, Err, slice_get, ◌||◌}
+use Rattle.std.proofs.Common.{inl, inr}
 use Rattle.std.specs.List.{list_any, list_all, filter_map, cons_option}
 use Rattle.std.specs.Str.{is_utf8}
 use Rattle.xdr_wire.specs.Xdr.{Value}
@@ -23,13 +24,16 @@ use Rattle.who_book.specs.Content.{Content}
 use Rattle.who_book.specs.Spelling.{principal_in}
 use Rattle.who_book.specs.declared.kind.NameKind.{NameKind}
 use Rattle.who_book.specs.declared.kind.NameKind.TheVariants as names
+use Rattle.nfs_types.specs.declared.moment.Moment.{Moment}
 use Rattle.nfs_types.specs.declared.status.Status.{Status}
 use Rattle.nfs_types.specs.Name.{name_fault, separates, is_dots}
 use Rattle.nfs_types.specs.Handles.{object_of}
 use Rattle.nfs_types.specs.Attributes.{ace, acl41, is_within, supported_words, settable_words}
 use Rattle.nfs_types.specs.Sent.{Sent, ◌>>◌, raw_of, unless, taken_acl, taken_mode, taken_name, taken_plain}
 use Rattle.nfs_types.specs.Sent.{taken_part, taken_parts, taken_each, taken, is_set_twice, known, spelled, whole}
-use Rattle.nfs_types.specs.Sent.{sent_at, wanted_of}
+use Rattle.nfs_types.specs.Sent.{sent_at, taken_times, wanted_of}
+use Rattle.nfs_types.specs.Times.{settime, client_time, taken_time}
+use Rattle.nfs_types.specs.MomentView.{moment_in}
 use Rattle.compound_run.specs.Faults.{MayFault, IsValueOrFault}
 
 -- ---- names
@@ -150,11 +154,26 @@ parts_may book kind dacl sacl =
     bind (taken_part parts.Dacl book kind dacl) _ (part_may parts.Dacl book kind dacl)
     (λ d. bind (taken_part parts.Sacl book kind sacl) _ (part_may parts.Sacl book kind sacl) (λ s. tt))
 
+client_time_may : (moment : Option Moment) → IsValueOrFault (client_time moment)
+client_time_may None = tt
+client_time_may (Some moment) = tt
+
+time_may : (time : Option (Value settime)) → IsValueOrFault (taken_time time)
+time_may None = tt
+time_may (Some (inl v)) = tt
+time_may (Some (inr (inl v))) = client_time_may (moment_in v)
+time_may (Some (inr (inr v))) = elim v [ ]
+
+times_may : (access modify : Option (Value settime)) → IsValueOrFault (taken_times access modify)
+times_may access modify =
+    bind (taken_time access) _ (time_may access) (λ a. bind (taken_time modify) _ (time_may modify) (λ m. tt))
+
 each_may : (book : Content) (kind : Kind) (s : Sent) → IsValueOrFault (taken_each book kind s)
 each_may book kind s =
     bind (taken_acl book kind s.entries) _ (acl_may book kind s.entries)
     (λ list. bind (taken_plain book s.mode s.owner s.group) _ (plain_may book s.mode s.owner s.group)
-    (λ plain. bind (taken_parts book kind s.dacl s.sacl) _ (parts_may book kind s.dacl s.sacl) (λ both. tt)))
+    (λ plain. bind (taken_times s.access s.modify) _ (times_may s.access s.modify)
+    (λ times. bind (taken_parts book kind s.dacl s.sacl) _ (parts_may book kind s.dacl s.sacl) (λ both. tt))))
 
 taken_may : (book : Content) (kind : Kind) (s : Sent) → IsValueOrFault (taken book kind s)
 taken_may book kind s = choose (is_set_twice s) _ _ tt (each_may book kind s)
@@ -163,7 +182,8 @@ spelled_may : (book : Content) (kind : Kind) (s : Option Sent) → IsValueOrFaul
 spelled_may book kind None = tt
 spelled_may book kind (Some s) = taken_may book kind s
 
-pub wanted_may : (book : Content) (kind : Kind) (set bytes : List ℕ) → IsValueOrFault (wanted_of book kind set bytes)
-wanted_may book kind set bytes =
-    choose (not (is_within set supported_words)) _ _ tt
+pub wanted_may : (times : Bool) (book : Content) (kind : Kind) (set bytes : List ℕ)
+    → IsValueOrFault (wanted_of times book kind set bytes)
+wanted_may times book kind set bytes =
+    choose (not (is_within set (supported_words times))) _ _ tt
     (choose (not (is_within set settable_words)) _ _ tt (spelled_may book kind (whole (sent_at set bytes))))

@@ -6,6 +6,7 @@ use Rattle.nfs_ops.specs.declared.Op.{Op}
 use Rattle.nfs_ops.specs.OpViews.{op_view}
 use Rattle.nfs_ops.specs.Operations.{number_of}
 use Rattle.node_tree.specs.Judged.{judged_of}
+use Rattle.access_rows.specs.declared.facts.Clock.{Clock}
 use Rattle.access_rows.specs.Rows.{Demands, first_demands, second_demands}
 use Rattle.compound_run.specs.declared.realm.Realm as realms
 use Rattle.compound_run.specs.declared.filehandles.FileHandles.{FileHandles}
@@ -33,9 +34,9 @@ op_number op = number_of (op_view op)
 abbrev pub first_of : {A : Type 0} → realms.Realm A → Op → FileHandles → Demands
 first_of e op h = first_demands (op_view op) (first_facts (sight_of e) h)
 
--- the first demands of an operation, which depend on a size
-abbrev pub sized_of : {A : Type 0} → realms.Realm A → Op → FileHandles → Option ℕ → Demands
-sized_of e op h new_size = first_demands (op_view op) (sized_facts (sight_of e) h new_size)
+-- the first demands of an operation, which depend on a size and on whose time is set
+abbrev pub sized_of : {A : Type 0} → realms.Realm A → Op → FileHandles → Option ℕ → Option Clock → Demands
+sized_of e op h new_size clock = first_demands (op_view op) (sized_facts (sight_of e) h new_size clock)
 
 -- the demands of an operation after its names are looked up
 abbrev pub second_of : {A : Type 0} → realms.Realm A → Op → FileHandles → Option ℕ → Option ℕ → Demands

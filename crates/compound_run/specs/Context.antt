@@ -1,5 +1,5 @@
 -- The context of an operation of a COMPOUND (RFC 8881, sections 2.10 and 16.2).
-use Rattle.std.specs.Prelude.{ℕ, ◌+◌, ◌-◌, Option, None}
+use Rattle.std.specs.Prelude.{ℕ, ◌+◌, ◌-◌, Bool, Option, None}
 use Rattle.rpc_record.specs.Identity.{Identity}
 use Rattle.who_book.specs.Content.{Content}
 use Rattle.nfs_types.specs.declared.moment.Moment.{Moment}
@@ -12,6 +12,8 @@ pub record Context : Type 0 where
   pub now : Moment
   -- the book of names
   pub book : Content
+  -- whether times can be set, by the profile
+  pub times : Bool
   -- the client of the session, and whether the reply is to be cached; none without a session
   pub calling : Option Calling
   -- the number of operations before it, and the number of all operations of the COMPOUND

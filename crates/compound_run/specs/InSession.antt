@@ -91,6 +91,7 @@ call_context_after_sequence s call tag count v new = record {
   caller = member s.settings.book call.caller;
   now = call.now;
   book = s.settings.book;
+  times = s.realm.world.limits.times;
   calling = Some (calling_by v new);
   position = 1;
   count = count;

@@ -9,6 +9,8 @@ pub mod ArgumentFaults
 pub mod Lists
 pub mod Questions
 pub mod Meaning
+pub mod Times
+pub mod Requested
 pub mod Rows
 pub mod Values
 pub mod Stateids

@@ -1,5 +1,5 @@
 -- How the code opens a file.
-use Rattle.std.specs.Prelude.{◌≡◌, ◌≤◌, ◌<◌, ◌+◌, ◌^◌, ℕ, List, [], ◌∷◌, ◌++◌, length}
+use Rattle.std.specs.Prelude.{◌≡◌, ◌≤◌, ◌<◌, ◌+◌, ◌^◌, ℕ, Bool, List, [], ◌∷◌, ◌++◌, length}
 use Rattle.std.specs.Prelude.{unwrap_or, Option, Some, None}
 use Rattle.xdr_wire.specs.Xdr.{Value}
 use Rattle.rpc_record.specs.Identity.{Identity}
@@ -8,6 +8,8 @@ use Rattle.acl_list.specs.declared.entry.Kind.TheVariants.{File}
 use Rattle.acl_shape.specs.Bounds.{IsBounded}
 use Rattle.acl_shape.specs.Permissions.{created_high}
 use Rattle.nfs_types.specs.Sent.{Wanted}
+use Rattle.nfs_types.specs.declared.moment.Moment.{Moment}
+use Rattle.compound_run.specs.Times.{first_access, first_modify}
 use Rattle.nfs_ops.specs.Parts.{Claim, ByName, ByHandle}
 use Rattle.node_tree.specs.declared.node.NewObject.{NewObject}
 use Rattle.node_tree.specs.Changes.{resized}
@@ -63,14 +65,16 @@ placed_stateid (places.New bytes) next = open_stateid 1 next
 -- ---- the file
 
 -- a new file
-pub record MakesFile {A : Type 0} (caller : Identity) (limits : Limits) (parent : List Entry)
-    (wanted : Wanted) (new : NewObject A) : Type 0 where
+pub record MakesFile {A : Type 0} (times : Bool) (now : Moment) (caller : Identity) (limits : Limits)
+    (parent : List Entry) (wanted : Wanted) (new : NewObject A) : Type 0 where
   pub kind : new.kind ≡ File
   pub bytes : new.bytes.items ≡ resized [] (unwrap_or wanted.size 0)
   pub owner : new.owner ≡ caller.uid
   pub group : new.group ≡ unwrap_or wanted.group caller.gid
   pub list : new.list ≡ new_list wanted File parent
   pub high : new.high ≡ created_high wanted.mode
+  pub access : new.time_access ≡ first_access times now wanted.access
+  pub modify : new.time_modify ≡ first_modify now wanted.modify
   pub bounded : IsBounded new.list
   pub short : length new.bytes.items ≤ most_bytes limits File
 

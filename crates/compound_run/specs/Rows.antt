@@ -4,6 +4,7 @@ use Rattle.std.specs.Prelude.{ℕ, ◌*◌, Option, Some, None}
 use Rattle.std.specs.Option.{option_map}
 use Rattle.acl_shape.specs.declared.bounds.TheConstants.{MAX_ENTRIES}
 use Rattle.nfs_ops.specs.Operations.{Operation}
+use Rattle.access_rows.specs.declared.facts.Clock.{Clock}
 use Rattle.access_rows.specs.declared.facts.Object.{Object}
 use Rattle.access_rows.specs.declared.facts.First.{First}
 use Rattle.access_rows.specs.declared.facts.Second.{Second}
@@ -19,11 +20,21 @@ object_of s (Some number) = option_map (λ kind. record { number = number; kind 
 
 -- the facts that are known before a name is looked up
 abbrev pub first_facts : Sight → FileHandles → First
-first_facts s h = record { current = object_of s h.current; saved = object_of s h.saved; size = None; new_size = None }
+first_facts s h = record {
+  current = object_of s h.current;
+  saved = object_of s h.saved;
+  size = None;
+  new_size = None;
+  clock = None;
+}
 
--- the facts with two sizes: that of the current object, and the size to be set
-abbrev pub sized_facts : Sight → FileHandles → Option ℕ → First
-sized_facts s h new_size = record (first_facts s h) { size = option_map s.sizes h.current; new_size = new_size }
+-- the facts with the size of the current object, the size to be set, and whose time is set
+abbrev pub sized_facts : Sight → FileHandles → Option ℕ → Option Clock → First
+sized_facts s h new_size clock = record (first_facts s h) {
+  size = option_map s.sizes h.current;
+  new_size = new_size;
+  clock = clock;
+}
 
 -- The facts that are known after the names are looked up. They are the child of the name, and the target of the new
 -- name of a RENAME.
@@ -44,8 +55,8 @@ opening_facts s h file new_size = record (second_facts s h file None) { new_size
 abbrev pub first_row : FileHandles → Operation → Question
 first_row h op = Row (λ s. first_demands op (first_facts s h))
 
-abbrev pub sized_row : FileHandles → Operation → (Sight → Option ℕ) → Question
-sized_row h op new_size = Row (λ s. first_demands op (sized_facts s h (new_size s)))
+abbrev pub sized_row : FileHandles → Operation → (Sight → Option ℕ) → (Sight → Option Clock) → Question
+sized_row h op new_size clock = Row (λ s. first_demands op (sized_facts s h (new_size s) (clock s)))
 
 abbrev pub second_row : FileHandles → Operation → (Sight → Option ℕ) → (Sight → Option ℕ) → Question
 second_row h op child replaced = Row (λ s. second_demands op (second_facts s h (child s) (replaced s)))

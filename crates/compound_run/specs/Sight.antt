@@ -27,6 +27,7 @@ use Rattle.compound_run.specs.Realm.{Realm, Opened}
 pub record Details : Type 0 where
   pub high : ℕ
   pub change : ℕ
+  pub time_access : Moment
   pub time_modify : Moment
   pub time_metadata : Moment
 
@@ -59,7 +60,13 @@ pub record Sight : Type 0 where
   pub details : ℕ → Option Details
 
 abbrev pub details_of : Object → Details
-details_of o = record { high = o.high; change = o.change; time_modify = o.time_modify; time_metadata = o.time_metadata }
+details_of o = record {
+  high = o.high;
+  change = o.change;
+  time_access = unwrap_or o.time_access o.time_modify;
+  time_modify = o.time_modify;
+  time_metadata = o.time_metadata;
+}
 
 -- the change attribute of a directory
 abbrev pub directory_change : World → ℕ → ℕ

@@ -111,6 +111,7 @@ bare_context s call tag count = record {
   caller = member s.settings.book call.caller;
   now = call.now;
   book = s.settings.book;
+  times = s.realm.world.limits.times;
   calling = None;
   position = 0;
   count = count;

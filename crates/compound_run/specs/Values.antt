@@ -39,9 +39,9 @@ group_at s number = option_map_or (λ j. j.group) (s.lists number) 0
 
 -- details that aren't seen have the values of a new object
 abbrev pub unseen : Details
-unseen = record { high = 0; change = 0; time_modify = epoch; time_metadata = epoch }
+unseen = record { high = 0; change = 0; time_access = epoch; time_modify = epoch; time_metadata = epoch }
 
--- change, time_modify and time_metadata, and the high bits of the mode
+-- change, time_access, time_modify and time_metadata, and the high bits of the mode
 abbrev pub details_at : Sight → ℕ → Details
 details_at s number = unwrap_or (s.details number) unseen
 
@@ -70,7 +70,9 @@ facts_at s number error asked = record {
   group = group_at s number;
   metadata = (details_at s number).time_metadata;
   modify = (details_at s number).time_modify;
+  access = (details_at s number).time_access;
   most_bytes = s.limits.bytes;
+  times = s.limits.times;
 }
 
 -- the values of the attributes requested and supported, by rising number

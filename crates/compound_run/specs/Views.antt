@@ -103,6 +103,7 @@ context_of c book =
       caller = member book c.caller.now;
       now = c.now;
       book = book;
+      times = c.times;
       calling = c.calling;
       position = c.position;
       count = c.count;
@@ -185,7 +186,7 @@ draft_view d = record { kind = d.kind; text = d.text.now }
 
 -- the values that attributes set
 abbrev pub wanted_view : {A : Type 0} → Attrs A → Wanted
-wanted_view a = made a.size a.list a.mode a.owner a.group a.dacl a.sacl
+wanted_view a = made a.size a.list a.mode a.owner a.group a.access a.modify a.dacl a.sacl
 
 -- Attributes are decoded, or refused with their status. An answer of DELAY states nothing of them.
 abbrev pub IsWanted : {A : Type 0} → Result Wanted Status → Result (Attrs A) Status → Type 0

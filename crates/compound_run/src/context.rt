@@ -20,6 +20,8 @@ pub(crate) struct Context<'t> {
     /// The caller, as sent.
     pub caller: &'t Caller,
     pub now: Moment,
+    /// Whether times can be set, by the profile.
+    pub times: bool,
     /// The session, if any.
     pub calling: Option<Calling>,
     /// The number of operations before it.

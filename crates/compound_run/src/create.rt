@@ -13,15 +13,18 @@ ghost use Rattle.compound_run.specs.Sight.{whole, child, directory_change};
 ghost use Rattle.compound_run.specs.Operations.Create.{create, list_at, making};
 ghost use Rattle.compound_run.specs.Operations.Create as specs;
 ghost use Rattle.compound_run.specs.Lists.{IsFit, base_of, new_fits, new_list};
+ghost use Rattle.compound_run.specs.Times.{first_access, first_modify};
 ghost use Rattle.compound_run.specs.Views.{context_at, GivesOrDelays, HasRoom, realm_of, draft_view, wanted_view};
 ghost use Rattle.compound_run.specs.Views.{IsWanted, stage};
 
+use crate::context::Context;
 use crate::directory::Directory;
 use crate::filehandles::FileHandles;
 use crate::list_parts::put_parts;
 use crate::operation_results::put_result;
 use crate::realm::{Realm, check};
 use crate::step::Step;
+use crate::times::{first_access, first_modify};
 use acl_list::AclList;
 use acl_shape::{Given, Permissions, created_permissions};
 use nfs_ops::{CreateArgs, CreateResult, CreateType, Op, OpResult};
@@ -116,12 +119,17 @@ fn copied<A: Allocator>(alloc: A, bytes: &[u8]) -> Result<Vec<u8, A>, AllocError
 
 impl<A: Allocator + Copy> Realm<A> {
     /// The values that the attributes set. `Delay`: an allocation for the ACL fails.
-    pub fn wanted(&self, kind: Kind, sent: &Attributes<'_>) -> Result<Attrs<A>, Status>
-        ensures wanted { IsWanted (wanted_of self.now.tree.book kind (bitmap_value sent.now.set)
+    pub fn wanted(
+        &self,
+        times: bool,
+        kind: Kind,
+        sent: &Attributes<'_>,
+    ) -> Result<Attrs<A>, Status>
+        ensures wanted { IsWanted (wanted_of times self.now.tree.book kind (bitmap_value sent.now.set)
             sent.now.values.bytes.now) result }
         ensures bounded { IfOk result (λ wanted. IfSome wanted.list IsBounded) }
     {
-        read_attrs(self.alloc, self.tree.book(), kind, sent).map_err(|fault| match fault {
+        read_attrs(self.alloc, times, self.tree.book(), kind, sent).map_err(|fault| match fault {
             AttrsFault::Refused(status) => status,
             AttrsFault::Memory => Status::Delay,
         })
@@ -191,6 +199,7 @@ impl<A: Allocator + Copy> Realm<A> {
         directory: u64,
         draft: Draft<'_>,
         wanted: Attrs<A>,
+        context: Context<'_>,
         caller: &Caller,
     ) -> Result<NewObject<A>, Status>
         requires there { IsSome (object self.now.tree.world directory) }
@@ -205,9 +214,14 @@ impl<A: Allocator + Copy> Realm<A> {
         ensures list { IfOk result (λ new. new.list ≡
             new_list (wanted_view wanted) draft.entry.kind (list_at self.now.tree.world directory)) }
         ensures high { IfOk result (λ new. new.high ≡ created_high wanted.mode) }
+        ensures access { IfOk result (λ new. new.time_access ≡
+            first_access context.entry.times context.entry.now wanted.access) }
+        ensures modify { IfOk result (λ new. new.time_modify ≡ first_modify context.entry.now wanted.modify) }
         ensures bounded { IfOk result (λ new. IsBounded new.list) }
     {
         let group = wanted.group.unwrap_or(caller.gid());
+        let time_access = first_access(context.times, context.now, wanted.access);
+        let time_modify = first_modify(context.now, wanted.modify);
         let permissions = self.new_permissions(directory, draft.kind, wanted)?;
         let Ok(bytes) = copied(self.alloc, draft.text) else {
             return Err(Status::Delay);
@@ -219,6 +233,8 @@ impl<A: Allocator + Copy> Realm<A> {
             group,
             list: permissions.list,
             high: permissions.high,
+            time_access,
+            time_modify,
         })
     }
 
@@ -248,7 +264,7 @@ impl<A: Allocator + Copy> Realm<A> {
         let (draft, wanted) = wanted;
         let at = self.tick(step.context.now).ok_or(Status::NoSpc)?;
         let caller = self.tree.member(step.context.caller);
-        let new = self.new_object(directory.number, draft, wanted, &caller)?;
+        let new = self.new_object(directory.number, draft, wanted, step.context, &caller)?;
         let number = self.add(directory.number, args.name.bytes, new, at)?;
         put_result(
             OpResult::Create(CreateResult {
@@ -285,7 +301,7 @@ impl<A: Allocator + Copy> Realm<A> {
         let name = args.name.bytes;
         check(name)?;
         check_text(draft)?;
-        let wanted = self.wanted(draft.kind, &args.attributes)?;
+        let wanted = self.wanted(step.context.times, draft.kind, &args.attributes)?;
         if wanted.size.is_some() {
             return Err(Status::Inval);
         }

@@ -10,7 +10,7 @@ ghost use Rattle.compound_run.specs.Rows as specs;
 use crate::realm::Realm;
 use crate::step::Step;
 use access_guard::{Demand, MOST_HELD};
-use access_rows::{First, Object, Second, first_demands, second_demands};
+use access_rows::{Clock, First, Object, Second, first_demands, second_demands};
 use nfs_ops::Op;
 use rpc_record::Caller;
 use std::alloc::Allocator;
@@ -52,14 +52,20 @@ impl<A: Allocator + Copy> Realm<A> {
         self.grants(&first_demands(op, &facts), step.context.caller, op.number())
     }
 
-    /// Whether the ACLs grant an operation's first demands by the size of the current object and the new size. Its
-    /// lines are held.
-    pub fn grants_sized(&mut self, step: Step<'_>, op: &Op<'_>, new_size: Option<u64>) -> bool
+    /// Whether the ACLs grant an operation's first demands by the size of the current object, the new size
+    /// and whose time is set. Its lines are held.
+    pub fn grants_sized(
+        &mut self,
+        step: Step<'_>,
+        op: &Op<'_>,
+        new_size: Option<u64>,
+        clock: Option<Clock>,
+    ) -> bool
         requires { self.old.tree.log.held ≡ [] }
         ensures answer { result ≡ grants_all self.old step.entry.context.caller.now
-            (sized_of self.old op.now step.entry.handles new_size) }
+            (sized_of self.old op.now step.entry.handles new_size clock) }
         ensures state { self.new ≡ asked self.old step.entry.context.caller.now (op_number op.now)
-            (sized_of self.old op.now step.entry.handles new_size) }
+            (sized_of self.old op.now step.entry.handles new_size clock) }
         ensures few { result ≡ true → length self.new.tree.log.held ≤ specs.MAX_FIRST_LINES }
     {
         let handles = step.handles;
@@ -72,6 +78,7 @@ impl<A: Allocator + Copy> Realm<A> {
             saved: self.object(handles.saved),
             size,
             new_size,
+            clock,
         };
         self.grants(&first_demands(op, &facts), step.context.caller, op.number())
     }

@@ -13,6 +13,7 @@ ghost use Rattle.compound_run.specs.Views.{context_at, Gives, HasRoom, stage};
 use crate::context::Context;
 use crate::filehandles::FileHandles;
 use crate::realm::Realm;
+use crate::requested::{check_readable, requested};
 use crate::step::Step;
 use nfs_ops::{GetAttrArgs, Op, sizes_of_carried_bytes_are_exact, write_getattr};
 use nfs_types::{Bitmap, GivenAttributes, Status};
@@ -59,7 +60,8 @@ impl<A: Allocator + Copy> Realm<A> {
         put_attributes(given, context.room, out)
     }
 
-    /// Attributes of the current object.
+    /// Attributes of the current object, those of the requested ones that the profile supports. `Inval`: an attribute
+    /// that can only be set is requested.
     pub fn getattr(
         &mut self,
         step: Step<'_>,
@@ -75,10 +77,12 @@ impl<A: Allocator + Copy> Realm<A> {
         if self.tree.object(number).is_none() {
             return Err(Status::Stale);
         }
-        if !self.grants_first(step, &Op::GetAttr(*args)) {
+        let asked = requested(step.context.times, &args.asked);
+        check_readable(&asked)?;
+        if !self.grants_first(step, &Op::GetAttr(GetAttrArgs { asked })) {
             return Err(Status::Access);
         }
-        match self.put_given_attributes(step.context, number, args.asked, out) {
+        match self.put_given_attributes(step.context, number, asked, out) {
             Ok(()) => Ok(step.handles),
             Err(Full) => Err(step.context.too_big()),
         }

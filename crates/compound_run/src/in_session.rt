@@ -125,7 +125,8 @@ impl<A: Allocator + Copy> Realm<A> {
         ensures answers { WritesWithin (new.reply_size - limits.REPLY_HEADER)
             (λ bytes. SequencedCached call.entry.refused
             (series call.entry.compound.tag.now
-            (context_after_sequence self.old.tree.book call.entry (sequence_args_value args.now) new) operations.now)
+            (context_after_sequence self.old.tree.book self.old.tree.world.limits.times call.entry
+            (sequence_args_value args.now) new) operations.now)
             (sequence_args_value args.now) (sequence_done (sequence_args_value args.now) new.highest_slot) self.old
             bytes result self.new)
             out.old out.new }
@@ -137,6 +138,7 @@ impl<A: Allocator + Copy> Realm<A> {
         let context = Context {
             caller,
             now: call.now,
+            times: self.times(),
             calling: Some(Calling {
                 client: new.client,
                 keeps_reply: args.keep,

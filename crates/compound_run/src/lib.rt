@@ -51,6 +51,7 @@ mod realm;
 mod reclaim_complete;
 mod remove;
 mod rename;
+mod requested;
 mod restorefh;
 mod result_heads;
 mod run;
@@ -61,6 +62,7 @@ mod sessions;
 mod setattr;
 mod stateids;
 mod step;
+mod times;
 mod verify;
 mod write;
 

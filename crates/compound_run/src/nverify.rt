@@ -32,7 +32,7 @@ impl<A: Allocator + Copy> Realm<A> {
         if self.tree.object(number).is_none() {
             return Err(Status::Stale);
         }
-        check_set(&args.attributes.set)?;
+        check_set(step.context.times, &args.attributes.set)?;
         if !self.grants_first(step, &Op::NVerify(*args)) {
             return Err(Status::Access);
         }

@@ -83,7 +83,9 @@ impl<A: Allocator + Copy> Realm<A> {
             group: node.group(),
             metadata: node.time_metadata(),
             modify: node.time_modify(),
+            access: node.time_access().unwrap_or(node.time_modify()),
             most_bytes: self.tree.limits().bytes(),
+            times: self.times(),
         })
     }
 }

@@ -140,14 +140,14 @@ fn truncated_set(truncates: bool) -> Bitmap
 impl<A: Allocator + Copy> Realm<A> {
     /// The values that the attributes of a new file set. `Delay`: an allocation for the access control list (ACL)
     /// fails.
-    fn wanted_with(&self, how: &OpenHow<'_>) -> Result<Attrs<A>, Status>
-        ensures wanted { IsWanted (specs.sent_by self.now.tree.book (parts.how (open_how_value how.now))) result }
+    fn wanted_with(&self, times: bool, how: &OpenHow<'_>) -> Result<Attrs<A>, Status>
+        ensures wanted { IsWanted (specs.sent_by times self.now.tree.book (parts.how (open_how_value how.now))) result }
         ensures bounded { IfOk result (λ wanted. IfSome wanted.list IsBounded) }
     {
         match how {
             OpenHow::NoCreate => Ok(Attrs::none()),
             OpenHow::Unchecked(attributes) | OpenHow::Guarded(attributes) => {
-                self.wanted(Kind::File, attributes)
+                self.wanted(times, Kind::File, attributes)
             }
         }
     }
@@ -185,21 +185,22 @@ impl<A: Allocator + Copy> Realm<A> {
         &self,
         directory: u64,
         wanted: Attrs<A>,
+        context: Context<'_>,
         caller: &Caller,
     ) -> Result<NewObject<A>, Status>
         requires there { IsSome (object self.now.tree.world directory) }
         requires bounded { IfSome wanted.list IsBounded }
         requires fits { setting.size_fits self.now.tree.world.limits wanted.size ≡ true }
         ensures fits { IsFit (new_fits (wanted_view wanted) Kind.File (list_at self.now.tree.world directory)) result }
-        ensures made { IfOk result (MakesFile caller.now self.now.tree.world.limits
-            (list_at self.now.tree.world directory) (wanted_view wanted)) }
+        ensures made { IfOk result (MakesFile context.entry.times context.entry.now caller.now
+            self.now.tree.world.limits (list_at self.now.tree.world directory) (wanted_view wanted)) }
     {
         let size = wanted.size.unwrap_or(0) as usize;
         let draft = Draft {
             kind: Kind::File,
             text: &[],
         };
-        let mut new = self.new_object(directory, draft, wanted, caller)?;
+        let mut new = self.new_object(directory, draft, wanted, context, caller)?;
         if size > MOST_AT_ONCE {
             return Err(Status::Delay);
         }
@@ -241,7 +242,7 @@ impl<A: Allocator + Copy> Realm<A> {
         }
         let at = self.tick(step.context.now).ok_or(Status::NoSpc)?;
         let place = self.place(step.context, args, None)?;
-        let new = self.new_file(directory.number, wanted, &caller)?;
+        let new = self.new_file(directory.number, wanted, step.context, &caller)?;
         let file = self.add(directory.number, name, new, at)?;
         let stateid = self.put_open(step.context, args.access % 256, place, file);
         let change = directory.changed(at.tick);
@@ -399,7 +400,7 @@ impl<A: Allocator + Copy> Realm<A> {
         check_current(&args.claim, node.kind())?;
         let before = node.change();
         check_arguments(args)?;
-        let wanted = self.wanted_with(&args.how)?;
+        let wanted = self.wanted_with(step.context.times, &args.how)?;
         if !self.grants_first(step, &Op::Open(*args)) {
             return Err(Status::Access);
         }

@@ -24,6 +24,7 @@ ghost use Rattle.who_book.specs.Members.{member};
 use crate::context::Context;
 use crate::filehandles::FileHandles;
 use crate::realm::Realm;
+use crate::requested::{check_readable, requested};
 use crate::step::Step;
 use access_guard::Demand;
 use access_rows::{Object, entry_demands, granted_attributes};
@@ -244,7 +245,7 @@ impl<A: Allocator + Copy> Realm<A> {
         let mut children = Children {
             realm: self,
             context,
-            asked: args.asked,
+            asked: requested(context.times, &args.asked),
             directory,
             cookie: args.cookie,
         };
@@ -275,7 +276,8 @@ impl<A: Allocator + Copy> Realm<A> {
         }
     }
 
-    /// Lists entries of the current directory, as many as fit. It allocates no memory.
+    /// Lists entries of the current directory, as many as fit. It allocates no memory. `Inval`: an attribute that can
+    /// only be set is requested.
     pub fn readdir(
         &mut self,
         step: Step<'_>,
@@ -295,6 +297,7 @@ impl<A: Allocator + Copy> Realm<A> {
         if args.cookie == 1 || args.cookie == 2 {
             return Err(Status::BadCookie);
         }
+        check_readable(&requested(step.context.times, &args.asked))?;
         if !self.grants_first(step, &Op::ReadDir(*args)) {
             return Err(Status::Access);
         }

@@ -80,6 +80,13 @@ impl<A: Allocator + Copy> Realm<A> {
         self.tree.find(directory, name)
     }
 
+    /// Whether times can be set, by the profile.
+    pub fn times(&self) -> bool
+        ensures { result ≡ self.now.tree.world.limits.times }
+    {
+        self.tree.limits().times()
+    }
+
     /// The tick and moment of a change, if the counter of ticks has one left.
     pub fn tick(&self, now: Moment) -> Option<At>
         ensures value { result ≡ (if has_left self.now.tree.world.next_tick

@@ -184,6 +184,7 @@ impl<A: Allocator + Copy> Server<A> {
         let context = Context {
             caller,
             now,
+            times: self.realm.times(),
             calling: None,
             position: 0,
             count: compound.count,

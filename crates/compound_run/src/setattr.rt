@@ -14,7 +14,7 @@ ghost use Rattle.compound_run.specs.Operations.Create.{list_at};
 ghost use Rattle.compound_run.specs.Lists.{IsFit, set_fits};
 ghost use Rattle.compound_run.specs.Operations.Setattr.{setattr, sent_by, size_fault, size_fits, can_count, sets_acl};
 ghost use Rattle.compound_run.specs.Operations.Setattr.{sets_owner, sets_any, stamps, sized, setting};
-ghost use Rattle.compound_run.specs.internal.Permits.{Permits, permitted, entitled};
+ghost use Rattle.compound_run.specs.internal.Permits.{Permits, permitted, entitled, retimed};
 ghost use Rattle.compound_run.specs.Views.{context_at, GivesOrDelays, HasRoom, wanted_view, with_world, IsWanted};
 ghost use Rattle.compound_run.specs.Views.{stage};
 
@@ -26,9 +26,10 @@ use crate::operation_results::put_result;
 use crate::realm::{Realm, status_of};
 use crate::stateids::Purpose;
 use crate::step::Step;
+use crate::times::{clock_by, moment_set, sets_times};
 use acl_shape::{Given, Permissions, changed_permissions};
 use nfs_ops::{Op, OpResult, SetAttrArgs, SetAttrResult};
-use nfs_types::{Attrs, Limits, Moment, StateId, Status};
+use nfs_types::{Attrs, Limits, Moment, SetTime, StateId, Status};
 use node_tree::{At, Kind};
 use std::alloc::{AllocError, Allocator};
 use xdr_wire::Writer;
@@ -58,7 +59,7 @@ fn sets_owner<A: Allocator>(wanted: &Attrs<A>) -> bool
 fn sets_any<A: Allocator>(wanted: &Attrs<A>) -> bool
     ensures { result ≡ sets_any (wanted_view wanted.now) }
 {
-    wanted.size.is_some() || sets_acl(wanted) || sets_owner(wanted)
+    wanted.size.is_some() || sets_acl(wanted) || sets_owner(wanted) || sets_times(wanted)
 }
 
 /// Whether one of the two is present.
@@ -117,16 +118,21 @@ impl<A: Allocator + Copy> Realm<A> {
     }
 
     /// The values that the attributes set on an object. `Delay`: an allocation for the ACL fails.
-    fn wanted_on(&self, number: u64, args: &SetAttrArgs<'_>) -> Result<Attrs<A>, Status>
+    fn wanted_on(
+        &self,
+        times: bool,
+        number: u64,
+        args: &SetAttrArgs<'_>,
+    ) -> Result<Attrs<A>, Status>
         requires there { IsSome (object self.now.tree.world number) }
-        ensures wanted { IsWanted (sent_by self.now.tree.book (setattr_args_value args.now)
+        ensures wanted { IsWanted (sent_by times self.now.tree.book (setattr_args_value args.now)
             (kind_at (sight_of self.now) number)) result }
         ensures bounded { IfOk result (λ wanted. IfSome wanted.list IsBounded) }
     {
         let Some(node) = self.tree.object(number) else {
             unreachable!();
         };
-        self.wanted(node.kind(), &args.attributes)
+        self.wanted(times, node.kind(), &args.attributes)
     }
 
     /// Whether a tick is left for the attributes, and each stamp that they take.
@@ -229,13 +235,32 @@ impl<A: Allocator + Copy> Realm<A> {
     )
         requires tick { IsTick self.old.tree.world at.tick }
         requires stamps { is_some owner || is_some group ≡ true → self.old.tree.world.next_stamp < 2 ^ 63 }
-        ensures { self.new ≡ with_world (entitled number owner group before at self.old.tree.world) self.old }
+        ensures set { self.new ≡ with_world (entitled number owner group before at self.old.tree.world) self.old }
+        ensures tick { IsTick self.new.tree.world at.tick }
     {
         if is_either(owner, group) {
             let (old_owner, old_group) = before;
             let owner = owner.unwrap_or(old_owner);
             let group = group.unwrap_or(old_group);
             self.tree.set_owner(number, owner, group, at);
+        }
+    }
+
+    /// Sets the times of an object, if one of them is to be set.
+    fn set_times(
+        &mut self,
+        number: u64,
+        access: Option<SetTime>,
+        modify: Option<SetTime>,
+        at: At,
+    )
+        requires tick { IsTick self.old.tree.world at.tick }
+        ensures { self.new ≡ with_world (retimed number access modify at self.old.tree.world) self.old }
+    {
+        if access.is_some() || modify.is_some() {
+            let access = moment_set(at.moment, access);
+            let modify = moment_set(at.moment, modify);
+            self.tree.set_times(number, access, modify, at);
         }
     }
 
@@ -260,10 +285,12 @@ impl<A: Allocator + Copy> Realm<A> {
         };
         let before = (node.owner(), node.group());
         let (size, owner, group) = (wanted.size, wanted.owner, wanted.group);
+        let (access, modify) = (wanted.access, wanted.modify);
         let made = self.permissions(number, wanted)?;
         self.set_size(number, size, at)?;
         self.set_permissions(number, made, at);
         self.set_principals(number, owner, group, before, at);
+        self.set_times(number, access, modify, at);
         Ok(())
     }
 
@@ -310,9 +337,10 @@ impl<A: Allocator + Copy> Realm<A> {
             return Err(Status::Stale);
         }
         let limits = self.tree.limits();
-        let wanted = self.wanted_on(number, args)?;
+        let wanted = self.wanted_on(step.context.times, number, args)?;
         self.check_size(step.context, number, wanted.size, &args.stateid)?;
-        if !self.grants_sized(step, &Op::SetAttr(*args), wanted.size) {
+        let clock = clock_by(wanted.access, wanted.modify);
+        if !self.grants_sized(step, &Op::SetAttr(*args), wanted.size, clock) {
             return Err(Status::Access);
         }
         if !size_fits(limits, wanted.size) {

@@ -26,15 +26,15 @@ const RDATTR_ERROR: u32 = 11;
 /// More bytes than a bitmap of supported attributes and the length of their values take.
 const MOST_BEFORE: usize = 32;
 
-/// Neither an unsupported attribute nor rdattr_error can be compared.
-pub(crate) fn check_set(set: &Bitmap) -> Result<(), Status>
-    ensures { MatchResult result (λ done. set_fault (bitmap_value set.now) ≡ None)
-        (λ status. set_fault (bitmap_value set.now) ≡ Some status) }
+/// Neither an unsupported attribute nor rdattr_error can be compared, nor one that can only be set.
+pub(crate) fn check_set(times: bool, set: &Bitmap) -> Result<(), Status>
+    ensures { MatchResult result (λ done. set_fault times (bitmap_value set.now) ≡ None)
+        (λ status. set_fault times (bitmap_value set.now) ≡ Some status) }
 {
-    if !set.is_within(&Bitmap::supported()) {
+    if !set.is_within(&Bitmap::supported(times)) {
         return Err(Status::AttrNotSupp);
     }
-    if set.has(RDATTR_ERROR) {
+    if set.has(RDATTR_ERROR) || set.has_set_only() {
         return Err(Status::Inval);
     }
     Ok(())
@@ -103,7 +103,7 @@ impl<A: Allocator + Copy> Realm<A> {
         if self.tree.object(number).is_none() {
             return Err(Status::Stale);
         }
-        check_set(&args.attributes.set)?;
+        check_set(step.context.times, &args.attributes.set)?;
         if !self.grants_first(step, &Op::Verify(*args)) {
             return Err(Status::Access);
         }

@@ -45,7 +45,7 @@ impl<A: Allocator + Copy> Realm<A> {
         }
         let limits = self.tree.limits();
         self.check_stateid(step.context, number, &args.stateid, Purpose::ToWrite)?;
-        if !self.grants_sized(step, &Op::Write(*args), None) {
+        if !self.grants_sized(step, &Op::Write(*args), None, None) {
             return Err(Status::Access);
         }
         let data = args.data.bytes;

@@ -9,7 +9,7 @@ use Rattle.nfs_types.specs.MomentView.{moment_value}
 use Rattle.nfs_types.specs.declared.moment.Moment.{Moment}
 use Rattle.log_entries.specs.Forms.{entry}
 use Rattle.log_entries.specs.Entries.{Entry, Call, ClientExpired, Loaded, IsEntry, call_with, entry_value, entry_bytes, entry_in, meant, entry_at, then_others, entries_by, entries_in}
-use Rattle.log_entries.proofs.Moments.{moment_again}
+use Rattle.nfs_types.proofs.Moments.{moment_again}
 use Rattle.log_entries.proofs.Taking.{shorter}
 
 -- ---- one entry

@@ -14,8 +14,9 @@ use Rattle.xdr_wire.proofs.Canonical.{spelling_is}
 use Rattle.nfs_types.specs.Forms.{time}
 use Rattle.nfs_types.specs.declared.moment.Moment.{Moment}
 use Rattle.log_entries.specs.Forms.{bytes as text, call, entry}
-use Rattle.log_entries.specs.Entries.{Entry, Call, ClientExpired, Loaded, IsEntry, moment_in, call_with, entry_value, entry_bytes, entry_in, entry_at, then_others, entries_by, entries_in}
-use Rattle.log_entries.proofs.Moments.{value_of_moment}
+use Rattle.log_entries.specs.Entries.{Entry, Call, ClientExpired, Loaded, IsEntry, call_with, entry_value, entry_bytes, entry_in, entry_at, then_others, entries_by, entries_in}
+use Rattle.nfs_types.specs.MomentView.{moment_in}
+use Rattle.nfs_types.proofs.Moments.{value_of_moment}
 use Rattle.log_entries.proofs.Taking.{meant_by}
 
 call_is : (v : Value call) (o : Option Moment) (e : Entry) → moment_in v.0 ≡ o → option_map Call (option_map (call_with v) o) ≡ Some e → (let w : Value entry = inl v in w) ≡ entry_value e

@@ -4,11 +4,9 @@ use Rattle.std.specs.Prelude.{FitsSigned}
 use Rattle.std.specs.Int.{w64}
 use Rattle.std.specs.Option.{option_map}
 use Rattle.std.proofs.Common.{inl, inr}
-use Rattle.std.proofs.lemmas.Bool.{cases_lt}
 use Rattle.xdr_wire.specs.Xdr.{Value, spelling}
 use Rattle.xdr_wire.specs.Reading.{Read, read_at}
-use Rattle.nfs_types.specs.Forms.{time}
-use Rattle.nfs_types.specs.MomentView.{moment_value}
+use Rattle.nfs_types.specs.MomentView.{moment_value, moment_in}
 use Rattle.nfs_types.specs.declared.moment.Moment.{Moment}
 use Rattle.log_entries.specs.Forms.{call, entry}
 
@@ -59,14 +57,6 @@ IsEntry (ClientExpired client) = client < 2 ^ 64
 IsEntry (Loaded text) = IfSome text (λ t. length t < 2 ^ 32)
 
 -- ---- reading
-
--- the moment of these seconds and nanoseconds, if the nanoseconds are fewer than a billion
-abbrev pub moment_in : Value time → Option Moment
-moment_in v =
-    elim (cases_lt v.1 1000000000) [
-      | inl few ↦ Some (record { seconds = v.0; nanoseconds = v.1; is_fraction = few })
-      | inr many ↦ None
-    ]
 
 abbrev pub call_with : Value call → Moment → Called
 call_with v now = record { now = now; bytes = v.1.0; delayed = v.1.1.0; checksum = v.1.1.1 }

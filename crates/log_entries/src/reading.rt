@@ -3,7 +3,7 @@ ghost use Rattle.std.specs.Prelude.{◌≡◌, ◌≤◌, ◌<◌, ◌↔◌, []
 ghost use Rattle.std.specs.Option.{option_map};
 ghost use Rattle.xdr_wire.specs.Reading.{read_at};
 ghost use Rattle.log_entries.specs.Forms.{call};
-ghost use Rattle.log_entries.specs.Entries.{moment_in, call_in, meant, entry_at, entries_in};
+ghost use Rattle.log_entries.specs.Entries.{call_in, meant, entry_at, entries_in};
 ghost use Rattle.log_entries.specs.Views.{called_of, entry_of};
 
 use crate::entry::{CallEntry, Entry};
@@ -14,28 +14,14 @@ use xdr_wire::{Opaque, Reader, Wire};
 /// The moment, the record, the place of an operation and a checksum.
 type WrittenCall<'a> = ((i64, u32), (Opaque<'a, 0xffff_ffff>, (Option<u32>, u64)));
 
-/// The moment of seconds and nanoseconds, if it is one.
-fn moment_of(written: (i64, u32)) -> Option<Moment>
-    ensures { result ≡ moment_in written }
-{
-    let (seconds, nanoseconds) = written;
-    if nanoseconds >= 1_000_000_000 {
-        return None;
-    }
-    Some(Moment {
-        seconds,
-        nanoseconds,
-    })
-}
-
 /// Takes the call at the start, after its kind.
 fn take_call<'a>(reader: &mut Reader<'a>) -> Option<CallEntry<'a>>
     ensures { option_map (λ c. (called_of c, reader.new)) result ≡ meant call_in (read_at call reader.old) }
 {
     let written: WrittenCall<'a> = Wire::read(reader).ok()?;
-    let (now, (bytes, (delayed, checksum))) = written;
+    let ((seconds, nanoseconds), (bytes, (delayed, checksum))) = written;
     Some(CallEntry {
-        now: moment_of(now)?,
+        now: Moment::of(seconds, nanoseconds)?,
         bytes,
         delayed,
         checksum,

@@ -67,12 +67,15 @@ fn object_of(rt: &HostRuntime, alloc: Global, item: &Item) -> Result<NewObject<G
         group: item.metadata.gid(),
         list: set_mode(alloc, &none, item.kind, mode & PERMISSIONS)?,
         high: mode & HIGH,
+        time_access: None,
+        time_modify: moment(item.metadata.mtime(), item.metadata.mtime_nsec()),
     })
 }
 
 fn kept_of(item: &Item, number: u64) -> Kept {
     Kept {
         change: number,
+        time_access: None,
         time_modify: moment(item.metadata.mtime(), item.metadata.mtime_nsec()),
         time_metadata: moment(item.metadata.ctime(), item.metadata.ctime_nsec()),
         stamp: number,

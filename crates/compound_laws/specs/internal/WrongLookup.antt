@@ -1,15 +1,16 @@
 -- A LOOKUP that reveals whether a name exists before EXECUTE is checked, and two worlds that it distinguishes (RFC
 -- 8881, section 18.13).
-use Rattle.std.specs.Prelude.{ℕ, List, [], ◌∷◌}
+use Rattle.std.specs.Prelude.{ℕ, List, [], ◌∷◌, None}
 use Rattle.acl_list.specs.declared.entry.Kind.{Kind}
 use Rattle.acl_list.specs.declared.entry.Kind.TheVariants.{File, Directory}
 use Rattle.nfs_types.specs.Limits.{standard}
 use Rattle.node_tree.specs.World.{World, Object}
-use Rattle.node_tree.specs.Changes.{new_object, from_start}
+use Rattle.node_tree.specs.Changes.{epoch, new_object, from_start}
 
 -- an object with an empty access control list, which grants nothing
 abbrev pub closed : ℕ → Kind → Object
-closed number kind = new_object kind [] 0 0 [] 0 (record { stamp = number; at = from_start number })
+closed number kind =
+    new_object kind [] 0 0 [] 0 (record { stamp = number; at = from_start number; access = None; modify = epoch })
 
 -- a root, and in it a file of this name
 abbrev pub with_name : List ℕ → World

@@ -31,6 +31,7 @@ use Rattle.compound_run.specs.Sight.{Sight}
 use Rattle.compound_run.specs.Faults.{MayFault, fault_in, fault_in_may}
 use Rattle.compound_run.specs.ArgumentFaults.{wanted_may}
 use Rattle.compound_run.specs.Lists.{new_list, new_fits}
+use Rattle.compound_run.specs.Times.{first_access, first_modify}
 use Rattle.compound_run.specs.Values as values
 use Rattle.compound_run.specs.Questions.{Holds, is_valid}
 use Rattle.compound_run.specs.Rows.{first_row}
@@ -82,12 +83,12 @@ text_may draft = of (is_link draft.kind) (length draft.text == 0) (nat_lt MAX_TE
 
 -- the values that the attributes set, or their fault
 abbrev pub sent : Context → Value create_args → Result Wanted Status
-sent c v = wanted_of c.book (draft v).kind (set_of (created_attributes v)) (values_of (created_attributes v))
+sent c v = wanted_of c.times c.book (draft v).kind (set_of (created_attributes v)) (values_of (created_attributes v))
 
 pub sent_may : (c : Context) (v : Value create_args) → MayFault (fault_in (sent c v))
 sent_may c v =
     fault_in_may (sent c v)
-    (wanted_may c.book (draft v).kind (set_of (created_attributes v)) (values_of (created_attributes v)))
+    (wanted_may c.times c.book (draft v).kind (set_of (created_attributes v)) (values_of (created_attributes v)))
 
 abbrev pub wanted_in : Result Wanted Status → Wanted
 wanted_in (Ok wanted) = wanted
@@ -125,7 +126,12 @@ can_make wanted kind s directory = new_fits wanted kind (values.list_at s direct
 abbrev pub created : Context → Draft → Wanted → List Entry → ℕ → At → Object
 created c draft wanted parent stamp at =
     new_object draft.kind draft.text c.caller.uid (unwrap_or wanted.group c.caller.gid)
-    (new_list wanted draft.kind parent) (created_high wanted.mode) (record { stamp = stamp; at = at })
+    (new_list wanted draft.kind parent) (created_high wanted.mode) (record {
+      stamp = stamp;
+      at = at;
+      access = first_access c.times c.now wanted.access;
+      modify = first_modify c.now wanted.modify;
+    })
 
 -- the ACL of an object, empty if the object doesn't exist
 abbrev pub list_at : World → ℕ → List Entry

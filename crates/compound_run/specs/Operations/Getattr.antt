@@ -13,6 +13,7 @@ use Rattle.compound_run.specs.declared.filehandles.FileHandles.{FileHandles}
 use Rattle.compound_run.specs.Context.{Context}
 use Rattle.compound_run.specs.Sight.{Sight}
 use Rattle.compound_run.specs.Values.{attributes_at}
+use Rattle.compound_run.specs.Requested.{requested, is_readable}
 use Rattle.compound_run.specs.Rows.{first_row}
 use Rattle.compound_run.specs.Meaning.{Meaning, stays, with_handle, here, has_room}
 
@@ -29,10 +30,11 @@ getattr asked c h = record {
   number = (row kinds.GetAttr).number;
   caller = c.caller;
   questions = with_handle h.current
-      (first_row h (Known kinds.GetAttr asked)
-      ∷ has_room c (λ s. result_size (attributes_of c (here h) asked s))
+      (is_readable (requested c asked)
+      ∷ first_row h (Known kinds.GetAttr (requested c asked))
+      ∷ has_room c (λ s. result_size (attributes_of c (here h) (requested c asked) s))
       ∷ []);
-  answer = λ s. Done kinds.GetAttr (attributes_of c (here h) asked s);
+  answer = λ s. Done kinds.GetAttr (attributes_of c (here h) (requested c asked) s);
   effect = stays;
   goes = λ s. h;
 }

@@ -20,7 +20,7 @@ nverify v c h = record {
   number = (row kinds.NVerify).number;
   caller = c.caller;
   questions = with_handle h.current
-      (is_valid (set_fault (set_of v)) (set_may (set_of v))
+      (is_valid (set_fault c.times (set_of v)) (set_may c.times (set_of v))
       ∷ first_row h (Known kinds.NVerify v)
       ∷ Holds (λ s. not (is_same c (here h) v s)) statuses.Same tt
       ∷ []);

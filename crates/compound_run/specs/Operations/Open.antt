@@ -66,16 +66,16 @@ arguments_fault v =
 -- ---- the attributes of a file that OPEN may create
 
 -- the values that the attributes set on a file, or the fault of the attributes
-abbrev pub sent_with : Content → Value attributes → Result Wanted Status
-sent_with book set = wanted_of book File (set_of set) (values_of set)
+abbrev pub sent_with : (times : Bool) → Content → Value attributes → Result Wanted Status
+sent_with times book set = wanted_of times book File (set_of set) (values_of set)
 
-abbrev pub sent_by : Content → How → Result Wanted Status
-sent_by book NoCreate = Ok nothing
-sent_by book (Unchecked set) = sent_with book set
-sent_by book (Guarded set) = sent_with book set
+abbrev pub sent_by : (times : Bool) → Content → How → Result Wanted Status
+sent_by times book NoCreate = Ok nothing
+sent_by times book (Unchecked set) = sent_with times book set
+sent_by times book (Guarded set) = sent_with times book set
 
 abbrev pub sent : Context → How → Result Wanted Status
-sent c how = sent_by c.book how
+sent c how = sent_by c.times c.book how
 
 abbrev pub wanted : Context → Value open_args → Wanted
 wanted c v = wanted_in (sent c (how_of v))
@@ -208,8 +208,8 @@ arguments_may v =
 
 pub sent_may : (c : Context) (how : How) → IsValueOrFault (sent c how)
 sent_may c NoCreate = tt
-sent_may c (Unchecked set) = wanted_may c.book File (set_of set) (values_of set)
-sent_may c (Guarded set) = wanted_may c.book File (set_of set) (values_of set)
+sent_may c (Unchecked set) = wanted_may c.times c.book File (set_of set) (values_of set)
+sent_may c (Guarded set) = wanted_may c.times c.book File (set_of set) (values_of set)
 
 pub current_may : (claim : Claim) (kind : Kind) → MayFault (current_fault claim kind)
 current_may (ByName name) Directory = tt

@@ -30,6 +30,7 @@ use Rattle.compound_run.specs.Context.{Context}
 use Rattle.compound_run.specs.Sight.{Sight}
 use Rattle.compound_run.specs.Values.{attributes_at}
 use Rattle.compound_run.specs.Questions.{Question, Holds, Row}
+use Rattle.compound_run.specs.Requested.{requested, is_readable}
 use Rattle.compound_run.specs.Rows.{object_of, first_row}
 use Rattle.compound_run.specs.Meaning.{Meaning, stays, with_handle, here, is_directory}
 
@@ -89,7 +90,7 @@ judged_above c asked directory cookie s = map (judged_entry c asked s) (names_ab
 unfoldable pub listed : Context → Value readdir_args → ℕ → Sight → Result Listing (ListFault Demand)
 listed c v directory s =
     listing (readdir_limit (listed_at_most v) c.room)
-    (judged_above c (listed_attributes v) directory (listed_after v) s)
+    (judged_above c (requested c (listed_attributes v)) directory (listed_after v) s)
 
 abbrev pub refused_in : Result Listing (ListFault Demand) → Option Demand
 refused_in (Ok given) = None
@@ -125,6 +126,7 @@ readdir v c h = record {
   questions = with_handle h.current
       (is_directory (here h)
       ∷ is_cookie (listed_after v)
+      ∷ is_readable (requested c (listed_attributes v))
       ∷ first_row h (Known kinds.ReadDir v)
       ∷ refuses_none c v (here h)
       ∷ fits_some c v (here h)

@@ -20,7 +20,7 @@ use Rattle.nfs_ops.specs.Results.{Done}
 use Rattle.node_tree.specs.declared.at.At.{At}
 use Rattle.nfs_types.specs.Limits.{Limits}
 use Rattle.node_tree.specs.World.{World, Object, object, kind_of}
-use Rattle.node_tree.specs.Changes.{with_size, with_list, with_owner}
+use Rattle.node_tree.specs.Changes.{with_size, with_list, with_owner, with_times}
 use Rattle.node_tree.specs.Refusals.{has_left, resize_refusal}
 use Rattle.compound_run.specs.declared.filehandles.FileHandles.{FileHandles}
 use Rattle.compound_run.specs.declared.stateids.Purpose.TheVariants.{ToWrite}
@@ -29,6 +29,7 @@ use Rattle.compound_run.specs.Sight.{Sight, kind_at}
 use Rattle.compound_run.specs.Faults.{MayFault, fault_in, fault_in_may}
 use Rattle.compound_run.specs.ArgumentFaults.{wanted_may}
 use Rattle.compound_run.specs.Lists.{set_list, set_fits}
+use Rattle.compound_run.specs.Times.{clock_of, moment_set, sets_times}
 use Rattle.compound_run.specs.Values.{list_at}
 use Rattle.compound_run.specs.Questions.{Holds, Valid}
 use Rattle.compound_run.specs.Stateids.{stateid_fault, stateid_may}
@@ -39,15 +40,16 @@ use Rattle.compound_run.specs.Meaning.{Meaning, at, in_world, with_handle, here}
 -- ---- the attributes that are sent
 
 -- the values that the attributes set on an object of this type, or the fault of the attributes
-abbrev pub sent_by : Content → Value setattr_args → Kind → Result Wanted Status
-sent_by book v kind = wanted_of book kind (set_of (set_attributes v)) (values_of (set_attributes v))
+abbrev pub sent_by : (times : Bool) → Content → Value setattr_args → Kind → Result Wanted Status
+sent_by times book v kind = wanted_of times book kind (set_of (set_attributes v)) (values_of (set_attributes v))
 
 abbrev pub sent : Context → Value setattr_args → Kind → Result Wanted Status
-sent c v kind = sent_by c.book v kind
+sent c v kind = sent_by c.times c.book v kind
 
 pub sent_may : (c : Context) (v : Value setattr_args) (kind : Kind) → MayFault (fault_in (sent c v kind))
 sent_may c v kind =
-    fault_in_may (sent c v kind) (wanted_may c.book kind (set_of (set_attributes v)) (values_of (set_attributes v)))
+    fault_in_may (sent c v kind)
+    (wanted_may c.times c.book kind (set_of (set_attributes v)) (values_of (set_attributes v)))
 
 abbrev pub wanted : Context → Value setattr_args → Kind → Wanted
 wanted c v kind = wanted_in (sent c v kind)
@@ -97,7 +99,7 @@ abbrev pub sets_owner : Wanted → Bool
 sets_owner wanted = is_some wanted.owner || is_some wanted.group
 
 abbrev pub sets_any : Wanted → Bool
-sets_any wanted = is_some wanted.size || sets_acl wanted || sets_owner wanted
+sets_any wanted = is_some wanted.size || sets_acl wanted || sets_owner wanted || sets_times wanted
 
 abbrev pub stamps : Wanted → ℕ
 stamps wanted = (if sets_acl wanted then 1 else 0) + (if sets_owner wanted then 1 else 0)
@@ -128,9 +130,17 @@ owned number o wanted at w =
     if sets_owner wanted then with_owner w number (unwrap_or wanted.owner o.owner) (unwrap_or wanted.group o.group) at
     else w
 
+-- the times, last of all: a size that is set sets time_modify too
+abbrev pub timed : ℕ → Wanted → At → World → World
+timed number wanted at w =
+    if sets_times wanted
+    then with_times w number (moment_set at.moment wanted.access) (moment_set at.moment wanted.modify) at
+    else w
+
 -- the change, given the object as it was before
 abbrev pub set_on : ℕ → Object → Wanted → At → World → World
-set_on number o wanted at w = owned number o wanted at (listed number o wanted at (sized number wanted.size at w))
+set_on number o wanted at w =
+    timed number wanted at (owned number o wanted at (listed number o wanted at (sized number wanted.size at w)))
 
 unfoldable pub setting : ℕ → Wanted → At → World → World
 setting number wanted at w = option_map_or (λ o. set_on number o wanted at w) (object w number) w
@@ -147,6 +157,7 @@ setattr v c h = record {
       ∷ Valid (λ s. size_fault (wanted_on c v (here h) s).size c (here h) (set_stateid v) s)
       (λ s. size_may (wanted_on c v (here h) s).size c (here h) (set_stateid v) s)
       ∷ sized_row h (Known kinds.SetAttr v) (λ s. (wanted_on c v (here h) s).size)
+      (λ s. clock_of (wanted_on c v (here h) s))
       ∷ Holds (λ s. size_fits s.limits (wanted_on c v (here h) s).size) statuses.FBig tt
       ∷ Holds (λ s. has_space_to_set (wanted_on c v (here h) s) (here h) s) statuses.NoSpc tt
       ∷ []);

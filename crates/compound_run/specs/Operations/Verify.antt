@@ -1,10 +1,10 @@
 -- VERIFY (RFC 8881, section 18.31): OK if the attributes of the current object have these values.
-use Rattle.std.specs.Prelude.{ℕ, Bool, true, false, not, nat_eq, if◌then◌else◌, List, [], ◌∷◌, Option, Some, None}
+use Rattle.std.specs.Prelude.{ℕ, Bool, true, false, not, ◌||◌, nat_eq, if◌then◌else◌, List, [], ◌∷◌, Option, Some, None}
 use Rattle.std.specs.Cmp.Lexicographic.{pointwise}
 use Rattle.xdr_wire.specs.Xdr.{Value}
 use Rattle.nfs_types.specs.Forms.{attributes}
 use Rattle.nfs_types.specs.Sets.{has_number}
-use Rattle.nfs_types.specs.Attributes.{is_within, supported_words}
+use Rattle.nfs_types.specs.Attributes.{has_set_only, is_within, supported_words}
 use Rattle.nfs_types.specs.declared.status.Status.{Status}
 use Rattle.nfs_types.specs.declared.status.Status.TheVariants as statuses
 use Rattle.nfs_ops.specs.Forms.{verify_args}
@@ -22,15 +22,15 @@ use Rattle.compound_run.specs.Questions.{Holds, is_valid}
 use Rattle.compound_run.specs.Rows.{first_row}
 use Rattle.compound_run.specs.Meaning.{Meaning, stays, with_handle, here}
 
--- the fault of attributes that can't be compared: unsupported ones, and rdattr_error
-abbrev pub set_fault : List ℕ → Option Status
-set_fault set =
-    if not (is_within set supported_words) then Some statuses.AttrNotSupp
-    else if has_number set 11 then Some statuses.Inval
+-- the fault of attributes that can't be compared: unsupported ones, rdattr_error, and those that can only be set
+abbrev pub set_fault : (times : Bool) → List ℕ → Option Status
+set_fault times set =
+    if not (is_within set (supported_words times)) then Some statuses.AttrNotSupp
+    else if has_number set 11 || has_set_only set then Some statuses.Inval
     else None
 
-pub set_may : (set : List ℕ) → MayFault (set_fault set)
-set_may set = of (not (is_within set supported_words)) (has_number set 11)
+pub set_may : (times : Bool) (set : List ℕ) → MayFault (set_fault times set)
+set_may times set = of (not (is_within set (supported_words times))) (has_number set 11 || has_set_only set)
   where
     of : (a b : Bool) → MayFault (if a then Some statuses.AttrNotSupp else if b then Some statuses.Inval else None)
     of true b = tt
@@ -46,7 +46,7 @@ verify v c h = record {
   number = (row kinds.Verify).number;
   caller = c.caller;
   questions = with_handle h.current
-      (is_valid (set_fault (set_of v)) (set_may (set_of v))
+      (is_valid (set_fault c.times (set_of v)) (set_may c.times (set_of v))
       ∷ first_row h (Known kinds.Verify v)
       ∷ Holds (λ s. is_same c (here h) v s) statuses.NotSame tt
       ∷ []);

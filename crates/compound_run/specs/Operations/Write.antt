@@ -38,7 +38,7 @@ write v c h = record {
       (is_no_directory (here h)
       ∷ is_no_link (here h)
       ∷ has_stateid ToWrite c (here h) (write_stateid v)
-      ∷ sized_row h (Known kinds.Write v) (λ s. None)
+      ∷ sized_row h (Known kinds.Write v) (λ s. None) (λ s. None)
       ∷ Holds (λ s. fits s.limits (write_offset v) (written_bytes v)) statuses.FBig tt
       ∷ Holds (λ s. has_tick_for (written_bytes v) s) statuses.NoSpc tt
       ∷ []);

@@ -1,5 +1,5 @@
 -- The sessions of the code, as the definitions see them.
-use Rattle.std.specs.Prelude.{◌≤◌, ℕ, ◌+◌, ◌++◌, List, length, Option, Some}
+use Rattle.std.specs.Prelude.{◌≤◌, ℕ, ◌+◌, ◌++◌, Bool, List, length, Option, Some}
 use Rattle.std.specs.Prelude.{Ok}
 use Rattle.xdr_wire.specs.Buffer.{Buffer, Appends}
 use Rattle.xdr_wire.specs.Xdr.{Value}
@@ -53,11 +53,12 @@ sequence_outcome r =
     record { number = (row kinds.Sequence).number; outcome = Ok (Done kinds.Sequence (sequence_result_value r)) }
 
 -- the context of the first operation after a SEQUENCE
-abbrev pub context_after_sequence : Content → IncomingCall → Value sequence_args → NewCall → Context
-context_after_sequence book c v new = record {
+abbrev pub context_after_sequence : Content → (times : Bool) → IncomingCall → Value sequence_args → NewCall → Context
+context_after_sequence book times c v new = record {
   caller = member book c.caller.now;
   now = c.now;
   book = book;
+  times = times;
   calling = Some (calling_by v new);
   position = 1;
   count = c.compound.count;

@@ -17,7 +17,7 @@ returns-clause-answers g c =
     let given = sequence_outcome c.sequence_given-given.result in
     let outcome = c.sequence_given-given.ensures in
     let whole : new.reply_size - 24 + 24 ≡ new.reply_size = omega (arith, c.requires.has_slot.7) in
-    let d = context_after_sequence c.args.self.now.tree.book call v new in
+    let d = context_after_sequence c.args.self.now.tree.book c.args.self.now.tree.world.limits.times call v new in
     let room : first_room (new.reply_size - 24 + 24) tag - length (result_bytes given) ≡ first_room new.reply_size tag - length (result_bytes (sequence_done v new.highest_slot)) = λ i. first_room (whole i) tag - length (result_bytes (outcome i)) in
     let is : record d { room = first_room (new.reply_size - 24 + 24) tag - length (result_bytes given) } ≡ d = ap (λ (r : ℕ). record d { room = r }) room in
     sequenced_cached call.refused (new.reply_size - 24) (new.reply_size - 24) (record d { room = first_room (new.reply_size - 24 + 24) tag - length (result_bytes given) }) d tag v given (sequence_done v new.highest_slot) c.args.operations.now

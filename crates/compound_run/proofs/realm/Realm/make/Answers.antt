@@ -36,7 +36,8 @@ returns g c =
     let old = realm_of c.args.self.now in
     let created = world_created (context_at c.args.self.now c.args.step.context) c.args.step.handles (create_args_value c.args.args.now) c.in_ok-new.new (draft_view c.args.wanted.0) (wanted_view c.args.wanted.1) old.world c.args.directory.number c.in_ok-at.at
     c.requires.here c.requires.draft c.requires.wanted (search rules)
-    c.in_ok-new.ensures.kind c.in_ok-new.ensures.bytes (c.in_ok-new.ensures.owner ∙ ap (λ who. who.uid) c.member-caller.ensures) (c.in_ok-new.ensures.group ∙ ap (λ who. unwrap_or c.args.wanted.1.group who.gid) c.member-caller.ensures) c.in_ok-new.ensures.list c.in_ok-new.ensures.high in
+    c.in_ok-new.ensures.kind c.in_ok-new.ensures.bytes (c.in_ok-new.ensures.owner ∙ ap (λ who. who.uid) c.member-caller.ensures) (c.in_ok-new.ensures.group ∙ ap (λ who. unwrap_or c.args.wanted.1.group who.gid) c.member-caller.ensures) c.in_ok-new.ensures.list c.in_ok-new.ensures.high
+    c.in_ok-new.ensures.access c.in_ok-new.ensures.modify in
     let context = context_at c.args.self.now c.args.step.context in
     let v = create_args_value c.args.args.now in
     let bounds : new_fits (specs.wanted context v) (specs.draft v).kind (list_at old.world c.args.directory.number) ≡ true =

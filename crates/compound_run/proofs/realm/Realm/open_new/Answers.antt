@@ -142,8 +142,8 @@ returns g c =
     let when : c.in_ok-at.at ≡ at context w = some_is (has_left s.next_tick) (at context w) c.in_ok-at.at (sym c.tick.ensures.value ∙ ticks) in
     let made_file : with_new w d c.args.name.now (made c.in_ok-new.new w.next_stamp c.in_ok-at.at) c.in_ok-at.at ≡ file_in context v d None w =
     file_made context v c.in_ok-new.new (wanted_view c.args.wanted) w d c.args.name.now c.in_ok-at.at c.requires.claim c.requires.wanted when
-    (subst (λ (x : World). MakesFile context.caller x.limits (list_at x d) (wanted_view c.args.wanted) c.in_ok-new.new) worlds
-    (subst (λ (who : Identity). MakesFile who c.place.new.self.tree.world.limits (list_at c.place.new.self.tree.world d) (wanted_view c.args.wanted) c.in_ok-new.new) c.member-caller.ensures c.in_ok-new.ensures.made)) in
+    (subst (λ (x : World). MakesFile context.times context.now context.caller x.limits (list_at x d) (wanted_view c.args.wanted) c.in_ok-new.new) worlds
+    (subst (λ (who : Identity). MakesFile context.times context.now who c.place.new.self.tree.world.limits (list_at c.place.new.self.tree.world d) (wanted_view c.args.wanted) c.in_ok-new.new) c.member-caller.ensures c.in_ok-new.ensures.made)) in
     let added : realm_of c.add.new.self ≡ record (realm_of c.args.self.now) { world = file_in context v d None w } =
     ap realm_of c.in_ok-file.ensures.ok ∙ ap (λ (r : Realm). record r { world = with_new r.world d c.args.name.now (made c.in_ok-new.new r.world.next_stamp c.in_ok-at.at) c.in_ok-at.at }) same ∙ ap (λ x. record (realm_of c.args.self.now) { world = x }) made_file in
     let put : realm_of c.put_open-stateid.new.self ≡ record (with_open context v file (joined context v None s.opens) (realm_of c.args.self.now)) { world = file_in context v d None w } =

@@ -15,4 +15,4 @@ pub returns-clause-wanted : goal.returns-clause-wanted
 returns-clause-wanted g c =
     let there : object c.args.self.now.tree.world c.args.number ≡ Some c.in-Some.node.now = search rules in
     let same : c.kind.result ≡ kind_at (sight_of c.args.self.now) c.args.number = c.kind.ensures ∙ ap (λ (o : Option Object). unwrap_or (option_map (λ o. o.kind) o) File) (sym there) in
-    subst (λ (k : Kind). IsWanted (sent_by c.args.self.now.tree.book (setattr_args_value c.args.args.now) k) c.wanted.result) same c.wanted.ensures.wanted
+    subst (λ (k : Kind). IsWanted (sent_by c.args.times c.args.self.now.tree.book (setattr_args_value c.args.args.now) k) c.wanted.result) same c.wanted.ensures.wanted

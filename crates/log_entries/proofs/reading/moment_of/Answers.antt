@@ -1,8 +1,0 @@
-use Rattle.std.specs.Int.{w64}
-use Rattle.std.proofs.Common.{rules}
-use Rattle.std.proofs.lemmas.Int.{to_z-of_z}
-use Rattle.log_entries.proofs.Moments.{moment_made}
-use Rattle.log_entries.proofs.reading.moment_of.Goals as goal
-
-pub returns : goal.returns
-returns c = moment_made _ _ _ _ (to_z-of_z w64 c.args.written.0 (search rules))
