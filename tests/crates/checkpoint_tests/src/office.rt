@@ -32,6 +32,8 @@ fn add(alloc: Global, tree: &mut Tree<Global>, name: &[u8]) -> Option<u64> {
         group: 5,
         list: AclList::new(alloc),
         high: 0,
+        time_access: None,
+        time_modify: when.moment,
     };
     tree.add(ROOT, name, new, when).ok()
 }

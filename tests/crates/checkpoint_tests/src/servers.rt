@@ -52,6 +52,8 @@ fn add<A: Allocator + Copy>(
         group: 5,
         list: AclList::new(alloc),
         high: 0,
+        time_access: None,
+        time_modify: when.moment,
     };
     tree.add(ROOT, name, new, when).ok()?;
     Some(())

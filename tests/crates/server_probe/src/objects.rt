@@ -117,6 +117,8 @@ pub fn add(
         group: 0,
         list,
         high: 0,
+        time_access: None,
+        time_modify: at.moment,
     };
     Ok(tree.add(directory, name, new, at)?)
 }
@@ -142,6 +144,8 @@ fn add_file<A: Allocator + Copy>(
         group: 0,
         list,
         high: 0,
+        time_access: None,
+        time_modify: at.moment,
     };
     tree.add(root, b"f", new, at)?;
     Ok(())

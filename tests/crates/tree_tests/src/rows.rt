@@ -29,6 +29,7 @@ fn asked(demand: Option<Demand>) -> (u64, u64, u32) {
         None => (0, 0, 0),
         Some(Demand::Bits { object, mask }) => (object, 0, mask),
         Some(Demand::Removal { parent, target }) => (parent, target, 0),
+        Some(Demand::ServerTime { object }) => (object, 1, 0),
     }
 }
 

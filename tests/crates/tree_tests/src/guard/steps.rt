@@ -127,6 +127,8 @@ fn add(alloc: Global, guarded: &mut GuardedTree, name: &[u8], list: &[Entry]) ->
         group: 100,
         list,
         high: 0,
+        time_access: None,
+        time_modify: at.moment,
     };
     let directory = guarded.root();
     Ok(guarded.add(directory, name, new, at)?)

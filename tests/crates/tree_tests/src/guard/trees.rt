@@ -110,6 +110,8 @@ fn add<A: Allocator + Copy>(
         group: 100,
         list,
         high: 0,
+        time_access: None,
+        time_modify: EPOCH,
     };
     let at = At {
         tick,

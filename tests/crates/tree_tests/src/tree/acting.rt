@@ -81,6 +81,8 @@ pub fn add<A: Allocator + Copy>(
         group: 0,
         list,
         high: 0,
+        time_access: None,
+        time_modify: at.moment,
     };
     match tree.add(directory, name, new, at) {
         Ok(number) => Outcome::Made(number),

@@ -27,6 +27,8 @@ fn tree_with_file<A: Allocator + Copy>(alloc: A) -> Result<Tree<A>, TreeFault> {
         group: 0,
         list: AclList::new(alloc),
         high: 0,
+        time_access: None,
+        time_modify: EPOCH,
     };
     let _number = tree.add(ROOT, b"long", new, at(2))?;
     Ok(tree)

@@ -103,7 +103,12 @@ fn facts() -> ObjectFacts<'static> {
             seconds: 0,
             nanoseconds: 0,
         },
+        access: Moment {
+            seconds: 0,
+            nanoseconds: 0,
+        },
         most_bytes: 1_048_576,
+        times: false,
     }
 }
 

@@ -47,13 +47,18 @@ pub fn facts() -> ObjectFacts<'static> {
             seconds: 1,
             nanoseconds: 999_999_999,
         },
+        access: Moment {
+            seconds: 3,
+            nanoseconds: 4,
+        },
         most_bytes: 1_048_576,
+        times: true,
     }
 }
 
-/// Each attribute with the words of its value.
-static VALUES: [(u32, &[u32]); 30] = [
-    (0, &[3, 0xe818_3fff, 0x0cb0_003a, 0x0000_0800]),
+/// Each attribute with the words of its value. One that can only be set has none.
+static VALUES: [(u32, &[u32]); 36] = [
+    (0, &[3, 0xe818_bfff, 0x0cf9_a03a, 0x0000_0800]),
     (1, &[1]),
     (2, &[0]),
     (3, &[0, 7]),
@@ -83,6 +88,7 @@ static VALUES: [(u32, &[u32]); 30] = [
         ],
     ),
     (13, &[15]),
+    (15, &[1]),
     (19, &[16, 0, 0, 0, 2]),
     (20, &[0, 2]),
     (27, &[0, 0x0010_0000]),
@@ -93,8 +99,13 @@ static VALUES: [(u32, &[u32]); 30] = [
     (35, &[1]),
     (36, &[4, 0x3130_3031]),
     (37, &[3, 0x3130_3000]),
+    (45, &[0, 4096]),
+    (47, &[0, 3, 4]),
+    (48, &[]),
+    (51, &[0, 0, 1]),
     (52, &[u32::MAX, u32::MAX, 5]),
     (53, &[0, 1, 999_999_999]),
+    (54, &[]),
     (55, &[0, 2]),
     (58, &[0, 1, 0, 0, 0x1e_0187, 6, 0x4f57_4e45, 0x5240_0000]),
     (59, &[0, 1, 2, 0x60, 1, 3, 0x3130_3000]),
@@ -209,7 +220,7 @@ pub fn is_given(
 }
 
 fn is_all(alloc: Global, asked: Bitmap) -> Result<bool, AllocError> {
-    let want = all_values(alloc, &[3, 0xe818_3fff, 0x0cb0_003a, 0x0000_0800, 308])?;
+    let want = all_values(alloc, &[3, 0xe818_bfff, 0x0cf9_a03a, 0x0000_0800, 344])?;
     Ok(is_given(alloc, 1024, &facts(), asked, &want))
 }
 
@@ -224,5 +235,5 @@ fn all_attributes(rt: HostRuntime) {
     assert!(rt; is_all(rt.alloc(), asked) == Ok(true));
     assert!(rt; is_given(rt.alloc(), 8, &facts(), sets::only(255), &[0; 8]));
     assert!(rt; is_within(&asked, &asked));
-    assert!(rt; !is_within(&asked, &Bitmap::supported()));
+    assert!(rt; !is_within(&asked, &Bitmap::supported(false)));
 }

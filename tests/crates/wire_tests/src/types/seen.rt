@@ -3,7 +3,7 @@ use crate::given;
 use crate::types::{object, sets};
 use nfs_types::{
     Ace, Aces, Acl41, Attributes, Bitmap, ClientAttributes, GivenAttributes, SeenAttributes,
-    Status, read_given, write_given,
+    SentTime, Status, read_given, write_given,
 };
 use std::alloc::Global;
 use std::process::Abort;
@@ -160,6 +160,11 @@ static CLIENT_ATTRIBUTES: &[u32] = &[
     0x3130_3000,
     0,
     1,
+    0,
+    5,
+    6,
+    0,
+    1,
     1,
     2,
     3,
@@ -186,7 +191,7 @@ fn is_printed(alloc: Global, room: usize, all: &ClientAttributes<'_>, want: &[u8
 
 fn is_written_as(alloc: Global, all: &ClientAttributes<'_>, words: &[u32]) -> bool {
     match given::bytes_of(alloc, words) {
-        Ok(want) => is_printed(alloc, 96, all, &want) == (true, true),
+        Ok(want) => is_printed(alloc, 116, all, &want) == (true, true),
         Err(_) => false,
     }
 }
@@ -201,6 +206,8 @@ fn values_of<'a>(aces: &'a [Ace<'a>]) -> ClientAttributes<'a> {
         mode: Some(0o640),
         owner: Opaque::new(b"0"),
         group: Opaque::new(b"100"),
+        access: Some(SentTime::Server),
+        modify: Some(SentTime::Client(5, 6)),
         dacl: Aces::new(aces).map(|entries| Acl41 { flags: 0, entries }),
         sacl: Aces::new(&[]).map(|entries| Acl41 { flags: 1, entries }),
     }
@@ -208,8 +215,8 @@ fn values_of<'a>(aces: &'a [Ace<'a>]) -> ClientAttributes<'a> {
 
 fn see_client_attributes(rt: &impl Abort, alloc: Global, all: &ClientAttributes<'_>) {
     assert!(rt; is_written_as(alloc, all, client_words()));
-    assert!(rt; is_printed(alloc, 95, all, b"") == (false, true));
-    assert!(rt; given::is_written_as(alloc, 12, all.set(), &[2, 0x1812, 0x0c00_0032]));
+    assert!(rt; is_printed(alloc, 115, all, b"") == (false, true));
+    assert!(rt; given::is_written_as(alloc, 12, all.set(), &[2, 0x1812, 0x0c41_0032]));
 }
 
 /// A client writes values in the order of their numbers; with a byte less of room, nothing.

@@ -22,7 +22,7 @@ pub fn attrs<A: Allocator + Copy>(
     bytes: &[u8],
 ) -> Result<Attrs<A>, AttrsFault> {
     match read::<Attributes>(bytes) {
-        (Ok(sent), 0) => read_attrs(alloc, book, kind, &sent),
+        (Ok(sent), 0) => read_attrs(alloc, false, book, kind, &sent),
         _ => Err(AttrsFault::Refused(Status::BadXdr)),
     }
 }
