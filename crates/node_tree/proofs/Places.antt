@@ -1,6 +1,6 @@
 -- Objects in places, after a change.
 use Rattle.std.proofs.Common.{◌≡◌, ◌≢◌, ℕ, ◌+◌, ◌<◌, Bool, true, false, cond, List, [], ◌∷◌, length, refl, ap, sym, ◌∙◌, subst, Some, None, arith, inl, inr}
-use Rattle.std.specs.Prelude.{Option, ◌⊎◌, is_some, IsSome}
+use Rattle.std.specs.Prelude.{Option, ◌⊎◌, count_by, is_some, IsSome}
 use Rattle.std.specs.Ordering.{nat_cmp, match_ordering, is_eq}
 use Rattle.std.specs.declared.cmp.Ordering.TheVariants.{Less, Equal, Greater}
 use Rattle.std.specs.Map.{lookup, set_value, remove_entry, keys_of}
@@ -267,3 +267,13 @@ none_next low next es rises = elim (lookup (is_at (nat_cmp next)) es) as (λ o. 
   | None ↦ λ _. refl
   | Some o ↦ λ is. let below : next < next = number-below low next es next o rises is in absurd (omega arith)
 ] refl
+
+-- ---- no objects
+
+pub IsPlaced-none : (nodes : Slab Object) (places : List (ℕ × ℕ)) → IsStrictlySortedBy nat_cmp (keys_of places) → nodes.slots ≡ [] → places ≡ [] → IsPlaced nodes places
+IsPlaced-none nodes places rises free none = record {
+  ordered = rises;
+  held = λ n p is. let no : at n places ≡ None = ap (at n) none in cc;
+  apart = λ j k p is _. let no : at j places ≡ None = ap (at j) none in cc;
+  counted = ap (λ (s : List (Option Object)). count_by is_some s) free ∙ sym (ap (λ (l : List (ℕ × ℕ)). length l) none);
+}

@@ -1,5 +1,5 @@
 -- The sample tree is sound: it is a root after two additions, except for the root's last change.
-use Rattle.std.proofs.Common.{◌≡◌, ℕ, ◌<◌, List, [], refl, sym, subst, lit<, lit≤}
+use Rattle.std.proofs.Common.{◌≡◌, ℕ, ◌<◌, List, [], None, refl, sym, subst, lit<, lit≤}
 use Rattle.std.specs.Prelude.{codes}
 use Rattle.acl_list.specs.declared.entry.Entry.{Entry}
 use Rattle.acl_list.specs.declared.entry.Kind.{Kind}
@@ -46,18 +46,18 @@ allowed = record { known = refl; connections = lit≤ tt; clients = lit≤ tt; s
 -- the sample with any access control lists, so that none is computed
 module _ (of_root of_notes of_pub : List Entry) (root_bounded : IsBounded of_root) (notes_bounded : IsBounded of_notes) (pub_bounded : IsBounded of_pub) where
   abbrev thing : ℕ → Kind → List ℕ → ℕ → ℕ → List Entry → Object
-  thing number kind bytes owner group list = record { kind = kind; bytes = bytes; owner = owner; group = group; list = list; high = 0; change = number; time_modify = epoch; time_metadata = epoch; stamp = number }
+  thing number kind bytes owner group list = record { kind = kind; bytes = bytes; owner = owner; group = group; list = list; high = 0; change = number; time_access = None; time_modify = epoch; time_metadata = epoch; stamp = number }
 
   abbrev first : World
-  first = with_new (alone standard (root_of 0 0 of_root 0)) 1 (codes "notes") (thing 2 File (codes "hi") 1001 100 of_notes) (record { tick = 2; moment = epoch })
+  first = with_new (alone standard (root_of standard 0 0 of_root 0)) 1 (codes "notes") (thing 2 File (codes "hi") 1001 100 of_notes) (record { tick = 2; moment = epoch })
 
   abbrev second : World
   second = with_new first 1 (codes "pub") (thing 3 Directory [] 0 0 of_pub) (record { tick = 3; moment = epoch })
 
   is_sound : IsSound (with_change second 1 1)
   is_sound =
-      let root = IsSound-alone standard allowed (root_of 0 0 of_root 0) refl refl root_bounded refl refl in
-      let one = IsSound-with_new (alone standard (root_of 0 0 of_root 0)) root 1 (codes "notes") (thing 2 File (codes "hi") 1001 100 of_notes) (record { tick = 2; moment = epoch }) (record { due = lit≤ tt; fresh = lit≤ tt; left = lit< tt }) refl refl (lit≤ tt)
+      let root = IsSound-alone standard allowed (root_of standard 0 0 of_root 0) refl refl root_bounded refl refl in
+      let one = IsSound-with_new (alone standard (root_of standard 0 0 of_root 0)) root 1 (codes "notes") (thing 2 File (codes "hi") 1001 100 of_notes) (record { tick = 2; moment = epoch }) (record { due = lit≤ tt; fresh = lit≤ tt; left = lit< tt }) refl refl (lit≤ tt)
       (record { list = notes_bounded; bytes = lit≤ tt; change = lit< tt }) refl (lit< tt) (lit< tt) (lit< tt) (lit< tt) (lit< tt) in
       let two = IsSound-with_new first one 1 (codes "pub") (thing 3 Directory [] 0 0 of_pub) (record { tick = 3; moment = epoch }) (record { due = lit≤ tt; fresh = lit≤ tt; left = lit< tt }) refl refl (lit≤ tt)
       (record { list = pub_bounded; bytes = lit≤ tt; change = lit< tt }) refl (lit< tt) (lit< tt) (lit< tt) (lit< tt) (lit< tt) in

@@ -1,16 +1,17 @@
--- A sound world stays sound when the bytes, the access control list (ACL) or the owner of an object is set.
+-- A sound world stays sound when the bytes, the access control list (ACL), the owner or the times of an object are set.
 use Rattle.std.proofs.Common.{◌≡◌, ℕ, ◌+◌, ◌<◌, ◌≤◌, ◌^◌, List, [], length, max, refl, ap, sym, ◌∙◌, subst, arith, Some, None, inl, inr}
-use Rattle.std.specs.Prelude.{Option}
-use Rattle.std.specs.Option.{option_map, option_map_or}
+use Rattle.std.specs.Prelude.{Option, unwrap_or}
+use Rattle.std.specs.Option.{option_or, option_map, option_map_or}
 use Rattle.std.proofs.Math.Logic.{⊎_elim}
 use Rattle.std.proofs.lemmas.Grind.{common_steps}
 use Rattle.std.proofs.lemmas.List.FromFn.{length-range_with_len}
 use Rattle.acl_list.specs.declared.entry.Entry.{Entry}
 use Rattle.acl_list.specs.declared.entry.Kind.TheVariants.{File}
 use Rattle.acl_shape.specs.Bounds.{IsBounded}
+use Rattle.nfs_types.specs.declared.moment.Moment.{Moment}
 use Rattle.node_tree.specs.declared.at.At.{At}
 use Rattle.node_tree.specs.World.{World, Object, object, kind_of, bytes_of}
-use Rattle.node_tree.specs.Changes.{changed, touched, retold, written, resized, with_bytes, with_size, with_list, with_owner}
+use Rattle.node_tree.specs.Changes.{changed, touched, retold, written, resized, with_bytes, with_size, with_list, with_owner, with_times}
 use Rattle.node_tree.specs.Judged.{Judged, judged, KeepsJudged}
 use Rattle.node_tree.specs.Sound.{stamp_of, IsRooted, IsStamped, IsFit, IsSound, IsTick, most_bytes}
 use Rattle.node_tree.proofs.Objects.{option_map-changed, Changed, Kept, changed_cases, read_off}
@@ -143,3 +144,35 @@ IsSound-with_owner w number owner group at sound tick left =
 
 pub KeepsJudged-with_owner : (w : World) (number owner group : ℕ) (at : At) → KeepsJudged w (with_owner w number owner group at)
 KeepsJudged-with_owner w number owner group at = KeepsJudged-with_new_stamp w number (λ o. retold at (record o { owner = owner; group = group; stamp = w.next_stamp })) at (λ o. refl)
+
+-- ---- the times of an object
+
+-- the times of an object after they are set
+abbrev timed : Option Moment → Option Moment → At → Object → Object
+timed access modify at o = retold at (record o { time_access = option_or access o.time_access; time_modify = unwrap_or modify o.time_modify })
+
+pub IsSound-with_times : (w : World) (number : ℕ) (access modify : Option Moment) (at : At) → IsSound w → IsTick w at.tick → IsSound (with_times w number access modify at)
+IsSound-with_times w number access modify at sound tick =
+    let f = timed access modify at in
+    let kinds : kind_of (with_times w number access modify at) ≡ kind_of w = fun_ext (option_map-changed (λ o. o.kind) number f w.objects (λ o. refl)) in
+    let stamps : stamp_of (with_times w number access modify at) ≡ stamp_of w = fun_ext (option_map-changed (λ o. o.stamp) number f w.objects (λ o. refl)) in
+    let held = IsHeld-changed number f w.objects w.next_number (at.tick + 1)
+    (λ o is fit. record { list = fit.list; bytes = fit.bytes; change = let goal : at.tick < at.tick + 1 = omega arith in goal })
+    (IsHeld-later w.objects w.next_number w.next_tick (at.tick + 1) tick.fresh (held_in w sound)) in
+    record {
+      rooted = subst (λ k. IsRooted k w.names) (sym kinds) sound.rooted;
+      stamped = subst (λ s. IsStamped s w.next_stamp) (sym stamps) sound.stamped;
+      numbered = held.numbered;
+      listed = sound.listed;
+      few = held.few;
+      fit = held.fit;
+      limited = sound.limited;
+      counted = record { numbers = sound.counted.numbers; ticks = (let goal : at.tick + 1 ≤ 2 ^ 63 = omega (arith, tick.left) in goal); stamps = sound.counted.stamps; cookies = sound.counted.cookies };
+      allowed = sound.allowed;
+    }
+
+pub KeepsJudged-with_times : (w : World) (number : ℕ) (access modify : Option Moment) (at : At) → KeepsJudged w (with_times w number access modify at)
+KeepsJudged-with_times w number access modify at = record {
+  stamps_rise = omega arith;
+  same = λ k j is _. sym (option_map-changed judged number (timed access modify at) w.objects (λ o. refl) k) ∙ is;
+}

@@ -1,10 +1,10 @@
 -- The changes of the world (RFC 8881, sections 5.8, 18.4, 18.9, 18.25, 18.26, 18.30 and 18.32). A change takes a tick,
 -- and each object that it changes gets the tick. The changes of one operation share it.
 use Rattle.std.specs.Prelude.{ℕ, pos, ◌+◌, ◌-◌, not, ◌&&◌, nat_le, nat_lt, if◌then◌else◌, max, List, [], ◌∷◌, ◌++◌}
-use Rattle.std.specs.Prelude.{length, map, filter, take, replicate, slice_index, Option}
+use Rattle.std.specs.Prelude.{length, map, filter, take, replicate, slice_index, Option, Some, None, unwrap_or}
 use Rattle.std.proofs.Common.{lit<}
 use Rattle.std.specs.List.{range_with_len}
-use Rattle.std.specs.Option.{option_map_or}
+use Rattle.std.specs.Option.{option_or, option_map_or}
 use Rattle.std.specs.Map.{lookup, set_value}
 use Rattle.std.specs.BTreeMap.{is_at, insert_entry}
 use Rattle.std.specs.Ordering.{nat_cmp}
@@ -33,14 +33,18 @@ without number objects = filter (λ e. not (is_at (nat_cmp number) e.0)) objects
 abbrev pub touched : At → Object → Object
 touched at o = record o { change = at.tick; time_modify = at.moment; time_metadata = at.moment }
 
--- a change of an access control list (ACL), an owner, a group or the number of names, or a move
+-- a change of an access control list (ACL), an owner, a group, times or the number of names, or a move
 abbrev pub retold : At → Object → Object
 retold at o = record o { change = at.tick; time_metadata = at.moment }
 
--- how an object is made: its stamp, and its tick and moment
+-- how an object is made: its stamp, its tick and moment, and its first times of the last access and of the last change
+-- of its content
 pub record Birth : Type 0 where
   pub stamp : ℕ
   pub at : At
+  -- None: it is time_modify
+  pub access : Option Moment
+  pub modify : Moment
 
 -- a new object, of this type, bytes, owner, group, ACL and high bits of the mode
 abbrev pub new_object : Kind → List ℕ → ℕ → ℕ → List Entry → ℕ → Birth → Object
@@ -52,14 +56,20 @@ new_object kind bytes owner group list high birth = record {
   list = list;
   high = high;
   change = birth.at.tick;
-  time_modify = birth.at.moment;
+  time_access = birth.access;
+  time_modify = birth.modify;
   time_metadata = birth.at.moment;
   stamp = birth.stamp;
 }
 
 abbrev pub made : {A : Type 0} → NewObject A → ℕ → At → Object
 made new stamp at =
-    new_object new.kind new.bytes.items new.owner new.group new.list new.high (record { stamp = stamp; at = at })
+    new_object new.kind new.bytes.items new.owner new.group new.list new.high
+    (record { stamp = stamp; at = at; access = new.time_access; modify = new.time_modify })
+
+-- the first time of the last access, which only some profiles keep beside time_modify
+abbrev pub first_access : Limits → Moment → Option Moment
+first_access l m = if l.times then Some m else None
 
 -- ---- a new tree
 
@@ -71,9 +81,11 @@ epoch = record { seconds = pos 0; nanoseconds = 0; is_fraction = lit< tt }
 abbrev pub from_start : ℕ → At
 from_start tick = record { tick = tick; moment = epoch }
 
--- a new root
-abbrev pub root_of : ℕ → ℕ → List Entry → ℕ → Object
-root_of owner group list high = new_object Directory [] owner group list high (record { stamp = 1; at = from_start 1 })
+-- a new root, under these limits
+abbrev pub root_of : Limits → ℕ → ℕ → List Entry → ℕ → Object
+root_of limits owner group list high =
+    new_object Directory [] owner group list high
+    (record { stamp = 1; at = from_start 1; access = first_access limits epoch; modify = epoch })
 
 -- a root alone
 abbrev pub alone : Limits → Object → World
@@ -191,7 +203,7 @@ with_size w file size at = record (ticked w at) {
   objects = changed file (λ o. touched at (record o { bytes = resized o.bytes size })) w.objects;
 }
 
--- ---- the ACL, owner and group of an object
+-- ---- the ACL, owner, group and times of an object
 
 -- an ACL is set, with the high bits of the mode (SETATTR)
 abbrev pub with_list : World → ℕ → List Entry → ℕ → At → World
@@ -205,4 +217,16 @@ abbrev pub with_owner : World → ℕ → ℕ → ℕ → At → World
 with_owner w number owner group at = record (ticked w at) {
   objects = changed number (λ o. retold at (record o { owner = owner; group = group; stamp = w.next_stamp })) w.objects;
   next_stamp = w.next_stamp + 1;
+}
+
+-- times are set, those that are given (SETATTR)
+abbrev pub with_times : World → ℕ → Option Moment → Option Moment → At → World
+with_times w number access modify at = record (ticked w at) {
+  objects =
+      changed number
+      (λ o. retold at (record o {
+        time_access = option_or access o.time_access;
+        time_modify = unwrap_or modify o.time_modify;
+      }))
+      w.objects;
 }

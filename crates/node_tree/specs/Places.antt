@@ -1,5 +1,5 @@
 -- Objects in places, and the place of each number.
-use Rattle.std.specs.Prelude.{ℕ, ◌≡◌, List, [], length, map, IsSome, Some}
+use Rattle.std.specs.Prelude.{ℕ, ◌≡◌, List, [], length, map, IsSome, Some, None}
 use Rattle.std.specs.List.Sorted.{IsStrictlySortedBy}
 use Rattle.std.specs.Option.{option_map_or}
 use Rattle.std.specs.Map.{lookup, keys_of}
@@ -8,11 +8,12 @@ use Rattle.std.specs.Ordering.{nat_cmp}
 use Rattle.acl_list.specs.declared.entry.Kind.TheVariants.{Directory}
 use Rattle.slab.specs.Slab.{Slab, get, slab_len}
 use Rattle.node_tree.specs.World.{Object}
-use Rattle.node_tree.specs.Changes.{new_object, from_start}
+use Rattle.node_tree.specs.Changes.{new_object, from_start, epoch}
 
 -- the object of an empty place, which no number has
 abbrev pub unseen : Object
-unseen = new_object Directory [] 0 0 [] 0 (record { stamp = 0; at = from_start 0 })
+unseen =
+    new_object Directory [] 0 0 [] 0 (record { stamp = 0; at = from_start 0; access = None; modify = epoch })
 
 -- the object in a place
 abbrev pub in_place : Slab Object → ℕ → Object

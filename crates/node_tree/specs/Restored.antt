@@ -35,6 +35,7 @@ kept_object new kept = record {
   list = new.list;
   high = new.high;
   change = kept.change;
+  time_access = kept.time_access;
   time_modify = kept.time_modify;
   time_metadata = kept.time_metadata;
   stamp = kept.stamp;

@@ -26,6 +26,8 @@ pub record Object : Type 0 where
   pub high : ℕ
   -- the tick of the last change
   pub change : ℕ
+  -- the time of the last access. None: it is time_modify, as always in the standard profile.
+  pub time_access : Option Moment
   pub time_modify : Moment
   pub time_metadata : Moment
   -- the stamp, which changes whenever the ACL, the owner or the group is set

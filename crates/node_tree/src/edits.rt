@@ -1,6 +1,6 @@
 //! Changes of the objects.
-ghost use Rattle.std.specs.Prelude.{◌≡◌, ◌+◌, ◌<◌, ◌^◌, ◌==◌, if◌then◌else◌, length, OnOk, OnErr, Some};
-ghost use Rattle.std.specs.Option.{option_map, option_map_or};
+ghost use Rattle.std.specs.Prelude.{◌≡◌, ◌+◌, ◌<◌, ◌^◌, ◌==◌, if◌then◌else◌, length, OnOk, OnErr, Some, unwrap_or};
+ghost use Rattle.std.specs.Option.{option_or, option_map, option_map_or};
 ghost use Rattle.std.specs.Map.{lookup};
 ghost use Rattle.std.specs.BTreeMap.{is_at};
 ghost use Rattle.std.specs.Ordering.{nat_cmp};
@@ -9,6 +9,7 @@ ghost use Rattle.node_tree.specs.Changes.{changed, touched, retold, without, wri
 use crate::at::At;
 use crate::node_table::NodeTable;
 use acl_list::{AclList, Kind};
+use nfs_types::Moment;
 use std::alloc::{AllocError, Allocator};
 
 /// A change of bytes, of a size or of a directory's names.
@@ -20,7 +21,7 @@ pub fn touch<A: Allocator>(objects: &mut NodeTable<A>, number: u64, at: At)
     }
 }
 
-/// A change of an access control list (ACL), an owner, a group or the number of names, or a move.
+/// A change of an access control list (ACL), an owner, a group, times or the number of names, or a move.
 pub fn retell<A: Allocator>(objects: &mut NodeTable<A>, number: u64, at: At)
     ensures { objects.new ≡ changed number (retold at) objects.old }
 {
@@ -153,5 +154,23 @@ pub fn set_owner<A: Allocator>(
 {
     if let Some(node) = objects.get_mut(number) {
         node.set_owner(owner, group, stamp, at);
+    }
+}
+
+/// Sets the times of an object that are given.
+pub fn set_times<A: Allocator>(
+    objects: &mut NodeTable<A>,
+    number: u64,
+    access: Option<Moment>,
+    modify: Option<Moment>,
+    at: At,
+)
+    ensures { objects.new ≡ changed number (λ o. retold at (record o {
+      time_access = option_or access o.time_access;
+      time_modify = unwrap_or modify o.time_modify;
+    })) objects.old }
+{
+    if let Some(node) = objects.get_mut(number) {
+        node.set_times(access, modify, at);
     }
 }

@@ -1,6 +1,7 @@
 //! An object with the attributes that decide access.
 ghost use Rattle.std.specs.Prelude.{◌≡◌, ◌+◌, ◌<◌, ◌≤◌, ◌^◌, ◌++◌, length, take, drop, OnOk, OnErr, IfOk};
-ghost use Rattle.std.specs.Prelude.{IfSome, IfNone, slice_index, ◌≢◌};
+ghost use Rattle.std.specs.Prelude.{IfSome, IfNone, slice_index, ◌≢◌, unwrap_or};
+ghost use Rattle.std.specs.Option.{option_or};
 ghost use Rattle.acl_list.specs.declared.entry.Kind.TheVariants as kinds;
 ghost use Rattle.acl_shape.specs.Inherited.{is_directory};
 ghost use Rattle.node_tree.specs.Restored.{kept_object};
@@ -30,6 +31,10 @@ pub struct NewObject<A: Allocator = Global> {
     pub list: AclList<A>,
     /// The bits 0o7000 of the mode.
     pub high: u32,
+    /// The first time of the last access (RFC 8881, section 5.8.2.37). `None`: it is `time_modify`.
+    pub time_access: Option<Moment>,
+    /// The first time of the last change of the bytes or names (RFC 8881, section 5.8.2.43).
+    pub time_modify: Moment,
 }
 
 /// The attributes of an object that a checkpoint stores beside its parts.
@@ -37,6 +42,8 @@ pub struct NewObject<A: Allocator = Global> {
 pub struct Kept {
     /// The tick of the last change.
     pub change: u64,
+    /// The time of the last access. `None`: it is `time_modify`.
+    pub time_access: Option<Moment>,
     /// The time of the last change of the bytes or names.
     pub time_modify: Moment,
     /// The time of the last change.
@@ -54,6 +61,7 @@ pub struct Node<A: Allocator = Global> {
     list: AclList<A>,
     high: u32,
     change: u64,
+    time_access: Option<Moment>,
     time_modify: Moment,
     time_metadata: Moment,
     stamp: u64,
@@ -73,6 +81,7 @@ impl<A: Allocator> Model for Node<A> {
       list = n.list;
       high = n.high;
       change = n.change;
+      time_access = n.time_access;
       time_modify = n.time_modify;
       time_metadata = n.time_metadata;
       stamp = n.stamp;
@@ -136,6 +145,13 @@ impl<A: Allocator> Node<A> {
         self.change
     }
 
+    /// The time of the last access, the attribute `time_access`. `None`: it is `time_modify`.
+    pub fn time_access(&self) -> Option<Moment>
+        ensures { result ≡ self.now.time_access }
+    {
+        self.time_access
+    }
+
     /// The time of the last change of the bytes or names, the attribute `time_modify`.
     pub fn time_modify(&self) -> Moment
         ensures { result ≡ self.now.time_modify }
@@ -183,7 +199,7 @@ impl<A: Allocator> Node<A> {
         self.time_metadata = at.moment;
     }
 
-    /// A change of an ACL, an owner, a group or the number of names, or a move.
+    /// A change of an ACL, an owner, a group, times or the number of names, or a move.
     pub(crate) fn retell(&mut self, at: At)
         ensures { self.new ≡ retold at self.old }
     {
@@ -211,6 +227,18 @@ impl<A: Allocator> Node<A> {
         self.retell(at);
     }
 
+    /// Sets the times that are given.
+    pub(crate) fn set_times(&mut self, access: Option<Moment>, modify: Option<Moment>, at: At)
+        ensures { self.new ≡ retold at (record self.old {
+          time_access = option_or access self.old.time_access;
+          time_modify = unwrap_or modify self.old.time_modify;
+        }) }
+    {
+        self.time_access = access.or(self.time_access);
+        self.time_modify = modify.unwrap_or(self.time_modify);
+        self.retell(at);
+    }
+
     /// Sets the size of a file: truncates it, or appends zeros. It allocates no memory.
     pub(crate) fn resize(&mut self, size: usize, at: At)
         requires { self.old.kind ≡ kinds.File }
@@ -234,7 +262,8 @@ impl<A: Allocator + Copy> Node<A> {
             list: new.list,
             high: new.high,
             change: at.tick,
-            time_modify: at.moment,
+            time_access: new.time_access,
+            time_modify: new.time_modify,
             time_metadata: at.moment,
             stamp,
         })
@@ -252,6 +281,7 @@ impl<A: Allocator + Copy> Node<A> {
             list: new.list,
             high: new.high,
             change: kept.change,
+            time_access: kept.time_access,
             time_modify: kept.time_modify,
             time_metadata: kept.time_metadata,
             stamp: kept.stamp,

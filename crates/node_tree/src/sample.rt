@@ -17,6 +17,7 @@ use std::alloc::{AllocError, Allocator};
 fn file<A: Allocator + Copy>(alloc: A) -> Result<Node<A>, AllocError>
     ensures { IfOk result (λ node. node ≡ sample_object 2 Kind.File (codes "hi") 1001 100 0x1a0) }
 {
+    let at = from_start(2);
     let new = NewObject {
         kind: Kind::File,
         bytes: Vec::from_slice(alloc, b"hi")?,
@@ -24,14 +25,17 @@ fn file<A: Allocator + Copy>(alloc: A) -> Result<Node<A>, AllocError>
         group: 100,
         list: set_mode(alloc, &AclList::new(alloc), Kind::File, 0o640)?,
         high: 0,
+        time_access: None,
+        time_modify: at.moment,
     };
-    Node::made(alloc, new, 2, from_start(2))
+    Node::made(alloc, new, 2, at)
 }
 
 /// A directory of the sample. Its stamp and its last change are its number.
 fn directory<A: Allocator + Copy>(alloc: A, number: u64, mode: u32) -> Result<Node<A>, AllocError>
     ensures { IfOk result (λ node. node ≡ sample_object number Kind.Directory [] 0 0 mode) }
 {
+    let at = from_start(number);
     let new = NewObject {
         kind: Kind::Directory,
         bytes: Vec::new(alloc),
@@ -39,8 +43,10 @@ fn directory<A: Allocator + Copy>(alloc: A, number: u64, mode: u32) -> Result<No
         group: 0,
         list: set_mode(alloc, &AclList::new(alloc), Kind::Directory, mode)?,
         high: 0,
+        time_access: None,
+        time_modify: at.moment,
     };
-    Node::made(alloc, new, number, from_start(number))
+    Node::made(alloc, new, number, at)
 }
 
 /// The names in the root.

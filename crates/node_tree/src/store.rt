@@ -16,7 +16,7 @@ ghost use Rattle.node_tree.specs.Ways.{is_within};
 ghost use Rattle.node_tree.specs.Contents.{most_held};
 ghost use Rattle.node_tree.specs.Changes.{alone, made, changed, touched, retold, without, released, other_names};
 ghost use Rattle.node_tree.specs.Changes.{written, resized, given_name, with_new, with_link, without_name, with_move};
-ghost use Rattle.node_tree.specs.Changes.{with_bytes, with_size, with_list, with_owner};
+ghost use Rattle.node_tree.specs.Changes.{with_bytes, with_size, with_list, with_owner, with_times};
 ghost use Rattle.node_tree.specs.Sound.{Rises};
 ghost use Rattle.node_tree.specs.Refusals.{add_refusal, link_refusal, has_left, has_room, has_object_room, may_link};
 ghost use Rattle.node_tree.specs.Refusals.{may_name, may_add, is_below, may_replace, may_move};
@@ -31,7 +31,7 @@ use crate::name_table::NameTable;
 use crate::node::{Kept, NewObject, Node};
 use crate::node_table::NodeTable;
 use acl_list::{AclList, Kind};
-use nfs_types::Limits;
+use nfs_types::{Limits, Moment};
 use std::alloc::{AllocError, Allocator, Global};
 use std::marker::Model;
 
@@ -539,6 +539,15 @@ impl<A: Allocator + Copy> Store<A> {
         edits::set_owner(&mut self.objects, number, owner, group, self.next_stamp, at);
         self.next_tick = at.tick + 1;
         self.next_stamp += 1;
+    }
+
+    /// Sets the times that are given.
+    pub fn set_times(&mut self, number: u64, access: Option<Moment>, modify: Option<Moment>, at: At)
+        requires { at.tick < 2 ^ 63 }
+        ensures { self.new ≡ with_times self.old number access modify at }
+    {
+        edits::set_times(&mut self.objects, number, access, modify, at);
+        self.next_tick = at.tick + 1;
     }
 }
 

@@ -8,7 +8,7 @@ ghost use Rattle.node_tree.specs.Limits.{ROOT, MAX_NAME};
 ghost use Rattle.node_tree.specs.World.{FindsAgain, object, kind_of, bytes_of, bytes_at, child_named, name_after};
 ghost use Rattle.node_tree.specs.World.{has_entries, link_count, parent_of};
 ghost use Rattle.node_tree.specs.Changes.{alone, root_of, made, with_new, with_link, unlinked, renamed, with_write};
-ghost use Rattle.node_tree.specs.Changes.{with_size, with_list, with_owner};
+ghost use Rattle.node_tree.specs.Changes.{with_size, with_list, with_owner, with_times};
 ghost use Rattle.node_tree.specs.Refusals.{add_refusal, link_refusal, unlink_refusal, plan_refusal, space_refusal};
 ghost use Rattle.node_tree.specs.Refusals.{rename_refusal, write_refusal, resize_refusal};
 ghost use Rattle.node_tree.specs.Moves.{IsMove, IsPlan};
@@ -18,7 +18,7 @@ ghost use Rattle.node_tree.specs.Parts.{number_after, any_after};
 ghost use Rattle.node_tree.specs.Sample.{sample};
 ghost use Rattle.node_tree.specs.Sound.{IsSound, IsTick, IsNextName, most_bytes};
 
-use crate::at::{At, from_start};
+use crate::at::{At, first_access, from_start};
 use crate::entry::DirEntry;
 use crate::fault::TreeFault;
 use crate::limits::ROOT;
@@ -27,7 +27,7 @@ use crate::node::{NewObject, Node};
 use crate::store::Store;
 use acl_list::{AclList, Kind};
 use acl_shape::bounds_are_kept;
-use nfs_types::Limits;
+use nfs_types::{Limits, Moment};
 use std::alloc::{AllocError, Allocator, Global};
 use std::marker::Model;
 
@@ -265,9 +265,10 @@ impl<A: Allocator + Copy> Tree<A> {
         high: u32,
     ) -> Result<Self, AllocError>
         requires { IsBounded list }
-        ensures { IfOk result (λ tree. tree ≡ alone limits (root_of owner group list high)) }
+        ensures { IfOk result (λ tree. tree ≡ alone limits (root_of limits owner group list high)) }
     {
         let _profile = limits.profile();
+        let at = from_start(1);
         let root = NewObject {
             kind: Kind::Directory,
             bytes: Vec::new(alloc),
@@ -275,9 +276,11 @@ impl<A: Allocator + Copy> Tree<A> {
             group,
             list,
             high,
+            time_access: first_access(limits, at.moment),
+            time_modify: at.moment,
         };
         Ok(Tree {
-            store: Store::new(alloc, limits, Node::made(alloc, root, 1, from_start(1))?)?,
+            store: Store::new(alloc, limits, Node::made(alloc, root, 1, at)?)?,
         })
     }
 
@@ -510,5 +513,15 @@ impl<A: Allocator + Copy> Tree<A> {
         ensures judged { KeepsJudged self.old self.new }
     {
         self.store.set_owner(number, owner, group, at);
+    }
+
+    /// Sets the times of an object, those that are given (SETATTR: RFC 8881, section 18.30). It takes no stamp and
+    /// allocates no memory. The object's `time_metadata` is set.
+    pub fn set_times(&mut self, number: u64, access: Option<Moment>, modify: Option<Moment>, at: At)
+        requires { IsTick self.old at.tick }
+        ensures value { self.new ≡ with_times self.old number access modify at }
+        ensures judged { KeepsJudged self.old self.new }
+    {
+        self.store.set_times(number, access, modify, at);
     }
 }
