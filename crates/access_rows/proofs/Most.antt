@@ -1,17 +1,20 @@
 -- The number of access control lists (ACLs) that decide an operation's demands.
-use Rattle.std.proofs.Common.{◌≡◌, ℕ, ◌+◌, ◌≤◌, ◌==◌, arith, cond, Bool, true, false, List, ap}
+use Rattle.std.proofs.Common.{◌≡◌, ℕ, ◌+◌, ◌≤◌, ◌==◌, arith, cond, Bool, true, false, List}
 use Rattle.std.specs.Prelude.{[], ◌∷◌, Option, Some, None}
+use Rattle.std.specs.Option.{option_map}
 use Rattle.acl_list.specs.declared.mask.TheConstants.{EXECUTE}
 use Rattle.nfs_ops.specs.Operations.{Operation, Known}
 use Rattle.nfs_ops.specs.Parts as parts
 use Rattle.nfs_ops.specs.Parts.{How, Claim, claim_of, how_of, open_access}
 use Rattle.nfs_ops.specs.declared.OpKind.TheVariants as kinds
 use Rattle.access_rows.specs.declared.demand.Demand.{Demand}
-use Rattle.access_rows.specs.declared.demand.Demand.TheVariants.{Bits}
+use Rattle.access_rows.specs.declared.demand.Demand.TheVariants.{Bits, ServerTime}
 use Rattle.access_rows.specs.declared.facts.Object.{Object}
+use Rattle.access_rows.specs.declared.facts.Clock.{Clock}
+use Rattle.access_rows.specs.declared.facts.Clock.TheVariants.{Server, Client}
 use Rattle.access_rows.specs.declared.facts.First.{First}
 use Rattle.access_rows.specs.declared.facts.Second.{Second}
-use Rattle.access_rows.specs.Rows.{Demands, lists_in, most_first, most_second, most_of_entry, bits, removal, row, opening, open_first, open_second, is_one, is_creating, rename_first, rename_second, first_demands, second_demands, entry_demands}
+use Rattle.access_rows.specs.Rows.{Demands, lists_in, most_first, most_second, most_of_entry, bits, removal, is_servers, row, opening, open_first, open_second, is_one, is_creating, rename_first, first_demands, second_demands, entry_demands}
 
 -- the number of ACLs for one demand
 abbrev lists_at : Option Demand → ℕ
@@ -32,6 +35,15 @@ removal_few : (a b : Option Object) → lists_at (removal a b) ≤ 2
 removal_few (Some a) (Some b) = omega arith
 removal_few (Some a) None = omega arith
 removal_few None b = omega arith
+
+timing_few : (clock : Option Clock) (o : Option Object) → lists_at (cond (is_servers clock) (option_map (λ x. ServerTime x.number) o) None) ≤ 1
+timing_few (Some Server) (Some o) = omega arith
+timing_few (Some Server) None = omega arith
+timing_few (Some Client) o = omega arith
+timing_few None o = omega arith
+
+two_few : (a b : Option Demand) → lists_at a ≤ 1 → lists_at b ≤ 1 → lists_in (a ∷ b ∷ []) ≤ 2
+two_few a b ha hb = omega (arith, more a (b ∷ []), ha, hb)
 
 row_few : (d : Option Demand) → lists_at d ≤ 1 → lists_in (row d) ≤ 2
 row_few d h = omega (arith, more d (None ∷ []), h)
@@ -77,7 +89,7 @@ first_few (Known kinds.ReadDir v) facts = row_few _ (bits_few facts.current _)
 first_few (Known kinds.ReadLink v) facts = row_few _ (bits_few facts.current _)
 first_few (Known kinds.Remove v) facts = row_few _ (bits_few facts.current _)
 first_few (Known kinds.Rename v) facts = rename_first_few facts
-first_few (Known kinds.SetAttr v) facts = row_few _ (bits_few facts.current _)
+first_few (Known kinds.SetAttr v) facts = two_few _ _ (bits_few facts.current _) (timing_few facts.clock facts.current)
 first_few (Known kinds.Verify v) facts = row_few _ (bits_few facts.current _)
 first_few (Known kinds.Write v) facts = row_few _ (bits_few facts.current _)
 first_few _ facts = omega arith
@@ -103,6 +115,3 @@ second_few _ facts = omega arith
 
 pub entry_few : (set : List ℕ) (entry : Option Object) → lists_in (entry_demands set entry) ≤ most_of_entry
 entry_few set entry = two_few _ _ (bits_few entry _) (bits_few entry _)
-  where
-    two_few : (a b : Option Demand) → lists_at a ≤ 1 → lists_at b ≤ 1 → lists_in (a ∷ b ∷ []) ≤ 2
-    two_few a b ha hb = omega (arith, more a (b ∷ []), ha, hb)

@@ -3,13 +3,13 @@
 use Rattle.std.specs.Prelude.{ℕ, ◌+◌, ◌%◌, Bool, true, false, ◌==◌, ◌||◌, nat_le, if◌then◌else◌, List, [], ◌∷◌}
 use Rattle.std.specs.Prelude.{length, Option, Some, None, bit_or}
 use Rattle.std.specs.List.{list_any}
-use Rattle.std.specs.Option.{option_map_or}
+use Rattle.std.specs.Option.{option_map, option_map_or}
 use Rattle.acl_list.specs.declared.entry.Kind.{Kind}
 use Rattle.acl_list.specs.declared.entry.Kind.TheVariants.{File, Directory, Link as LinkKind}
 use Rattle.acl_list.specs.declared.mask.TheConstants.{READ_DATA, LIST_DIRECTORY, WRITE_DATA, ADD_FILE, APPEND_DATA}
 use Rattle.acl_list.specs.declared.mask.TheConstants.{ADD_SUBDIRECTORY, EXECUTE, READ_ATTRIBUTES, READ_ACL, WRITE_ACL}
-use Rattle.acl_list.specs.declared.mask.TheConstants.{WRITE_OWNER}
-use Rattle.nfs_types.specs.Attributes.{numbers_read_by, numbers_set_by, supported_words}
+use Rattle.acl_list.specs.declared.mask.TheConstants.{WRITE_ATTRIBUTES, WRITE_OWNER}
+use Rattle.nfs_types.specs.Attributes.{numbers_read_by, numbers_set_by, all_words}
 use Rattle.nfs_types.specs.Common.{without}
 use Rattle.nfs_types.specs.Sets.{has_number}
 use Rattle.nfs_ops.specs.Operations.{Operation, Known}
@@ -18,8 +18,10 @@ use Rattle.nfs_ops.specs.Parts.{Created, How, Claim, created_type, open_access, 
 use Rattle.nfs_ops.specs.Parts.{set_attributes, write_offset, written_bytes}
 use Rattle.nfs_ops.specs.declared.OpKind.TheVariants as kinds
 use Rattle.access_rows.specs.declared.demand.Demand.{Demand}
-use Rattle.access_rows.specs.declared.demand.Demand.TheVariants.{Bits, Removal}
+use Rattle.access_rows.specs.declared.demand.Demand.TheVariants.{Bits, Removal, ServerTime}
 use Rattle.access_rows.specs.declared.facts.Object.{Object}
+use Rattle.access_rows.specs.declared.facts.Clock.{Clock}
+use Rattle.access_rows.specs.declared.facts.Clock.TheVariants.{Server, Client}
 use Rattle.access_rows.specs.declared.facts.First.{First}
 use Rattle.access_rows.specs.declared.facts.Second.{Second}
 
@@ -36,6 +38,23 @@ removal (Some parent) (Some target) = Some (Removal parent.number target.number)
 removal (Some parent) None = None
 removal None target = None
 
+-- whether the times that are set are the server's alone
+abbrev pub is_servers : Option Clock → Bool
+is_servers (Some Server) = true
+is_servers (Some Client) = false
+is_servers None = false
+
+-- whether a time of the client's is set
+abbrev pub is_clients : Option Clock → Bool
+is_clients (Some Server) = false
+is_clients (Some Client) = true
+is_clients None = false
+
+-- times of the current object that are the server's alone (section 6.2.1.3.1)
+abbrev pub server_time : First → Option Demand
+server_time facts =
+    if is_servers facts.clock then option_map (λ o. ServerTime o.number) facts.current else None
+
 -- the demands of a phase, in order; a place may be empty
 abbrev pub Demands : Type 0
 Demands = List (Option Demand)
@@ -50,10 +69,11 @@ one_of_three a = a ∷ None ∷ None ∷ []
 
 -- ---- how many access control lists (ACLs) are read for them
 
--- the ACLs of the target and of its parent decide on a removal
+-- The ACLs of the target and of its parent decide on a removal. One ACL decides on each other demand.
 abbrev pub lists_of : Demand → ℕ
 lists_of (Bits object mask) = 1
 lists_of (Removal parent target) = 2
+lists_of (ServerTime object) = 1
 
 abbrev pub lists_in : Demands → ℕ
 lists_in [] = 0
@@ -93,9 +113,10 @@ abbrev pub kept_where : Bool → List ℕ → List ℕ → List ℕ
 kept_where true numbers words = words
 kept_where false numbers words = without words numbers
 
--- the supported attributes that are returned for an object, by whether READ_ATTRIBUTES and READ_ACL are granted
+-- the attributes that are returned for an object, by whether READ_ATTRIBUTES and READ_ACL are granted, where times can
+-- be set
 abbrev pub granted_words : (attributes list : Bool) → List ℕ
-granted_words attributes list = kept_where list list_giving (kept_where attributes governed supported_words)
+granted_words attributes list = kept_where list list_giving (kept_where attributes governed all_words)
 
 -- the attributes set by WRITE_ACL, and by WRITE_OWNER
 abbrev pub list_setting : List ℕ
@@ -110,13 +131,15 @@ sizing_mask (Some size) (Some new) = if nat_le new size then WRITE_DATA else bit
 sizing_mask (Some size) None = bit_or WRITE_DATA APPEND_DATA
 sizing_mask None new = bit_or WRITE_DATA APPEND_DATA
 
--- size as above, the other attributes by WRITE_ACL and by WRITE_OWNER
+-- size as above, a time of the client's by WRITE_ATTRIBUTES, the other attributes by WRITE_ACL and by WRITE_OWNER
 abbrev pub setting_mask : List ℕ → First → ℕ
 setting_mask set facts =
     bit_or
+    (bit_or
     (bit_or (if has_number set 4 then sizing_mask facts.size facts.new_size else 0)
     (if has_any set list_setting then WRITE_ACL else 0))
-    (if has_any set owner_setting then WRITE_OWNER else 0)
+    (if has_any set owner_setting then WRITE_OWNER else 0))
+    (if is_clients facts.clock then WRITE_ATTRIBUTES else 0)
 
 -- Writing within the file, or nothing, needs WRITE_DATA; writing at its end APPEND_DATA; across the end or past it
 -- both.
@@ -217,7 +240,8 @@ first_demands (Known kinds.ReadDir v) facts = row (bits facts.current LIST_DIREC
 first_demands (Known kinds.ReadLink v) facts = row (bits facts.current READ_DATA)
 first_demands (Known kinds.Remove v) facts = row (bits facts.current EXECUTE)
 first_demands (Known kinds.Rename v) facts = rename_first facts
-first_demands (Known kinds.SetAttr v) facts = row (bits facts.current (setting_mask (set_of (set_attributes v)) facts))
+first_demands (Known kinds.SetAttr v) facts =
+    bits facts.current (setting_mask (set_of (set_attributes v)) facts) ∷ server_time facts ∷ []
 first_demands (Known kinds.Verify v) facts = row (bits facts.current (reading_mask (set_of v)))
 first_demands (Known kinds.Write v) facts =
     row (bits facts.current (writing_mask facts.size (write_offset v) (length (written_bytes v))))

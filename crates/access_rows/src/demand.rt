@@ -18,4 +18,9 @@ pub enum Demand {
         /// The number of the object that has the name.
         target: u64,
     },
+    /// A time is set to the server's own: WRITE_ATTRIBUTES or WRITE_DATA (RFC 8881, section 6.2.1.3.1).
+    ServerTime {
+        /// The number of the object.
+        object: u64,
+    },
 }

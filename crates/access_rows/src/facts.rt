@@ -11,6 +11,15 @@ pub struct Object {
     pub kind: Kind,
 }
 
+/// Whose time SETATTR sets.
+#[derive(Clone, Copy, Debug, PartialEq, Eq)]
+pub enum Clock {
+    /// The times that are set are the server's alone.
+    Server,
+    /// A time of the client's is set, also beside one of the server's.
+    Client,
+}
+
 /// The facts that are known before an operation looks up a name. `None`: the operation doesn't have the fact.
 #[derive(Clone, Copy, Debug, PartialEq, Eq)]
 pub struct First {
@@ -22,20 +31,23 @@ pub struct First {
     pub size: Option<u64>,
     /// For SETATTR, the size to be set, in bytes.
     pub new_size: Option<u64>,
+    /// For SETATTR, whose time is set. `None`: no time is set.
+    pub clock: Option<Clock>,
 }
 
 impl First {
     ghost use Rattle.std.specs.Prelude.{◌≡◌, None};
 
-    /// The facts of these objects, without a size.
+    /// The facts of these objects, without a size. No time is set.
     pub fn of(current: Option<Object>, saved: Option<Object>) -> Self
-        ensures { result ≡ record { current = current; saved = saved; size = None; new_size = None } }
+        ensures { result ≡ record { current = current; saved = saved; size = None; new_size = None; clock = None } }
     {
         First {
             current,
             saved,
             size: None,
             new_size: None,
+            clock: None,
         }
     }
 }

@@ -7,6 +7,6 @@ mod rights;
 mod rows;
 
 pub use demand::Demand;
-pub use facts::{First, Object, Second};
+pub use facts::{Clock, First, Object, Second};
 pub use rights::{Rights, rights_of};
 pub use rows::{entry_demands, first_demands, granted_attributes, second_demands};

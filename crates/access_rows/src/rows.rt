@@ -9,7 +9,7 @@ ghost use Rattle.nfs_ops.specs.Views.{create_type_value, open_how_value, open_cl
 ghost use Rattle.access_rows.specs.Rows as specs;
 
 use crate::demand::Demand;
-use crate::facts::{First, Object, Second};
+use crate::facts::{Clock, First, Object, Second};
 use acl_list::{Kind, mask};
 use nfs_ops::{CreateType, Op, OpenArgs, OpenClaim, OpenHow};
 use nfs_types::{Attribute, Bitmap, READ_BY_ACL, READ_BY_ATTRIBUTES, SET_BY_ACL, SET_BY_OWNER};
@@ -33,9 +33,12 @@ use nfs_types::{Attribute, Bitmap, READ_BY_ACL, READ_BY_ATTRIBUTES, SET_BY_ACL, 
 /// | RENAME | EXECUTE on the source directory, then on the target directory if it is another; then |
 /// | | the removal of the source, ADD_FILE or ADD_SUBDIRECTORY on the target directory, |
 /// | | the removal of a replaced target |
-/// | GETATTR, VERIFY, NVERIFY | READ_ATTRIBUTES for 3, 4, 33, 35, 36, 37, 52 and 53; READ_ACL for 12, 58 and 59 |
+/// | GETATTR, VERIFY, NVERIFY | READ_ATTRIBUTES for 3, 4, 33, 35, 36, 37, 45, 47, 52 and 53; |
+/// | | READ_ACL for 12, 58 and 59 |
 /// | SETATTR | for a size WRITE_DATA, and APPEND_DATA too if the file grows |
 /// | | for mode, acl, dacl and sacl WRITE_ACL; for owner and group WRITE_OWNER |
+/// | | for a time of the client's WRITE_ATTRIBUTES |
+/// | | for times that are the server's alone, a demand of its own: WRITE_ATTRIBUTES or WRITE_DATA |
 /// | all others, ACCESS among them | nothing |
 ///
 /// The demands after a "then" are those of `second_demands`. Permissions on one object in one phase are one demand.
@@ -59,7 +62,7 @@ pub fn first_demands(op: &Op<'_>, facts: &First) -> [Option<Demand>; 2]
         Op::Rename(_) => rename_first(facts),
         Op::SetAttr(args) => [
             bits(facts.current, setting_mask(&args.attributes.set, facts)),
-            None,
+            server_time(facts),
         ],
         Op::Verify(args) => [
             bits(facts.current, reading_mask(&args.attributes.set)),
@@ -129,6 +132,19 @@ fn removal(parent: Option<Object>, target: Option<Object>) -> Option<Demand>
     }
 }
 
+/// The setting of a time of the current object to the server's own. `None`: no time is set or the client's is, or the
+/// object doesn't exist.
+fn server_time(facts: &First) -> Option<Demand>
+    ensures { result ≡ specs.server_time facts.now }
+{
+    match (facts.clock, facts.current) {
+        (Some(Clock::Server), Some(current)) => Some(Demand::ServerTime {
+            object: current.number,
+        }),
+        _ => None,
+    }
+}
+
 // ---- the permissions that depend on the arguments
 
 /// READ_ATTRIBUTES, if one of these attributes needs it.
@@ -160,13 +176,13 @@ fn reading_mask(set: &Bitmap) -> u32
     attributes_mask(set) | list_mask(set)
 }
 
-/// The supported attributes that are returned for an object, by whether READ_ATTRIBUTES (`attributes`) and READ_ACL
-/// (`list`) are granted. Attributes that need a permission which isn't granted are left out (RFC 8881, section
-/// 6.2.1.3.1).
+/// The attributes that are returned for an object, by whether READ_ATTRIBUTES (`attributes`) and READ_ACL (`list`) are
+/// granted. Those of times and of space are among them. Attributes that need a permission which isn't granted are left
+/// out (RFC 8881, section 6.2.1.3.1).
 pub fn granted_attributes(attributes: bool, list: bool) -> Bitmap
     ensures { bitmap_value result ≡ specs.granted_words attributes list }
 {
-    let mut set = Bitmap::supported();
+    let mut set = Bitmap::supported(true);
     if !attributes {
         set = set.without(&READ_BY_ATTRIBUTES);
     }
@@ -183,7 +199,7 @@ fn has_any(set: &Bitmap, numbers: &[u32]) -> bool
     numbers.iter().any(|number| set.has(*number))
 }
 
-/// The permissions for setting these attributes.
+/// The permissions for setting these attributes. A time of the client's needs WRITE_ATTRIBUTES.
 fn setting_mask(set: &Bitmap, facts: &First) -> u32
     ensures { result ≡ specs.setting_mask (bitmap_value set.now) facts.now }
 {
@@ -202,7 +218,11 @@ fn setting_mask(set: &Bitmap, facts: &First) -> u32
     } else {
         0
     };
-    size | list | owner
+    let time = match facts.clock {
+        Some(Clock::Client) => mask::WRITE_ATTRIBUTES,
+        Some(Clock::Server) | None => 0,
+    };
+    size | list | owner | time
 }
 
 /// The permissions for setting a size: growing needs APPEND_DATA too.
