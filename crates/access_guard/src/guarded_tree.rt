@@ -8,7 +8,7 @@ ghost use Rattle.acl_shape.specs.Bounds.{IsBounded};
 ghost use Rattle.node_tree.specs.World.{FindsAgain, object, kind_of, bytes_of, bytes_at, child_named, name_after};
 ghost use Rattle.node_tree.specs.World.{has_entries, link_count, parent_of};
 ghost use Rattle.node_tree.specs.Changes.{made, with_new, with_link, unlinked, renamed, with_write, with_size};
-ghost use Rattle.node_tree.specs.Changes.{with_list, with_owner};
+ghost use Rattle.node_tree.specs.Changes.{with_list, with_owner, with_times};
 ghost use Rattle.node_tree.specs.Refusals.{add_refusal, link_refusal, unlink_refusal, plan_refusal, space_refusal};
 ghost use Rattle.node_tree.specs.Refusals.{write_refusal, resize_refusal};
 ghost use Rattle.node_tree.specs.Moves.{IsMove, IsPlan};
@@ -29,7 +29,7 @@ use crate::guard::Guard;
 use crate::trail::MOST_HELD;
 use access_rows::Demand;
 use acl_list::{AclList, Caller, Kind};
-use nfs_types::Limits;
+use nfs_types::{Limits, Moment};
 use node_tree::{At, DirEntry, Move, NewObject, Node, Plan, ROOT, Tree, TreeFault};
 use std::alloc::{AllocError, Allocator, Global};
 use std::hash::RandomState;
@@ -416,5 +416,19 @@ impl<A: Allocator + Copy> GuardedTree<A> {
         ensures { self.new ≡ record self.old { world = with_owner self.old.world number owner group at } }
     {
         self.tree.set_owner(number, owner, group, at);
+    }
+
+    /// As [`Tree::set_times`].
+    pub fn set_times(
+        &mut self,
+        number: u64,
+        access: Option<Moment>,
+        modify: Option<Moment>,
+        at: At,
+    )
+        requires tick { IsTick self.old.world at.tick }
+        ensures { self.new ≡ record self.old { world = with_times self.old.world number access modify at } }
+    {
+        self.tree.set_times(number, access, modify, at);
     }
 }
