@@ -7,7 +7,7 @@ use Rattle.lru.specs.LruCache.{promoted}
 use Rattle.acl_list.specs.declared.answer.Summary.{Summary}
 use Rattle.node_tree.specs.Judged.{Judged}
 use Rattle.access_rows.specs.declared.demand.Demand.{Demand}
-use Rattle.access_rows.specs.declared.demand.Demand.TheVariants.{Bits, Removal}
+use Rattle.access_rows.specs.declared.demand.Demand.TheVariants.{Bits, Removal, ServerTime}
 use Rattle.access_guard.specs.declared.memory.Key.{Key}
 use Rattle.access_guard.specs.Asker.{Asker, member_of}
 use Rattle.access_guard.specs.Keys.{is_key}
@@ -36,6 +36,7 @@ looks-at asker (Some j) old new h = let one = one_look j asker old new h in ((ne
 looks-for : (lists : Lists) (asker : Asker) (demand : Demand) (old new : Memory) → LooksUpFor lists asker demand old new
     → AreLookUps old.capacity (looks_for lists asker demand) old.remembered new.remembered × (new.capacity ≡ old.capacity)
 looks-for lists asker (Bits object mask) old new h = looks-at asker (lists object) old new h
+looks-for lists asker (ServerTime object) old new h = looks-at asker (lists object) old new h
 looks-for lists asker (Removal parent target) old new (between, first, second) =
     let one = looks-at asker (lists target) old between first in
     let two = looks-at asker (lists parent) between new second in
@@ -46,6 +47,7 @@ pub walk-leaves : (lists : Lists) (demand : Demand) (silent : Bool) (m : Memory)
 walk-leaves lists demand true m = (refl, refl)
 walk-leaves lists (Bits object mask) false m = (refl, refl)
 walk-leaves lists (Removal parent target) false m = (refl, refl)
+walk-leaves lists (ServerTime object) false m = (refl, refl)
 
 pub decision-looks : (lists : Lists) (asker : Asker) (demand : Demand) (old new : Memory) → Decides lists asker demand old new
     → AreLookUps old.capacity (looks_for lists asker demand) old.remembered new.remembered × (new.capacity ≡ old.capacity)

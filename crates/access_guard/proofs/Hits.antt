@@ -11,8 +11,9 @@ use Rattle.acl_list.specs.Places as places
 use Rattle.acl_list.specs.Deciding.{first_match, match_of}
 use Rattle.acl_list.specs.Verdicts.{verdict, verdict_on_bit}
 use Rattle.acl_list.specs.Summaries.{watched_bits}
-use Rattle.acl_list.specs.declared.mask.TheConstants.{DELETE, DELETE_CHILD}
+use Rattle.acl_list.specs.declared.mask.TheConstants.{DELETE, DELETE_CHILD, WRITE_ATTRIBUTES, WRITE_DATA}
 use Rattle.acl_list.specs.declared.answer.Summary.{Summary}
+use Rattle.acl_list.specs.declared.answer.Verdict.{Verdict}
 use Rattle.acl_list.specs.declared.answer.Verdict.TheVariants as verdicts
 use Rattle.acl_list.specs.declared.answer.FirstMatch.{FirstMatch}
 use Rattle.acl_list.specs.declared.answer.FirstMatch.TheVariants.{Unmatched}
@@ -21,15 +22,16 @@ use Rattle.acl_list.proofs.Watching.{unwatched_iff}
 use Rattle.acl_list.proofs.OneBit.{verdict-bit}
 use Rattle.node_tree.specs.Judged.{Judged}
 use Rattle.access_rows.specs.declared.demand.Demand.{Demand}
-use Rattle.access_rows.specs.declared.demand.Demand.TheVariants.{Bits, Removal}
+use Rattle.access_rows.specs.declared.demand.Demand.TheVariants.{Bits, Removal, ServerTime}
 use Rattle.access_guard.specs.declared.memory.Key.{Key}
 use Rattle.access_guard.specs.Asker.{Asker, member_of}
 use Rattle.access_guard.specs.Keys.{is_key}
 use Rattle.access_guard.specs.Lists.{Lists, names, sum_of, grants, is_quiet}
-use Rattle.access_guard.specs.Memory.{Memory, LooksUp, LooksUpFor, Decides, key_of, examined_more, used, learnt, is_silent_grant, is_silent_removal, grants_silently, walked}
+use Rattle.access_guard.specs.Memory.{Memory, LooksUp, LooksUpFor, Decides, key_of, examined_more, used, learnt, is_silent_grant, is_silent_removal, is_silent_time, time_bit, grants_silently, walked}
 use Rattle.access_guard.specs.History.{looks_for}
 use Rattle.access_guard.specs.SilentGrants.{IsAllow, IsAllowed, IsQuiet, AreHits}
-use Rattle.access_guard.proofs.SilentGrants.{Fits}
+use Rattle.access_guard.specs.Decisions.{is_granting, time_mask}
+use Rattle.access_guard.proofs.SilentGrants.{Fits, mask_is_bit}
 
 -- ---- the decision by a summary alone
 
@@ -57,6 +59,29 @@ module _ (caller : Identity) where
   bits_silent : (o : Option Judged) (mask : ℕ) → mask < 2 ^ 32 → option_map_or (λ j. verdict (names j caller) j.list mask) o (verdicts.Missing 0) ≡ verdicts.Granted → Quiet o mask → is_silent_grant (sum o) mask ≡ true
   bits_silent None mask fits h q = absurd q
   bits_silent (Some j) mask fits h q = both _ _ (covers caller j mask fits h) (quiet caller j mask fits q)
+
+  abbrev verdict_in : Option Judged → ℕ → Verdict
+  verdict_in o mask = option_map_or (λ j. verdict (names j caller) j.list mask) o (verdicts.Missing 0)
+
+  abbrev mask_in : Option Judged → ℕ
+  mask_in o = time_mask (verdict_in o WRITE_ATTRIBUTES) (verdict_in o WRITE_DATA)
+
+  mask_fits : (o : Option Judged) → mask_in o < 2 ^ 32
+  mask_fits o = go (is_granting (verdict_in o WRITE_ATTRIBUTES)) (is_granting (verdict_in o WRITE_DATA))
+    where
+      go : (a b : Bool) → cond a WRITE_ATTRIBUTES (cond b WRITE_DATA WRITE_ATTRIBUTES) < 2 ^ 32
+      go true b = omega arith
+      go false true = omega arith
+      go false false = omega arith
+
+  time_silent : (o : Option Judged) → verdict_in o (mask_in o) ≡ verdicts.Granted → Quiet o (mask_in o) → is_silent_time (sum o) ≡ true
+  time_silent None h q = absurd q
+  time_silent (Some j) h q =
+      let s = sum_of j caller in
+      let g : grants s (mask_in (Some j)) ≡ true = covers caller j (mask_in (Some j)) (mask_fits (Some j)) h in
+      let k : is_quiet s (mask_in (Some j)) ≡ true = quiet caller j (mask_in (Some j)) (mask_fits (Some j)) q in
+      let same : mask_in (Some j) ≡ time_bit s = mask_is_bit caller j g in
+      both _ _ (subst (λ m. grants s m ≡ true) same g) (subst (λ m. is_quiet s m ≡ true) same k)
 
   abbrev first_match_in : Option Judged → ℕ → FirstMatch
   first_match_in o place = option_map_or (λ j. match_of (first_match (names j caller) j.list place)) o Unmatched
@@ -133,11 +158,13 @@ still-hits asker (Some j) old new left hits =
 module _ (lists : Lists) (caller : Identity) where
   silent : (demand : Demand) → Fits demand → IsAllowed lists caller demand → IsQuiet lists caller demand → grants_silently lists caller demand ≡ true
   silent (Bits object mask) fits h q = bits_silent caller (lists object) mask fits h q
+  silent (ServerTime object) fits h q = time_silent caller (lists object) h q
   silent (Removal parent target) fits h q = removal_silent caller (lists target) (lists parent) h q.0 q.1
 
 module _ (lists : Lists) (asker : Asker) where
   all_hit : (demand : Demand) (old new : Memory) → LooksUpFor lists asker demand old new → AreHits (looks_for lists asker demand) old.remembered → new.examined ≡ old.examined
   all_hit (Bits object mask) old new step hits = (hit-at asker (lists object) old new step hits).examined
+  all_hit (ServerTime object) old new step hits = (hit-at asker (lists object) old new step hits).examined
   all_hit (Removal parent target) old new (between, first, second) hits =
       let apart = hits-apart asker (lists target) (lists parent) old.remembered hits in
       let one = hit-at asker (lists target) old between first apart.0 in

@@ -5,14 +5,15 @@ use Rattle.std.specs.List.{filter_map, enumerate_from}
 use Rattle.std.proofs.Math.Seq.{drop-cons}
 use Rattle.rpc_record.specs.Identity.{Identity}
 use Rattle.acl_list.specs.Places as places
-use Rattle.acl_list.specs.declared.mask.TheConstants.{DELETE, ADD_FILE}
+use Rattle.acl_list.specs.declared.mask.TheConstants.{DELETE, ADD_FILE, WRITE_ATTRIBUTES, WRITE_DATA}
 use Rattle.acl_list.specs.declared.answer.FirstMatch.{FirstMatch}
-use Rattle.access_rows.specs.declared.demand.Demand.TheVariants.{Removal}
+use Rattle.node_tree.specs.Judged.{Judged}
+use Rattle.access_rows.specs.declared.demand.Demand.TheVariants.{Removal, ServerTime}
 use Rattle.access_guard.specs.declared.decision.Decision.{Decision}
 use Rattle.access_guard.specs.declared.line.Line.{Line}
-use Rattle.access_guard.specs.Lists.{Lists, first_match_at, verdict_at}
-use Rattle.access_guard.specs.Decisions.{removal, is_granted}
-use Rattle.access_guard.specs.Lines.{watch_lines, deny_lines, parent_mask, lines}
+use Rattle.access_guard.specs.Lists.{Lists, first_match_at, verdict_of, verdict_at}
+use Rattle.access_guard.specs.Decisions.{answer, removal, is_granted, time_mask}
+use Rattle.access_guard.specs.Lines.{lines_of, watch_lines, deny_lines, parent_mask, lines}
 use Rattle.access_guard.specs.Log.{Log, held}
 
 -- a step of a loop that collects the values of f
@@ -35,3 +36,10 @@ pub removal_lines : (lists : Lists) (caller : Identity) (op parent target : ℕ)
     → new ≡ held (lines lists caller op (Removal parent target)) old
 removal_lines lists caller op parent target on_target on_parent decided granted mask old one two new t p d g m first second third =
     rw third (rw second (rw first (rw m (rw g (rw d (rw t (rw p (held-three old _ _ _))))))))
+
+-- the lines of a time of the server's, by the access control list that is opened
+pub time_lines : (lists : Lists) (caller : Identity) (op object : ℕ) (opened : Option Judged) (mask : ℕ) (decided : Decision) (old new : Log)
+    → opened ≡ lists object → mask ≡ time_mask (verdict_of opened caller WRITE_ATTRIBUTES) (verdict_of opened caller WRITE_DATA)
+    → decided ≡ answer object mask (verdict_of opened caller mask) → new ≡ held (lines_of opened caller op (is_granted decided) object mask ++ deny_lines caller op decided) old
+    → new ≡ held (lines lists caller op (ServerTime object)) old
+time_lines lists caller op object opened mask decided old new o m d h = rw h (rw d (rw m (rw o refl)))

@@ -1,5 +1,5 @@
 -- Summaries determine the verdicts of access control lists (ACLs).
-use Rattle.std.proofs.Common.{◌≡◌, ℕ, ◌+◌, ◌^◌, ◌<◌, ◌∙◌, Bool, true, false, ◌||◌, List, [], ◌∷◌, ◌++◌, Some, None, refl, ap, sym, inl, inr, ◌⊎◌, arith}
+use Rattle.std.proofs.Common.{◌≡◌, ℕ, ◌+◌, ◌^◌, ◌<◌, ◌∙◌, Bool, true, false, ◌||◌, cond, List, [], ◌∷◌, ◌++◌, Some, None, refl, ap, sym, inl, inr, ◌⊎◌, arith}
 use Rattle.std.specs.Prelude.{Option, All}
 use Rattle.std.specs.List.{filter_map, enumerate_from}
 use Rattle.std.specs.Option.{option_map, option_map_or}
@@ -11,7 +11,7 @@ use Rattle.acl_list.specs.Places as places
 use Rattle.acl_list.specs.Deciding.{first_match, match_of}
 use Rattle.acl_list.specs.Verdicts.{verdict, verdict_on_bit}
 use Rattle.acl_list.specs.Summaries.{watch_flag, watched_bits}
-use Rattle.acl_list.specs.declared.mask.TheConstants.{DELETE, DELETE_CHILD}
+use Rattle.acl_list.specs.declared.mask.TheConstants.{DELETE, DELETE_CHILD, WRITE_ATTRIBUTES, WRITE_DATA}
 use Rattle.acl_list.specs.declared.entry.Entry.{Entry}
 use Rattle.acl_list.specs.declared.answer.Verdict.{Verdict}
 use Rattle.acl_list.specs.declared.answer.Verdict.TheVariants as verdicts
@@ -23,15 +23,15 @@ use Rattle.acl_list.proofs.Watching.{unwatched_iff}
 use Rattle.acl_list.proofs.OneBit.{verdict-bit}
 use Rattle.node_tree.specs.Judged.{Judged}
 use Rattle.access_rows.specs.declared.demand.Demand.{Demand}
-use Rattle.access_rows.specs.declared.demand.Demand.TheVariants.{Bits, Removal}
+use Rattle.access_rows.specs.declared.demand.Demand.TheVariants.{Bits, Removal, ServerTime}
 use Rattle.access_guard.specs.declared.decision.Decision.{Decision}
 use Rattle.access_guard.specs.declared.decision.Decision.TheVariants.{Granted}
 use Rattle.access_guard.specs.declared.line.LineKind.{LineKind}
 use Rattle.access_guard.specs.declared.line.Line.{Line}
 use Rattle.access_guard.specs.Lists.{Lists, names, first_match_at, sum_of, grants, is_quiet}
-use Rattle.access_guard.specs.Decisions.{answer, removal, decision, is_granted}
+use Rattle.access_guard.specs.Decisions.{answer, removal, decision, is_granted, is_granting, time_mask, server_time_mask}
 use Rattle.access_guard.specs.Lines.{line_kind, watch_line, watch_lines, deny_lines, demand_lines, lines, parent_mask}
-use Rattle.access_guard.specs.Memory.{is_silent_grant, is_silent_removal, grants_silently}
+use Rattle.access_guard.specs.Memory.{is_silent_grant, is_silent_removal, is_silent_time, time_bit, grants_silently}
 
 -- ---- one ACL
 
@@ -56,6 +56,56 @@ module _ (caller : Identity) (j : Judged) (mask : ℕ) (fits : mask < 2 ^ 32) wh
       from n [] all = refl
       from n (e ∷ es) all = rw (none n e (All-head (λ x. watched_bits (names j caller) (watch_flag true) mask x ≡ 0) e es all)) (from (n + 1) es (All-tail (λ x. watched_bits (names j caller) (watch_flag true) mask x ≡ 0) e es all))
 
+  covered : verdict (names j caller) j.list mask ≡ verdicts.Granted → grants (sum_of j caller) mask ≡ true
+  covered h = (Decides-eqb _ _).1 ((granted_iff_covered (names j caller) j.list mask fits).0 h)
+
+  -- a summary shows whether the verdict is a grant
+  pub granting_is : is_granting (verdict (names j caller) j.list mask) ≡ grants (sum_of j caller) mask
+  granting_is = go (verdict (names j caller) j.list mask) (grants (sum_of j caller) mask) covered granted
+    where
+      go : (v : Verdict) (b : Bool) → (v ≡ verdicts.Granted → b ≡ true) → (b ≡ true → v ≡ verdicts.Granted) → is_granting v ≡ b
+      go verdicts.Granted b there back = sym (there refl)
+      go (verdicts.Denied index) true there back = let e : verdicts.Denied index ≡ verdicts.Granted = back refl in cc
+      go (verdicts.Denied index) false there back = refl
+      go (verdicts.Missing bit) true there back = let e : verdicts.Missing bit ≡ verdicts.Granted = back refl in cc
+      go (verdicts.Missing bit) false there back = refl
+
+-- ---- a time of the server's
+
+module _ (caller : Identity) (j : Judged) where
+  abbrev mask_of : ℕ
+  mask_of = time_mask (verdict (names j caller) j.list WRITE_ATTRIBUTES) (verdict (names j caller) j.list WRITE_DATA)
+
+  -- the mask by the summary
+  abbrev mask_by : Bool → Bool → ℕ
+  mask_by a b = cond a WRITE_ATTRIBUTES (cond b WRITE_DATA WRITE_ATTRIBUTES)
+
+  mask_is : mask_of ≡ mask_by (grants (sum_of j caller) WRITE_ATTRIBUTES) (grants (sum_of j caller) WRITE_DATA)
+  mask_is = λ i. mask_by (granting_is caller j WRITE_ATTRIBUTES (omega arith) i) (granting_is caller j WRITE_DATA (omega arith) i)
+
+  pub time_fits : time_bit (sum_of j caller) < 2 ^ 32
+  time_fits = elim (grants (sum_of j caller) WRITE_ATTRIBUTES) as (λ b. cond b WRITE_ATTRIBUTES WRITE_DATA < 2 ^ 32) [
+    | true ↦ omega arith
+    | false ↦ omega arith
+  ]
+
+  -- if the summary grants its bit, that is the mask
+  pub bit_is : grants (sum_of j caller) (time_bit (sum_of j caller)) ≡ true → mask_of ≡ time_bit (sum_of j caller)
+  bit_is h = mask_is ∙ go (grants (sum_of j caller) WRITE_ATTRIBUTES) h
+    where
+      go : (b : Bool) → grants (sum_of j caller) (cond b WRITE_ATTRIBUTES WRITE_DATA) ≡ true → mask_by b (grants (sum_of j caller) WRITE_DATA) ≡ cond b WRITE_ATTRIBUTES WRITE_DATA
+      go true h = refl
+      go false h = rw h refl
+
+  -- if the summary grants the mask, that is its bit
+  pub mask_is_bit : grants (sum_of j caller) mask_of ≡ true → mask_of ≡ time_bit (sum_of j caller)
+  mask_is_bit h = mask_is ∙ go (grants (sum_of j caller) WRITE_ATTRIBUTES) (grants (sum_of j caller) WRITE_DATA) refl (ap (λ m. grants (sum_of j caller) m) (sym mask_is) ∙ h)
+    where
+      go : (a b : Bool) → grants (sum_of j caller) WRITE_ATTRIBUTES ≡ a → grants (sum_of j caller) (mask_by a b) ≡ true → mask_by a b ≡ cond a WRITE_ATTRIBUTES WRITE_DATA
+      go true b is h = refl
+      go false true is h = refl
+      go false false is h = cc
+
 -- the first matching access control entry (ACE) of a granted bit is an ALLOW
 allowed : (place : ℕ) (m : FirstMatch) → verdict_on_bit place m ≡ verdicts.Granted → (index : ℕ) × (m ≡ AllowedBy index)
 allowed place Unmatched h = cc
@@ -68,6 +118,12 @@ module _ (caller : Identity) where
   abbrev sum : Option Judged → Option Summary
   sum o = option_map (λ j. sum_of j caller) o
 
+  abbrev verdict_in : Option Judged → ℕ → Verdict
+  verdict_in o mask = option_map_or (λ j. verdict (names j caller) j.list mask) o (verdicts.Missing 0)
+
+  abbrev mask_in : Option Judged → ℕ
+  mask_in o = time_mask (verdict_in o WRITE_ATTRIBUTES) (verdict_in o WRITE_DATA)
+
   bits_granted : (o : Option Judged) (mask : ℕ) → mask < 2 ^ 32 → is_silent_grant (sum o) mask ≡ true → option_map_or (λ j. verdict (names j caller) j.list mask) o (verdicts.Missing 0) ≡ verdicts.Granted
   bits_granted None mask fits h = cc
   bits_granted (Some j) mask fits h = granted caller j mask fits (and_parts _ _ h).0
@@ -75,6 +131,19 @@ module _ (caller : Identity) where
   bits_silent : (o : Option Judged) (mask : ℕ) → mask < 2 ^ 32 → (op object : ℕ) → is_silent_grant (sum o) mask ≡ true → option_map_or (λ j. filter_map (watch_line caller op object mask true j) (enumerate_from 0 j.list)) o [] ≡ []
   bits_silent None mask fits op object h = cc
   bits_silent (Some j) mask fits op object h = silent caller j mask fits op object (and_parts _ _ h).1
+
+  time_granted : (o : Option Judged) (object : ℕ) → is_silent_time (sum o) ≡ true
+      → answer object (mask_in o) (verdict_in o (mask_in o)) ≡ Granted
+  time_granted None object h = cc
+  time_granted (Some j) object h =
+      let s = sum_of j caller in
+      rw (bit_is caller j (and_parts _ _ h).0) (ap (answer object (time_bit s)) (granted caller j (time_bit s) (time_fits caller j) (and_parts _ _ h).0))
+
+  time_silent : (o : Option Judged) (op object : ℕ) → is_silent_time (sum o) ≡ true → option_map_or (λ j. filter_map (watch_line caller op object (mask_in o) true j) (enumerate_from 0 j.list)) o [] ≡ []
+  time_silent None op object h = cc
+  time_silent (Some j) op object h =
+      let s = sum_of j caller in
+      rw (bit_is caller j (and_parts _ _ h).0) (silent caller j (time_bit s) (time_fits caller j) op object (and_parts _ _ h).1)
 
 -- ---- removal
 
@@ -126,14 +195,17 @@ module _ (caller : Identity) where
 abbrev pub Fits : Demand → Type 0
 Fits (Bits object mask) = mask < 2 ^ 32
 Fits (Removal parent target) = Unit {0}
+Fits (ServerTime object) = Unit {0}
 
 module _ (lists : Lists) (caller : Identity) (op : ℕ) where
   pub grants_granted : (demand : Demand) → Fits demand → grants_silently lists caller demand ≡ true → decision lists caller demand ≡ Granted
   grants_granted (Bits object mask) fits h = ap (answer object mask) (bits_granted caller (lists object) mask fits h)
   grants_granted (Removal parent target) fits h = removal_granted parent target _ _ _ (removal_allows caller (lists target) (lists parent) h)
+  grants_granted (ServerTime object) fits h = time_granted caller (lists object) object h
 
   demand_silent : (demand : Demand) → Fits demand → grants_silently lists caller demand ≡ true → demand_lines lists caller op true demand ≡ []
   demand_silent (Bits object mask) fits h = bits_silent caller (lists object) mask fits op object h
+  demand_silent (ServerTime object) fits h = time_silent caller (lists object) op object h
   demand_silent (Removal parent target) fits h =
       let mask : parent_mask (first_match_at lists caller target places.delete) (first_match_at lists caller parent places.delete_child) ≡ DELETE_CHILD = removal_mask _ _ (removal_allows caller (lists target) (lists parent) h) in
       let t : watch_lines lists caller op true target DELETE ≡ [] = target_silent caller (lists target) (lists parent) op target h in

@@ -5,7 +5,7 @@ use Rattle.std.specs.Map.{lookup}
 use Rattle.lru.specs.LruCache.{promoted}
 use Rattle.acl_list.specs.declared.answer.Summary.{Summary}
 use Rattle.access_rows.specs.declared.demand.Demand.{Demand}
-use Rattle.access_rows.specs.declared.demand.Demand.TheVariants.{Bits, Removal}
+use Rattle.access_rows.specs.declared.demand.Demand.TheVariants.{Bits, Removal, ServerTime}
 use Rattle.access_guard.specs.declared.memory.Key.{Key}
 use Rattle.access_guard.specs.Asker.{Asker, member_of}
 use Rattle.access_guard.specs.Keys.{is_key}
@@ -34,3 +34,4 @@ looks_at lists asker object = option_map_or (λ j. (key_of j asker, sum_of j (me
 abbrev pub looks_for : Lists → Asker → Demand → List (Key × Summary)
 looks_for lists asker (Bits object mask) = looks_at lists asker object
 looks_for lists asker (Removal parent target) = looks_at lists asker target ++ looks_at lists asker parent
+looks_for lists asker (ServerTime object) = looks_at lists asker object

@@ -14,7 +14,7 @@ use Rattle.acl_list.specs.declared.answer.FirstMatch.TheVariants.{Unmatched, All
 use Rattle.acl_shape.specs.declared.bounds.TheConstants.{MAX_ENTRIES}
 use Rattle.node_tree.specs.Judged.{Judged}
 use Rattle.access_rows.specs.declared.demand.Demand.{Demand}
-use Rattle.access_rows.specs.declared.demand.Demand.TheVariants.{Bits, Removal}
+use Rattle.access_rows.specs.declared.demand.Demand.TheVariants.{Bits, Removal, ServerTime}
 use Rattle.access_guard.specs.declared.decision.Decision.{Decision}
 use Rattle.access_guard.specs.declared.decision.Decision.TheVariants.{Granted, Refused}
 use Rattle.access_guard.specs.declared.decision.Cause.TheVariants.{ByEntry}
@@ -22,7 +22,7 @@ use Rattle.access_guard.specs.declared.line.LineKind.{LineKind}
 use Rattle.access_guard.specs.declared.line.LineKind.TheVariants.{Audit, Alarm, Deny}
 use Rattle.access_guard.specs.declared.line.Line.{Line}
 use Rattle.access_guard.specs.Lists.{Lists, names, first_match_at}
-use Rattle.access_guard.specs.Decisions.{decision, is_granted}
+use Rattle.access_guard.specs.Decisions.{decision, is_granted, server_time_mask}
 
 -- ---- AUDIT and ALARM lines
 
@@ -82,6 +82,8 @@ demand_lines lists caller op granted (Removal parent target) =
     ++ watch_lines lists caller op granted parent
     (parent_mask (first_match_at lists caller target places.delete)
     (first_match_at lists caller parent places.delete_child))
+demand_lines lists caller op granted (ServerTime object) =
+    watch_lines lists caller op granted object (server_time_mask lists caller object)
 
 -- the lines of a decision: those of the ACEs that watch, then on refusal the DENY line
 abbrev pub lines : Lists → Identity → ℕ → Demand → List Line
@@ -95,3 +97,4 @@ lines lists caller op demand =
 abbrev pub most_lines : Demand → ℕ
 most_lines (Bits object mask) = MAX_ENTRIES + 1
 most_lines (Removal parent target) = MAX_ENTRIES + MAX_ENTRIES + 1
+most_lines (ServerTime object) = MAX_ENTRIES + 1

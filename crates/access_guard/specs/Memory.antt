@@ -7,12 +7,12 @@ use Rattle.lru.specs.LruCache.{promoted}
 use Rattle.rpc_record.specs.Identity.{Identity}
 use Rattle.who_book.specs.Content.{Content}
 use Rattle.who_book.specs.Members.{member}
-use Rattle.acl_list.specs.declared.mask.TheConstants.{DELETE, DELETE_CHILD}
+use Rattle.acl_list.specs.declared.mask.TheConstants.{DELETE, DELETE_CHILD, WRITE_ATTRIBUTES, WRITE_DATA}
 use Rattle.acl_list.specs.declared.answer.Summary.{Summary}
 use Rattle.node_tree.specs.World.{World}
 use Rattle.node_tree.specs.Judged.{Judged, judged_of}
 use Rattle.access_rows.specs.declared.demand.Demand.{Demand}
-use Rattle.access_rows.specs.declared.demand.Demand.TheVariants.{Bits, Removal}
+use Rattle.access_rows.specs.declared.demand.Demand.TheVariants.{Bits, Removal, ServerTime}
 use Rattle.access_guard.specs.declared.memory.Key.{Key}
 use Rattle.access_guard.specs.Asker.{Asker, member_of}
 use Rattle.access_guard.specs.Keys.{is_key}
@@ -73,6 +73,7 @@ abbrev pub LooksUpFor : Lists → Asker → Demand → Memory → Memory → Typ
 LooksUpFor lists asker (Bits object mask) old new = LooksUpAt lists asker object old new
 LooksUpFor lists asker (Removal parent target) old new =
     (between : Memory) × LooksUpAt lists asker target old between × LooksUpAt lists asker parent between new
+LooksUpFor lists asker (ServerTime object) old new = LooksUpAt lists asker object old new
 
 -- ---- decisions
 
@@ -91,15 +92,27 @@ is_silent_removal (Some on_target) (Some on_parent) =
     (grants on_target DELETE || grants on_parent DELETE_CHILD)
     && (is_quiet on_target DELETE && is_quiet on_parent DELETE_CHILD)
 
+-- the bit that decides on a time of the server's if a summary grants it
+abbrev pub time_bit : Summary → ℕ
+time_bit s = if grants s WRITE_ATTRIBUTES then WRITE_ATTRIBUTES else WRITE_DATA
+
+-- A summary alone shows that a time of the server's is granted and that no line is written.
+abbrev pub is_silent_time : Option Summary → Bool
+is_silent_time None = false
+is_silent_time (Some s) = grants s (time_bit s) && is_quiet s (time_bit s)
+
 abbrev pub grants_silently : Lists → Identity → Demand → Bool
 grants_silently lists caller (Bits object mask) = is_silent_grant (sum_at lists caller object) mask
-grants_silently lists caller (Removal parent target) = is_silent_removal (sum_at lists caller target) (sum_at lists caller parent)
+grants_silently lists caller (Removal parent target) =
+    is_silent_removal (sum_at lists caller target) (sum_at lists caller parent)
+grants_silently lists caller (ServerTime object) = is_silent_time (sum_at lists caller object)
 
 -- the ACEs of the ACLs that a demand reads are examined
 abbrev pub walked : Lists → Demand → Memory → Memory
 walked lists (Bits object mask) m = examined_more (entries_at lists object) m
 walked lists (Removal parent target) m =
     examined_more (entries_at lists parent) (examined_more (entries_at lists target) m)
+walked lists (ServerTime object) m = examined_more (entries_at lists object) m
 
 -- The memory after a decision: its look-ups, and a walk over its ACLs if the summaries alone don't decide it.
 abbrev pub Decides : Lists → Asker → Demand → Memory → Memory → Type 0

@@ -10,10 +10,11 @@ use Rattle.acl_list.specs.declared.answer.FirstMatch.TheVariants.{AllowedBy}
 use Rattle.acl_list.specs.declared.answer.Summary.{Summary}
 use Rattle.acl_list.specs.declared.answer.Verdict.TheVariants.{Granted}
 use Rattle.access_rows.specs.declared.demand.Demand.{Demand}
-use Rattle.access_rows.specs.declared.demand.Demand.TheVariants.{Bits, Removal}
+use Rattle.access_rows.specs.declared.demand.Demand.TheVariants.{Bits, Removal, ServerTime}
 use Rattle.access_guard.specs.declared.memory.Key.{Key}
 use Rattle.access_guard.specs.Keys.{is_key}
 use Rattle.access_guard.specs.Lists.{Lists, names, verdict_at, first_match_at}
+use Rattle.access_guard.specs.Decisions.{server_time_mask}
 
 -- the first matching access control entry (ACE) of the bit is an ALLOW
 abbrev pub IsAllow : FirstMatch → Type 0
@@ -25,6 +26,8 @@ IsAllowed lists caller (Bits object mask) = verdict_at lists caller object mask 
 IsAllowed lists caller (Removal parent target) =
     IsAllow (first_match_at lists caller target places.delete)
     ⊎ IsAllow (first_match_at lists caller parent places.delete_child)
+IsAllowed lists caller (ServerTime object) =
+    verdict_at lists caller object (server_time_mask lists caller object) ≡ Granted
 
 -- the object exists, and no ACE of its ACL watches a bit of the mask for success
 abbrev pub IsQuietAt : Lists → Identity → ℕ → ℕ → Type 0
@@ -36,6 +39,7 @@ abbrev pub IsQuiet : Lists → Identity → Demand → Type 0
 IsQuiet lists caller (Bits object mask) = IsQuietAt lists caller object mask
 IsQuiet lists caller (Removal parent target) =
     IsQuietAt lists caller target DELETE × IsQuietAt lists caller parent DELETE_CHILD
+IsQuiet lists caller (ServerTime object) = IsQuietAt lists caller object (server_time_mask lists caller object)
 
 -- each look-up finds a remembered summary
 abbrev pub AreHits : List (Key × Summary) → List (Key × Summary) → Type 0

@@ -1,12 +1,13 @@
 //! The decisions of the access control lists (ACLs) of objects.
 ghost use Rattle.std.specs.Prelude.{◌≡◌, ◌^◌, ℕ};
+ghost use Rattle.acl_list.specs.declared.mask.TheConstants as bits;
 ghost use Rattle.access_guard.specs.Decisions as specs;
 ghost use Rattle.access_guard.specs.Lists as lists;
 ghost use Rattle.access_guard.specs.Lines as lines;
 
 use crate::decision::{Cause, Decision, answer};
 use crate::memory::Opened;
-use acl_list::mask::{ADD_FILE, DELETE, DELETE_CHILD};
+use acl_list::mask::{ADD_FILE, DELETE, DELETE_CHILD, WRITE_ATTRIBUTES, WRITE_DATA};
 use acl_list::{Caller, FirstMatch, Verdict, first_match, judge};
 use std::alloc::Allocator;
 
@@ -22,6 +23,27 @@ pub(crate) fn verdict_of<A: Allocator + Copy>(
         Some(node) => judge(node.list(), node.owner(), node.group(), caller, mask),
         None => Verdict::Missing(0),
     }
+}
+
+/// The bit that decides whether a time of the object may be set to the server's own: WRITE_ATTRIBUTES, or WRITE_DATA if
+/// that alone is granted.
+pub(crate) fn time_mask<A: Allocator + Copy>(opened: &Opened<'_, A>, caller: &Caller) -> u32
+    ensures { result ≡ specs.time_mask (lists.verdict_of opened.now caller.now bits.WRITE_ATTRIBUTES)
+        (lists.verdict_of opened.now caller.now bits.WRITE_DATA) }
+{
+    if is_granting(verdict_of(opened, caller, WRITE_ATTRIBUTES)) {
+        WRITE_ATTRIBUTES
+    } else if is_granting(verdict_of(opened, caller, WRITE_DATA)) {
+        WRITE_DATA
+    } else {
+        WRITE_ATTRIBUTES
+    }
+}
+
+fn is_granting(verdict: Verdict) -> bool
+    ensures { result ≡ specs.is_granting verdict }
+{
+    matches!(verdict, Verdict::Granted)
 }
 
 /// The access control entry (ACE) of an object's ACL that decides a bit.

@@ -1,5 +1,5 @@
 //! The guard.
-ghost use Rattle.std.specs.Prelude.{◌≡◌, ℕ, ◌+◌, ◌≤◌, [], length, IfOk, IsTrue};
+ghost use Rattle.std.specs.Prelude.{◌≡◌, ℕ, ◌+◌, ◌≤◌, [], ◌++◌, length, IfOk, IsTrue};
 ghost use Rattle.std.specs.Map.Iter.{ShowsInOrder, deref, deref_pair};
 ghost use Rattle.std.specs.NonZero.{non_zero_usize_get};
 ghost use Rattle.acl_list.specs.declared.answer.Summary.{Summary};
@@ -7,9 +7,10 @@ ghost use Rattle.access_guard.specs.declared.line.Line.{Line};
 ghost use Rattle.access_guard.specs.declared.memory.Key.{Key};
 ghost use Rattle.node_tree.specs.Judged.{judged_of};
 ghost use Rattle.access_guard.specs.Asker.{asker};
-ghost use Rattle.access_guard.specs.Lists.{granted_at};
-ghost use Rattle.access_guard.specs.Decisions.{decision, is_granted};
-ghost use Rattle.access_guard.specs.Lines.{lines, most_lines};
+ghost use Rattle.acl_shape.specs.declared.bounds.TheConstants.{MAX_ENTRIES};
+ghost use Rattle.access_guard.specs.Lists.{entries_of, granted_at, verdict_of};
+ghost use Rattle.access_guard.specs.Decisions.{answer, decision, is_granted};
+ghost use Rattle.access_guard.specs.Lines.{deny_lines, lines, lines_of, most_lines};
 ghost use Rattle.access_guard.specs.Log.{held, no_lines, settled};
 ghost use Rattle.node_tree.specs.World.{World};
 ghost use Rattle.who_book.specs.Content.{Content};
@@ -18,10 +19,10 @@ ghost use Rattle.access_guard.specs.Memory.{Agrees, Decides, LooksUpAt, walked};
 ghost use Rattle.access_guard.specs.State.{fresh};
 
 use crate::asker::Asker;
-use crate::deciding::{first_match_of, parent_mask, removal, verdict_of};
+use crate::deciding::{first_match_of, parent_mask, removal, time_mask, verdict_of};
 use crate::decision::{Decision, answer};
 use crate::line::Line;
-use crate::memory::{Key, Summaries};
+use crate::memory::{Key, Opened, Summaries};
 use crate::trail::{Asked, MOST_HELD, Trail};
 use access_rows::Demand;
 use acl_list::mask::{DELETE, DELETE_CHILD};
@@ -78,10 +79,18 @@ impl<A: Allocator + Copy> Guard<A> {
     /// | DENY | granted | refused by the parent's DENY | refused by the target's DENY |
     /// | no match | granted | refused by the parent's DENY | as the parent's ACL decides ADD_FILE |
     ///
+    /// [`Demand::ServerTime`] is decided as bits of a mask, with their lines (RFC 8881, section 6.2.1.3.1):
+    ///
+    /// | WRITE_ATTRIBUTES | WRITE_DATA (on a directory ADD_FILE) | The mask |
+    /// |---|---|---|
+    /// | granted | granted or not | WRITE_ATTRIBUTES |
+    /// | not granted, also by a DENY ACE | granted | WRITE_DATA |
+    /// | not granted | not granted | WRITE_ATTRIBUTES, which is refused |
+    ///
     /// The lines are held until [`Guard::settle`]. Those of the AUDIT and ALARM ACEs that watch come first, ACE by ACE.
     /// Of a removal these are the target's with DELETE, then the parent's with DELETE_CHILD. The parent's have ADD_FILE
     /// too if no ACE matches DELETE and none DELETE_CHILD. On refusal the DENY line follows. A grant has at most one
-    /// line for each ACE of the ACLs that it reads: 64 of [`Demand::Bits`], and 128 of [`Demand::Removal`].
+    /// line for each ACE of the ACLs that it reads: 128 of [`Demand::Removal`], and 64 of the others.
     ///
     /// Summaries of ACLs are remembered by epoch, stamp and caller as sent, unless an allocation fails. Decision and
     /// lines are the same then. Each object is looked up once, of a removal the target first. If remembered summaries
@@ -134,6 +143,7 @@ impl<A: Allocator + Copy> Guard<A> {
             Demand::Removal { parent, target } => {
                 self.decide_removal(parent, target, tree, caller, op)
             }
+            Demand::ServerTime { object } => self.decide_server_time(object, tree, caller, op),
         }
     }
 
@@ -154,7 +164,49 @@ impl<A: Allocator + Copy> Guard<A> {
         ensures counted { self.new.memory ≡ walked (judged_of tree.now) (Demand.Bits object mask) self.old.memory }
     {
         let opened = self.memory.open(object, tree);
-        let decision = answer(object, mask, verdict_of(&opened, caller, mask));
+        self.decide_opened(object, mask, &opened, caller, op)
+    }
+
+    fn decide_server_time<B: Allocator + Copy>(
+        &mut self,
+        object: u64,
+        tree: &Tree<B>,
+        caller: &Caller,
+        op: u32,
+    ) -> Decision
+        requires { length self.old.log.held + most_lines (Demand.ServerTime object) ≤ MOST_HELD }
+        ensures decision { result ≡ decision (judged_of tree.now) caller.now (Demand.ServerTime object) }
+        ensures lines { self.new.log ≡ held (lines (judged_of tree.now) caller.now op (Demand.ServerTime object))
+            self.old.log }
+        ensures few { IsTrue (is_granted result) →
+            length self.new.log.held + 1 ≤ length self.old.log.held + most_lines (Demand.ServerTime object) }
+        ensures counted { self.new.memory ≡ walked (judged_of tree.now) (Demand.ServerTime object) self.old.memory }
+    {
+        let opened = self.memory.open(object, tree);
+        let mask = time_mask(&opened, caller);
+        self.decide_opened(object, mask, &opened, caller, op)
+    }
+
+    /// The decision on bits of an object by its ACL, which is counted, with its lines.
+    fn decide_opened<B: Allocator + Copy>(
+        &mut self,
+        object: u64,
+        mask: u32,
+        opened: &Opened<'_, B>,
+        caller: &Caller,
+        op: u32,
+    ) -> Decision
+        requires room { length self.old.log.held + MAX_ENTRIES + 1 ≤ MOST_HELD }
+        requires short { entries_of opened.now ≤ MAX_ENTRIES }
+        ensures decision { result ≡ answer object mask (verdict_of opened.now caller.now mask) }
+        ensures lines { self.new.log ≡ held
+            (lines_of opened.now caller.now op (is_granted result) object mask ++ deny_lines caller.now op result)
+            self.old.log }
+        ensures few { IsTrue (is_granted result) →
+            length self.new.log.held ≤ length self.old.log.held + MAX_ENTRIES }
+        ensures memory { self.new.memory ≡ self.old.memory }
+    {
+        let decision = answer(object, mask, verdict_of(opened, caller, mask));
         let granted = decision.is_granted();
         let of_object = Asked {
             op,
@@ -162,7 +214,7 @@ impl<A: Allocator + Copy> Guard<A> {
             mask,
             granted,
         };
-        self.trail.watch(of_object, &opened, caller);
+        self.trail.watch(of_object, opened, caller);
         self.trail.deny(op, decision, caller);
         decision
     }

@@ -6,7 +6,7 @@ ghost use Rattle.acl_list.specs.declared.answer.Summary.{Summary};
 ghost use Rattle.node_tree.specs.World.{World};
 ghost use Rattle.node_tree.specs.Judged.{Judged, KeepsJudged};
 ghost use Rattle.access_rows.specs.declared.demand.Demand.{Demand};
-ghost use Rattle.access_rows.specs.declared.demand.Demand.TheVariants.{Bits, Removal};
+ghost use Rattle.access_rows.specs.declared.demand.Demand.TheVariants.{Bits, Removal, ServerTime};
 ghost use Rattle.access_guard.specs.declared.memory.Key.{Key};
 ghost use Rattle.access_guard.specs.Asker.{Asker, member_of};
 ghost use Rattle.access_guard.specs.Keys.{is_key};
@@ -70,4 +70,8 @@ pub fn quiet_hits_count_nothing()
         → IsQuiet lists (member_of asker) (Removal parent target)
         → AreHits (looks_for lists asker (Removal parent target)) old.remembered →
         Decides lists asker (Removal parent target) old new → new.examined ≡ old.examined }
+    ensures server_time { (lists : Lists) (asker : Asker) (object : ℕ) (old new : Memory) →
+        IsAllowed lists (member_of asker) (ServerTime object) → IsQuiet lists (member_of asker) (ServerTime object)
+        → AreHits (looks_for lists asker (ServerTime object)) old.remembered →
+        Decides lists asker (ServerTime object) old new → new.examined ≡ old.examined }
 {}

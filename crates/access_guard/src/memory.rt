@@ -20,7 +20,7 @@ ghost use Rattle.access_guard.specs.Memory as specs;
 
 use crate::asker::Asker;
 use access_rows::Demand;
-use acl_list::mask::{DELETE, DELETE_CHILD};
+use acl_list::mask::{DELETE, DELETE_CHILD, WRITE_ATTRIBUTES, WRITE_DATA};
 use acl_list::{Caller, Summary, summary};
 use lru::{Iter, LruCache};
 use node_tree::{Node, Tree};
@@ -238,6 +238,7 @@ impl<A: Allocator + Copy> Summaries<A> {
                 let on_parent = self.sum_at(parent, tree, asker);
                 is_silent_removal(on_target, on_parent)
             }
+            Demand::ServerTime { object } => is_silent_time(self.sum_at(object, tree, asker)),
         }
     }
 
@@ -287,4 +288,25 @@ fn is_silent_removal(on_target: Option<Summary>, on_parent: Option<Summary>) -> 
     };
     let granted = grants(on_target, DELETE) || grants(on_parent, DELETE_CHILD);
     granted && is_quiet(on_target, DELETE) && is_quiet(on_parent, DELETE_CHILD)
+}
+
+fn is_silent_time(sum: Option<Summary>) -> bool
+    ensures { result ≡ specs.is_silent_time sum }
+{
+    let Some(sum) = sum else {
+        return false;
+    };
+    let bit = time_bit(sum);
+    grants(sum, bit) && is_quiet(sum, bit)
+}
+
+/// WRITE_ATTRIBUTES if it is granted, else WRITE_DATA.
+fn time_bit(sum: Summary) -> u32
+    ensures { result ≡ specs.time_bit sum }
+{
+    if grants(sum, WRITE_ATTRIBUTES) {
+        WRITE_ATTRIBUTES
+    } else {
+        WRITE_DATA
+    }
 }

@@ -1,4 +1,4 @@
-use Rattle.access_rows.specs.declared.demand.Demand.TheVariants.{Bits, Removal}
+use Rattle.access_rows.specs.declared.demand.Demand.TheVariants.{Bits, Removal, ServerTime}
 use Rattle.access_guard.proofs.Hits.{quiet_hits}
 use Rattle.access_guard.proofs.laws.quiet_hits_count_nothing.Goals as goal
 
@@ -7,3 +7,6 @@ returns-clause-bits c lists asker object mask old new fits = quiet_hits lists as
 
 pub returns-clause-removal : goal.returns-clause-removal
 returns-clause-removal c lists asker parent target old new = quiet_hits lists asker (Removal parent target) old new tt
+
+pub returns-clause-server_time : goal.returns-clause-server_time
+returns-clause-server_time c lists asker object old new = quiet_hits lists asker (ServerTime object) old new tt

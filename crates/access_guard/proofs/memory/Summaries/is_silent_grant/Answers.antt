@@ -1,9 +1,9 @@
 use Rattle.std.proofs.Common.{◌≡◌, true, sym, ap, ◌∙◌}
-use Rattle.access_rows.specs.declared.demand.Demand.TheVariants.{Bits, Removal}
+use Rattle.access_rows.specs.declared.demand.Demand.TheVariants.{Bits, Removal, ServerTime}
 use Rattle.node_tree.specs.Judged.{judged_of}
 use Rattle.access_guard.specs.Asker.{member_of}
 use Rattle.access_guard.specs.Lists.{sum_at}
-use Rattle.access_guard.specs.Memory.{is_silent_grant, is_silent_removal, grants_silently}
+use Rattle.access_guard.specs.Memory.{is_silent_grant, is_silent_removal, is_silent_time, grants_silently}
 use Rattle.access_guard.proofs.SilentGrants.{grants_granted, grants_silent}
 use Rattle.access_guard.proofs.memory.Summaries.is_silent_grant.Goals as goal
 
@@ -32,3 +32,15 @@ returns-in-Removal-clause-silent g c h op =
     let silent : grants_silently (judged_of c.args.tree.now) (member_of c.args.asker.now) demand ≡ true
     = (λ i. is_silent_removal (sym c.sum_at-on_target.ensures.sum i) (sym (c.sum_at-on_parent.ensures.sum ∙ ap (λ a. sum_at (judged_of c.args.tree.now) (member_of a) c.in-Removal.parent) c.sum_at-on_target.ensures.same) i)) ∙ sym c.is_silent_removal.ensures ∙ h in
     rw c.in-Removal.is (grants_silent (judged_of c.args.tree.now) (member_of c.args.asker.now) op demand tt silent)
+
+pub returns-in-ServerTime-clause-granted : goal.returns-in-ServerTime-clause-granted
+returns-in-ServerTime-clause-granted g c h =
+    let demand = ServerTime c.in-ServerTime.object in
+    let silent : grants_silently (judged_of c.args.tree.now) (member_of c.args.asker.now) demand ≡ true = ap is_silent_time (sym c.sum_at-in-ServerTime.ensures.sum) ∙ sym c.is_silent_time.ensures ∙ h in
+    rw c.in-ServerTime.is (grants_granted (judged_of c.args.tree.now) (member_of c.args.asker.now) 0 demand tt silent)
+
+pub returns-in-ServerTime-clause-silent : goal.returns-in-ServerTime-clause-silent
+returns-in-ServerTime-clause-silent g c h op =
+    let demand = ServerTime c.in-ServerTime.object in
+    let silent : grants_silently (judged_of c.args.tree.now) (member_of c.args.asker.now) demand ≡ true = ap is_silent_time (sym c.sum_at-in-ServerTime.ensures.sum) ∙ sym c.is_silent_time.ensures ∙ h in
+    rw c.in-ServerTime.is (grants_silent (judged_of c.args.tree.now) (member_of c.args.asker.now) op demand tt silent)
