@@ -23,9 +23,12 @@ fn report<A: Allocator + Copy>(
         group: 6,
         list: AclList::new(alloc),
         high: 0,
+        time_access: None,
+        time_modify: AT,
     };
     let kept = Kept {
         change: 9,
+        time_access: None,
         time_modify: AT,
         time_metadata: AT,
         stamp,
