@@ -9,19 +9,16 @@ use Rattle.who_book.specs.Content.{Content}
 use Rattle.who_book.specs.Document.{book_from}
 use Rattle.who_book.specs.declared.fault.BookFault.{BookFault}
 use Rattle.nfs_types.specs.Limits.{Limits, limits_of}
-use Rattle.nfs_types.specs.MomentView.{moment_value}
-use Rattle.node_tree.specs.World.{World, Object, Name}
+use Rattle.node_tree.specs.World.{World, Name}
 use Rattle.node_tree.specs.Restored.{Begun, with_object, with_name}
-use Rattle.tree_parts.specs.Forms as forms
 use Rattle.compound_run.specs.ClientState.{ClientState, unknown}
 use Rattle.client_parts.specs.Applying as changing
 use Rattle.client_parts.specs.PartCount.{client_part_count}
 use Rattle.client_parts.proofs.AppliedChanges.{applies_uniquely as prefix_one}
 use Rattle.tree_parts.specs.Parts as parts_of
-use Rattle.tree_parts.specs.Parts.{part, object_value, name_value}
+use Rattle.tree_parts.specs.Parts.{part, name_value}
 use Rattle.tree_parts.specs.Taken.{Takes, TakesAll}
-use Rattle.tree_parts.proofs.Telling.{kind_in, kind_again, list_in, list_again, same_moment}
-use Rattle.tree_parts.proofs.Writing.{same_object}
+use Rattle.tree_parts.proofs.Refusing.{object_one}
 use Rattle.store_journal.specs.Disk.{Bytes}
 use Rattle.checkpoint.specs.Head.{head, HeadStates, IsHead, NamesOther}
 use Rattle.checkpoint.specs.Kept.{Kept}
@@ -58,36 +55,11 @@ whole_not old bytes reader a rest same it some clients l = some (prefix_one old 
 
 -- ---- parts
 
-abbrev written_object : Value parts_of.object → Value part → Value parts_of.object
-written_object d (inl v) = d
-written_object d (inr (inl v)) = v
-written_object d (inr (inr v)) = d
-
 abbrev written_name : Value parts_of.entry_name → Value part → Value parts_of.entry_name
 written_name d (inl v) = d
 written_name d (inr (inl v)) = d
 written_name d (inr (inr (inl v))) = v
 written_name d (inr (inr (inr v))) = d
-
--- two parts of one value encode one number and one object
-object_one : (j k : ℕ) (o p : Object) → object_value j o ≡ object_value k p → (j ≡ k) × (o ≡ p)
-object_one j k o p h = (
-  ap (λ v. (written_object d v).0) h,
-  same_object o p
-      (sym (kind_again o.kind) ∙ ap (λ v. kind_in (written_object d v).1.0.0) h ∙ kind_again p.kind)
-      (ap (λ v. (written_object d v).1.0.1.0) h)
-      (ap (λ v. (written_object d v).1.0.1.1.0) h)
-      (ap (λ v. (written_object d v).1.0.1.1.1.0) h)
-      (sym (list_again o.list) ∙ ap (λ v. list_in (written_object d v).1.0.1.1.1.1.0) h ∙ list_again p.list)
-      (ap (λ v. (written_object d v).1.0.1.1.1.1.1) h)
-      (ap (λ v. (written_object d v).1.1.0) h)
-      (same_moment o.time_modify p.time_modify (ap (λ v. (written_object d v).1.1.1.0.0) h) (ap (λ v. (written_object d v).1.1.1.0.1) h))
-      (same_moment o.time_metadata p.time_metadata (ap (λ v. (written_object d v).1.1.1.1.0.0) h) (ap (λ v. (written_object d v).1.1.1.1.0.1) h))
-      (ap (λ v. (written_object d v).1.1.1.1.1) h),
-)
-  where
-    d : Value parts_of.object
-    d = (j, ((forms.object_kind_value o.kind, (o.bytes, (o.owner, (o.group, (forms.list_value o.list, o.high))))), (o.change, (moment_value o.time_modify, (moment_value o.time_metadata, o.stamp)))))
 
 abbrev name_in : Value parts_of.entry_name → Name
 name_in v = record { cookie = v.0; directory = v.1.0; name = v.1.1.0; child = v.1.1.1 }
@@ -105,7 +77,10 @@ takes_one limits (Some old) (inr (inl v)) m n (j, o, written_j, fits_j, new_j) (
 takes_one limits (Some old) (inr (inr (inl v))) m n (x, written_x, fits_x, new_x) (y, written_y, fits_y, new_y) =
     new_x ∙ ap (with_name old) (name_one x y (written_x ∙ sym written_y)) ∙ sym new_y
 takes_one limits (Some old) (inr (inr (inr (inl v)))) m n t u = t.1 ∙ sym u.1
-takes_one limits (Some old) (inr (inr (inr (inr more)))) m n t u = elim more [ ]
+takes_one limits (Some old) (inr (inr (inr (inr (inl v))))) m n (j, o, written_j, fits_j, new_j) (k, p, written_k, fits_k, new_k) =
+    let one = object_one j k o p (written_j ∙ sym written_k) in
+    new_j ∙ ap (λ (i : ℕ). with_object old i o) one.0 ∙ ap (with_object old k) one.1 ∙ sym new_k
+takes_one limits (Some old) (inr (inr (inr (inr (inr more))))) m n t u = elim more [ ]
 
 takes_all_one : (limits : Limits) (old : Option Begun) (values : List (Value part)) (m n : Option Begun) → TakesAll limits old values m → TakesAll limits old values n → m ≡ n
 takes_all_one limits old [] m n t u = sym t ∙ u
@@ -137,7 +112,8 @@ limits_stay limits old (inl v) new t = elim t [ ]
 limits_stay limits old (inr (inl v)) new (number, o, written, fits, is) = ap (λ (b : Begun). b.world.limits) is
 limits_stay limits old (inr (inr (inl v))) new (n, written, fits, is) = ap (λ (b : Begun). b.world.limits) is
 limits_stay limits old (inr (inr (inr (inl v)))) new t = ap (λ (b : Begun). b.world.limits) t.1
-limits_stay limits old (inr (inr (inr (inr more)))) new t = elim more [ ]
+limits_stay limits old (inr (inr (inr (inr (inl v))))) new (number, o, written, fits, is) = ap (λ (b : Begun). b.world.limits) is
+limits_stay limits old (inr (inr (inr (inr (inr more))))) new t = elim more [ ]
 
 all_stay : (limits : Limits) (old : Begun) (values : List (Value part)) (new : Begun) → TakesAll limits (Some old) values (Some new) → new.world.limits ≡ old.world.limits
 all_stay limits old [] new t = ap (λ (b : Begun). b.world.limits) (sym (some_one old new t))

@@ -29,10 +29,12 @@ use Rattle.node_tree.proofs.Objects.{is_same, is_at-same, is_at-apart}
 use Rattle.node_tree.proofs.Names.{found, not_found, any_passes, in_prefix, child_sought, named_directory, named_name, names_counted}
 use Rattle.node_tree.proofs.Moving.{parents_of, directory_at}
 use Rattle.node_tree.proofs.Restorable.{at_root, one_up, all_left}
-use Rattle.tree_parts.specs.Parts.{part, name_value, rest_value, object_parts, PIECE, piece, has_part, rest_offsets}
+use Rattle.nfs_types.specs.MomentView.{moment_value}
+use Rattle.tree_parts.specs.Parts.{part, plain_value, name_value, rest_value, object_parts, PIECE, piece, has_part, rest_offsets}
 use Rattle.tree_parts.specs.Taken.{TakesAll}
 use Rattle.tree_parts.specs.Again.{IsTakenAgain}
 use Rattle.tree_parts.proofs.Pieces.{length_within, skipped, put_on, took_few}
+use Rattle.tree_parts.proofs.Writing.{object_takes}
 
 -- ---- places in a list whose keys rise
 
@@ -415,7 +417,7 @@ module _ (w : World) (sound : IsSound w) where
         begun = r.begun;
         taken = (
           with_object (so_far before [] number 3) e.0 (first_of e.1),
-          (e.0, first_of e.1, refl, object_next before e es number is rises, refl),
+          object_takes (so_far before [] number 3) (with_object (so_far before [] number 3) e.0 (first_of e.1)) e.0 (first_of e.1) (option_map moment_value e.1.time_access) (plain_value e.0 (first_of e.1)) refl (object_next before e es number is rises) refl w.limits,
           subst (λ (l : List (Value part)). TakesAll w.limits (Some (held before e es is (piece e.1.bytes 0))) l (Some r.begun)) (sym (append_assoc rests others names))
               (takes_append rests (others ++ names) (Some (held before e es is (piece e.1.bytes 0))) (held before e es is e.1.bytes) (Some r.begun) (rest_taken before e es is) r.taken),
         );

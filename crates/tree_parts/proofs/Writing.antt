@@ -1,5 +1,5 @@
 -- The parts of a tree as they are written, and as they are taken again.
-use Rattle.std.proofs.Common.{◌≡◌, ℕ, true, false, List, [], refl, ap, sym, ◌∙◌, subst, Some, Ok, Err, inl, inr}
+use Rattle.std.proofs.Common.{◌≡◌, ℕ, true, false, List, [], refl, ap, sym, ◌∙◌, subst, None, Some, Ok, Err}
 use Rattle.std.specs.Prelude.{Option, Result, IfSome, IfOk}
 use Rattle.std.specs.Option.{option_map_or}
 use Rattle.acl_list.specs.declared.entry.Kind.{Kind}
@@ -10,9 +10,9 @@ use Rattle.nfs_types.specs.Limits.{Limits}
 use Rattle.node_tree.specs.Restored.{Begun, with_object, with_more, with_name, object_fits, more_fits, name_fits}
 use Rattle.node_tree.specs.declared.restoring.RestoreFault.{RestoreFault}
 use Rattle.node_tree.specs.declared.restoring.RestoreFault.TheVariants.{Unsound}
-use Rattle.tree_parts.specs.Forms as forms
+use Rattle.nfs_types.specs.Forms.{time}
 use Rattle.xdr_wire.specs.Xdr.{Value}
-use Rattle.tree_parts.specs.Parts.{object_value, name_value, rest_value, piece}
+use Rattle.tree_parts.specs.Parts.{object as object_form, accessed_value, object_value, name_value, rest_value, piece}
 use Rattle.tree_parts.specs.Taken.{Takes}
 
 -- the bytes of an object
@@ -25,25 +25,32 @@ of_object w number o bytes P is same h =
     (subst (λ (b : List ℕ). P (record o { bytes = b })) (same ∙ ap (λ (b : List ℕ). piece b 0) (bytes_are w number o is)) h)
 
 -- objects with the same fields are equal
-pub same_object : (o p : Object) → o.kind ≡ p.kind → o.bytes ≡ p.bytes → o.owner ≡ p.owner → o.group ≡ p.group → o.list ≡ p.list → o.high ≡ p.high → o.change ≡ p.change → o.time_modify ≡ p.time_modify → o.time_metadata ≡ p.time_metadata → o.stamp ≡ p.stamp → o ≡ p
-same_object o p kind_is bytes_is owner_is group_is list_is high_is change_is time_modify_is time_metadata_is stamp_is =
-    ap (λ (x : Kind). let y : Object = record { kind = x; bytes = o.bytes; owner = o.owner; group = o.group; list = o.list; high = o.high; change = o.change; time_modify = o.time_modify; time_metadata = o.time_metadata; stamp = o.stamp } in y) kind_is
-    ∙ ap (λ (x : List ℕ). let y : Object = record { kind = p.kind; bytes = x; owner = o.owner; group = o.group; list = o.list; high = o.high; change = o.change; time_modify = o.time_modify; time_metadata = o.time_metadata; stamp = o.stamp } in y) bytes_is
-    ∙ ap (λ (x : ℕ). let y : Object = record { kind = p.kind; bytes = p.bytes; owner = x; group = o.group; list = o.list; high = o.high; change = o.change; time_modify = o.time_modify; time_metadata = o.time_metadata; stamp = o.stamp } in y) owner_is
-    ∙ ap (λ (x : ℕ). let y : Object = record { kind = p.kind; bytes = p.bytes; owner = p.owner; group = x; list = o.list; high = o.high; change = o.change; time_modify = o.time_modify; time_metadata = o.time_metadata; stamp = o.stamp } in y) group_is
-    ∙ ap (λ (x : List Entry). let y : Object = record { kind = p.kind; bytes = p.bytes; owner = p.owner; group = p.group; list = x; high = o.high; change = o.change; time_modify = o.time_modify; time_metadata = o.time_metadata; stamp = o.stamp } in y) list_is
-    ∙ ap (λ (x : ℕ). let y : Object = record { kind = p.kind; bytes = p.bytes; owner = p.owner; group = p.group; list = p.list; high = x; change = o.change; time_modify = o.time_modify; time_metadata = o.time_metadata; stamp = o.stamp } in y) high_is
-    ∙ ap (λ (x : ℕ). let y : Object = record { kind = p.kind; bytes = p.bytes; owner = p.owner; group = p.group; list = p.list; high = p.high; change = x; time_modify = o.time_modify; time_metadata = o.time_metadata; stamp = o.stamp } in y) change_is
-    ∙ ap (λ (x : Moment). let y : Object = record { kind = p.kind; bytes = p.bytes; owner = p.owner; group = p.group; list = p.list; high = p.high; change = p.change; time_modify = x; time_metadata = o.time_metadata; stamp = o.stamp } in y) time_modify_is
-    ∙ ap (λ (x : Moment). let y : Object = record { kind = p.kind; bytes = p.bytes; owner = p.owner; group = p.group; list = p.list; high = p.high; change = p.change; time_modify = p.time_modify; time_metadata = x; stamp = o.stamp } in y) time_metadata_is
-    ∙ ap (λ (x : ℕ). let y : Object = record { kind = p.kind; bytes = p.bytes; owner = p.owner; group = p.group; list = p.list; high = p.high; change = p.change; time_modify = p.time_modify; time_metadata = p.time_metadata; stamp = x } in y) stamp_is
+pub same_object : (o p : Object) → o.kind ≡ p.kind → o.bytes ≡ p.bytes → o.owner ≡ p.owner → o.group ≡ p.group → o.list ≡ p.list → o.high ≡ p.high → o.change ≡ p.change → o.time_access ≡ p.time_access → o.time_modify ≡ p.time_modify → o.time_metadata ≡ p.time_metadata → o.stamp ≡ p.stamp → o ≡ p
+same_object o p kind_is bytes_is owner_is group_is list_is high_is change_is time_access_is time_modify_is time_metadata_is stamp_is =
+    ap (λ (x : Kind). let y : Object = record { kind = x; bytes = o.bytes; owner = o.owner; group = o.group; list = o.list; high = o.high; change = o.change; time_access = o.time_access; time_modify = o.time_modify; time_metadata = o.time_metadata; stamp = o.stamp } in y) kind_is
+    ∙ ap (λ (x : List ℕ). let y : Object = record { kind = p.kind; bytes = x; owner = o.owner; group = o.group; list = o.list; high = o.high; change = o.change; time_access = o.time_access; time_modify = o.time_modify; time_metadata = o.time_metadata; stamp = o.stamp } in y) bytes_is
+    ∙ ap (λ (x : ℕ). let y : Object = record { kind = p.kind; bytes = p.bytes; owner = x; group = o.group; list = o.list; high = o.high; change = o.change; time_access = o.time_access; time_modify = o.time_modify; time_metadata = o.time_metadata; stamp = o.stamp } in y) owner_is
+    ∙ ap (λ (x : ℕ). let y : Object = record { kind = p.kind; bytes = p.bytes; owner = p.owner; group = x; list = o.list; high = o.high; change = o.change; time_access = o.time_access; time_modify = o.time_modify; time_metadata = o.time_metadata; stamp = o.stamp } in y) group_is
+    ∙ ap (λ (x : List Entry). let y : Object = record { kind = p.kind; bytes = p.bytes; owner = p.owner; group = p.group; list = x; high = o.high; change = o.change; time_access = o.time_access; time_modify = o.time_modify; time_metadata = o.time_metadata; stamp = o.stamp } in y) list_is
+    ∙ ap (λ (x : ℕ). let y : Object = record { kind = p.kind; bytes = p.bytes; owner = p.owner; group = p.group; list = p.list; high = x; change = o.change; time_access = o.time_access; time_modify = o.time_modify; time_metadata = o.time_metadata; stamp = o.stamp } in y) high_is
+    ∙ ap (λ (x : ℕ). let y : Object = record { kind = p.kind; bytes = p.bytes; owner = p.owner; group = p.group; list = p.list; high = p.high; change = x; time_access = o.time_access; time_modify = o.time_modify; time_metadata = o.time_metadata; stamp = o.stamp } in y) change_is
+    ∙ ap (λ (x : Option Moment). let y : Object = record { kind = p.kind; bytes = p.bytes; owner = p.owner; group = p.group; list = p.list; high = p.high; change = p.change; time_access = x; time_modify = o.time_modify; time_metadata = o.time_metadata; stamp = o.stamp } in y) time_access_is
+    ∙ ap (λ (x : Moment). let y : Object = record { kind = p.kind; bytes = p.bytes; owner = p.owner; group = p.group; list = p.list; high = p.high; change = p.change; time_access = p.time_access; time_modify = x; time_metadata = o.time_metadata; stamp = o.stamp } in y) time_modify_is
+    ∙ ap (λ (x : Moment). let y : Object = record { kind = p.kind; bytes = p.bytes; owner = p.owner; group = p.group; list = p.list; high = p.high; change = p.change; time_access = p.time_access; time_modify = p.time_modify; time_metadata = x; stamp = o.stamp } in y) time_metadata_is
+    ∙ ap (λ (x : ℕ). let y : Object = record { kind = p.kind; bytes = p.bytes; owner = p.owner; group = p.group; list = p.list; high = p.high; change = p.change; time_access = p.time_access; time_modify = p.time_modify; time_metadata = p.time_metadata; stamp = x } in y) stamp_is
 
 -- ---- what is taken
 
-pub object_taken : (r : Result Begun RestoreFault) (old : Begun) (number : ℕ) (o : Object) (v : Value forms.new_object) (last : _) → IfOk r (λ b. b ≡ with_object old number o) → (object_fits old number o ≡ false → r ≡ Err Unsound)
-    → object_value number o ≡ inr (inl (number, (v, last))) → (l : Limits) → IfOk r (λ more. Takes l (Some old) (inr (inl (number, (v, last)))) more)
-object_taken (Err e) old number o v last ok refused is l = tt
-object_taken (Ok b) old number o v last ok refused is l = (number, o, is, fits, ok)
+-- An object is taken from its value, whether or not it has a time of the last access.
+pub object_takes : (old new : Begun) (number : ℕ) (o : Object) (access : Option (Value time)) (v : Value object_form) → object_value number o ≡ accessed_value access v → object_fits old number o ≡ true → new ≡ with_object old number o
+    → (l : Limits) → Takes l (Some old) (accessed_value access v) new
+object_takes old new number o None v is fits taken l = (number, o, is, fits, taken)
+object_takes old new number o (Some access) v is fits taken l = (number, o, is, fits, taken)
+
+pub object_taken : (r : Result Begun RestoreFault) (old : Begun) (number : ℕ) (o : Object) (access : Option (Value time)) (v : Value object_form) → IfOk r (λ b. b ≡ with_object old number o) → (object_fits old number o ≡ false → r ≡ Err Unsound)
+    → object_value number o ≡ accessed_value access v → (l : Limits) → IfOk r (λ more. Takes l (Some old) (accessed_value access v) more)
+object_taken (Err e) old number o access v ok refused is l = tt
+object_taken (Ok b) old number o access v ok refused is l = object_takes old b number o access v is fits ok l
   where
     fits : object_fits old number o ≡ true
     fits = elim (object_fits old number o) as (λ t. object_fits old number o ≡ t → t ≡ true) [ true ↦ λ _. refl | false ↦ λ no. let f : Ok b ≡ Err Unsound = refused no in cc ] refl

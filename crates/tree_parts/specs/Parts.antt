@@ -1,7 +1,8 @@
 -- The XDR forms of the parts of a checkpoint (RFC 4506): the counters of a world, its objects and its names.
 use Rattle.std.specs.Prelude.{ℕ, ◌+◌, ◌-◌, ◌*◌, ◌/◌, ◌==◌, Bool, ◌||◌, not, nat_le, List, [], ◌∷◌, ◌++◌, length, map}
-use Rattle.std.specs.Prelude.{filter, take, drop, None}
+use Rattle.std.specs.Prelude.{filter, take, drop, Option, Some, None}
 use Rattle.std.specs.List.{flat_map, list_all, range_with_len}
+use Rattle.std.specs.Option.{option_map}
 use Rattle.std.proofs.Common.{inl, inr}
 use Rattle.nfs_types.specs.Forms.{time}
 use Rattle.nfs_types.specs.MomentView.{moment_value}
@@ -28,23 +29,35 @@ entry_name = fields (hyper ∷ hyper ∷ name ∷ hyper ∷ [])
 abbrev pub rest : Xdr
 rest = fields (hyper ∷ hyper ∷ bytes ∷ [])
 
+-- the time of the last access, and the object
+abbrev pub accessed : Xdr
+accessed = fields (time ∷ object ∷ [])
+
 abbrev pub part : Xdr
-part = union (arm 0 counters (arm 1 object (arm 2 entry_name (arm 3 rest no_more))))
+part = union (arm 0 counters (arm 1 object (arm 2 entry_name (arm 3 rest (arm 4 accessed no_more)))))
 
 -- ---- values
 
 abbrev pub counters_value : World → Value part
 counters_value w = inl (w.next_number, (w.next_tick, (w.next_stamp, w.next_cookie)))
 
+-- an object without the time of its last access
+abbrev pub plain_value : ℕ → Object → Value object
+plain_value number o = (
+  number,
+  (
+    (object_kind_value o.kind, (o.bytes, (o.owner, (o.group, (list_value o.list, o.high))))),
+    (o.change, (moment_value o.time_modify, (moment_value o.time_metadata, o.stamp))),
+  ),
+)
+
+-- an object with the time of its last access, if it has one
+abbrev pub accessed_value : Option (Value time) → Value object → Value part
+accessed_value None v = inr (inl v)
+accessed_value (Some access) v = inr (inr (inr (inr (inl (access, v)))))
+
 abbrev pub object_value : ℕ → Object → Value part
-object_value number o =
-    inr (inl (
-      number,
-      (
-        (object_kind_value o.kind, (o.bytes, (o.owner, (o.group, (list_value o.list, o.high))))),
-        (o.change, (moment_value o.time_modify, (moment_value o.time_metadata, o.stamp))),
-      ),
-    ))
+object_value number o = accessed_value (option_map moment_value o.time_access) (plain_value number o)
 
 abbrev pub name_value : Name → Value part
 name_value n = inr (inr (inl (n.cookie, (n.directory, (n.name, n.child)))))
@@ -90,8 +103,8 @@ parts w = counters_value w ∷ flat_map (λ e. object_parts e.0 e.1) w.objects +
 -- the value of a part that was read
 abbrev pub written_part : WrittenPart → Value part
 written_part (written.Counters numbers) = inl numbers
-written_part (written.Object number new last) =
-    inr (inl (
+written_part (written.Object access number new last) =
+    accessed_value access (
       number,
       (
         (
@@ -106,6 +119,6 @@ written_part (written.Object number new last) =
         ),
         last,
       ),
-    ))
+    )
 written_part (written.Name cookie directory name child) = inr (inr (inl (cookie, (directory, (name.bytes.now, child)))))
 written_part (written.Rest number offset bytes) = inr (inr (inr (inl (number, (offset, bytes.bytes.now)))))

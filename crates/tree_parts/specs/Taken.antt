@@ -21,7 +21,10 @@ Takes l (Some old) (inr (inr (inl v))) new =
     (n : Name) × (name_value n ≡ inr (inr (inl v))) × (name_fits old n ≡ true) × (new ≡ with_name old n)
 Takes l (Some old) (inr (inr (inr (inl v)))) new =
     (more_fits old v.0 v.1.0 v.1.1 ≡ true) × (new ≡ with_more old v.0 v.1.0 v.1.1)
-Takes l (Some old) (inr (inr (inr (inr more)))) new = elim more [ ]
+Takes l (Some old) (inr (inr (inr (inr (inl v))))) new =
+    (number : ℕ) × (o : Object) × (object_value number o ≡ inr (inr (inr (inr (inl v)))))
+    × (object_fits old number o ≡ true) × (new ≡ with_object old number o)
+Takes l (Some old) (inr (inr (inr (inr (inr more))))) new = elim more [ ]
 
 -- all of these parts were taken
 abbrev pub TakesAll : Limits → Option Begun → List (Value part) → Option Begun → Type 0

@@ -29,8 +29,14 @@ pub type WrittenObject<'a> = (
 pub enum WrittenPart<'a> {
     /// The next number, tick, stamp and cookie.
     Counters((u64, (u64, (u64, u64)))),
-    /// A number, the fields of a new object, and the last change with its two times and the stamp.
-    Object(u64, WrittenObject<'a>, (u64, (WrittenMoment, (WrittenMoment, u64)))),
+    /// The time of the last access, if the object has one beside its other times; a number, the fields of a new object,
+    /// and the last change with its two times and the stamp.
+    Object(
+        Option<WrittenMoment>,
+        u64,
+        WrittenObject<'a>,
+        (u64, (WrittenMoment, (WrittenMoment, u64))),
+    ),
     /// A cookie, a directory, a name and a child.
     Name(u64, u64, Opaque<'a, 255>, u64),
     /// A number, an offset, and the bytes at that offset.
@@ -50,7 +56,10 @@ impl<'a> Spell for WrittenPart<'a> {
     fn write<A: Allocator>(self, writer: &mut Writer<A>) -> Result<(), Full> {
         match self {
             WrittenPart::Counters(counters) => (0u32, counters).write(writer),
-            WrittenPart::Object(number, new, last) => (1u32, (number, (new, last))).write(writer),
+            WrittenPart::Object(access, number, new, last) => match access {
+                None => (1u32, (number, (new, last))).write(writer),
+                Some(access) => (4u32, (access, (number, (new, last)))).write(writer),
+            },
             WrittenPart::Name(cookie, directory, name, child) => {
                 (2u32, (cookie, (directory, (name, child)))).write(writer)
             }
@@ -68,7 +77,7 @@ impl<'a> Wire<'a> for WrittenPart<'a> {
             0 => WrittenPart::Counters(Wire::read(&mut ahead)?),
             1 => {
                 let (number, (new, last)) = Wire::read(&mut ahead)?;
-                WrittenPart::Object(number, new, last)
+                WrittenPart::Object(None, number, new, last)
             }
             2 => {
                 let (cookie, (directory, (name, child))) = Wire::read(&mut ahead)?;
@@ -77,6 +86,10 @@ impl<'a> Wire<'a> for WrittenPart<'a> {
             3 => {
                 let (number, (offset, bytes)) = Wire::read(&mut ahead)?;
                 WrittenPart::Rest(number, offset, bytes)
+            }
+            4 => {
+                let (access, (number, (new, last))) = Wire::read(&mut ahead)?;
+                WrittenPart::Object(Some(access), number, new, last)
             }
             _ => return Err(XdrFault::BadChoice),
         };
@@ -194,7 +207,11 @@ fn put_object<A: Allocator, B: Allocator>(
     let rest = (node.owner(), (node.group(), (list, node.high())));
     let new = (KindForm(node.kind()), (bytes, rest));
     let times = (node.time_modify(), (node.time_metadata(), node.stamp()));
-    (1u32, (number, (new, (node.change(), times)))).write(writer)
+    let object = (number, (new, (node.change(), times)));
+    match node.time_access() {
+        None => (1u32, object).write(writer),
+        Some(access) => (4u32, (access, object)).write(writer),
+    }
 }
 
 /// Writes the first part of the object of a number, which has one, in a form that is read again. `Full` only if it

@@ -1,5 +1,6 @@
 //! The parts of a checkpoint, taken in order.
-ghost use Rattle.std.specs.Prelude.{◌≡◌, ℕ, None, Some, Err, IfOk, IfSome, IfNone};
+ghost use Rattle.std.specs.Prelude.{◌≡◌, ℕ, Option, None, Some, Err, IfOk, IfSome, IfNone};
+ghost use Rattle.std.specs.Option.{option_map};
 ghost use Rattle.nfs_types.specs.Limits as limits_of;
 ghost use Rattle.nfs_types.specs.MomentView.{moment_value};
 ghost use Rattle.nfs_types.specs.declared.moment.Moment.{Moment};
@@ -48,10 +49,22 @@ fn list_of<A: Allocator + Copy>(
     Ok(AclList::from_vec(entries))
 }
 
-/// The fields of the object.
+/// The time of the last access, if one is written. `None`: what is written is no moment.
+fn access_of(written: Option<WrittenMoment>) -> Option<Option<Moment>>
+    ensures value { IfSome result (λ access. option_map moment_value access ≡ written) }
+    ensures none { IfNone result ((access : Option Moment) → option_map moment_value access ≡ written → ⊥) }
+{
+    match written {
+        None => Some(None),
+        Some(written) => Some(Some(moment_of(written)?)),
+    }
+}
+
+/// The fields of the object, with the times that are kept.
 fn object_of<A: Allocator + Copy>(
     alloc: A,
     written: WrittenObject<'_>,
+    kept: &Kept,
 ) -> Result<NewObject<A>, AllocError>
     ensures kind { IfOk result (λ new. new.kind ≡ written.entry.0.0) }
     ensures bytes { IfOk result (λ new. new.bytes.items ≡ written.entry.1.0.bytes.now) }
@@ -60,6 +73,8 @@ fn object_of<A: Allocator + Copy>(
     ensures list { IfOk result (λ new. list_value new.list ≡
         array_values entry None written.entry.1.1.1.1.0.count written.entry.1.1.1.1.0.bytes.now) }
     ensures high { IfOk result (λ new. new.high ≡ written.entry.1.1.1.1.1) }
+    ensures access { IfOk result (λ new. new.time_access ≡ kept.now.time_access) }
+    ensures modify { IfOk result (λ new. new.time_modify ≡ kept.now.time_modify) }
 {
     let (KindForm(kind), (bytes, (owner, (group, (list, high))))) = written;
     Ok(NewObject {
@@ -69,19 +84,27 @@ fn object_of<A: Allocator + Copy>(
         group,
         list: list_of(alloc, list)?,
         high,
+        time_access: kept.time_access,
+        time_modify: kept.time_modify,
     })
 }
 
-/// The last change of an object with its two times, and its stamp.
-fn kept_of(written: (u64, (WrittenMoment, (WrittenMoment, u64)))) -> Option<Kept>
+/// The time of an object's last access, its last change with its two times, and its stamp.
+fn kept_of(
+    access: Option<WrittenMoment>,
+    written: (u64, (WrittenMoment, (WrittenMoment, u64))),
+) -> Option<Kept>
+    ensures access { IfSome result (λ kept. option_map moment_value kept.time_access ≡ access) }
     ensures value { IfSome result (λ kept.
         (kept.change, (moment_value kept.time_modify, (moment_value kept.time_metadata, kept.stamp))) ≡ written) }
-    ensures none { IfNone result ((change : ℕ) (modify metadata : Moment) (stamp : ℕ) →
+    ensures none { IfNone result ((change : ℕ) (last : Option Moment) (modify metadata : Moment) (stamp : ℕ) →
+        option_map moment_value last ≡ access →
         (change, (moment_value modify, (moment_value metadata, stamp))) ≡ written → ⊥) }
 {
     let (change, (modify, (metadata, stamp))) = written;
     Some(Kept {
         change,
+        time_access: access_of(access)?,
         time_modify: moment_of(modify)?,
         time_metadata: moment_of(metadata)?,
         stamp,
@@ -92,19 +115,20 @@ fn kept_of(written: (u64, (WrittenMoment, (WrittenMoment, u64)))) -> Option<Kept
 fn take_object<A: Allocator + Copy>(
     alloc: A,
     restoring: Restoring<A>,
+    access: Option<WrittenMoment>,
     number: u64,
     new: WrittenObject<'_>,
     last: (u64, (WrittenMoment, (WrittenMoment, u64))),
 ) -> Result<Restoring<A>, RestoreFault>
     ensures ok { (l : limits_of.Limits) → IfOk result (λ more.
-        Takes l (Some restoring) (written_part (WrittenPart.Object number new.entry last)) more) }
+        Takes l (Some restoring) (written_part (WrittenPart.Object access number new.entry last)) more) }
     ensures unsound { result ≡ Err Unsound → (l : limits_of.Limits) (more : Begun) →
-        Takes l (Some restoring) (written_part (WrittenPart.Object number new.entry last)) more → ⊥ }
+        Takes l (Some restoring) (written_part (WrittenPart.Object access number new.entry last)) more → ⊥ }
 {
-    let Some(kept) = kept_of(last) else {
+    let Some(kept) = kept_of(access, last) else {
         return Err(RestoreFault::Unsound);
     };
-    let new = object_of(alloc, new)?;
+    let new = object_of(alloc, new, &kept)?;
     restoring.object(number, new, kept)
 }
 
@@ -127,8 +151,8 @@ pub fn take<A: Allocator + Copy>(
                 None => Err(RestoreFault::Unsound),
             }
         }
-        (Some(restoring), WrittenPart::Object(number, new, last)) => {
-            take_object(alloc, restoring, number, new, last)
+        (Some(restoring), WrittenPart::Object(access, number, new, last)) => {
+            take_object(alloc, restoring, access, number, new, last)
         }
         (Some(restoring), WrittenPart::Name(cookie, directory, name, child)) => {
             restoring.name(cookie, directory, name.bytes, child)

@@ -35,8 +35,8 @@ fn tree_with<A: Allocator + Copy>(
         group: 0,
         list: AclList::new(alloc),
         high: 0,
-        time_access: None,
-        time_modify: at(2).moment,
+        time_access: Some(EPOCH),
+        time_modify: EPOCH,
     };
     let _number = tree.add(ROOT, b"long", new, at(2))?;
     tree.resize(LONG, size, at(3))?;

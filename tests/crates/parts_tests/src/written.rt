@@ -42,10 +42,11 @@ fn the_parts_of_the_sample(rt: HostRuntime) {
     };
     assert!(rt; counters == (4, (4, (4, 5))));
     for wanted in 1..4u64 {
-        let Ok(WrittenPart::Object(number, (_, (bytes, (owner, _))), (change, (_, (_, stamp))))) =
+        let Ok(WrittenPart::Object(None, number, (_, (bytes, (owner, _))), last)) =
             WrittenPart::read(&mut reader) else {
             panic!(rt; "no object");
         };
+        let (change, (_, (_, stamp))) = last;
         assert!(rt; number == wanted && change == wanted && stamp == wanted);
         assert!(rt;
             (bytes.bytes == b"hi".as_slice()) == (number == 2) && (owner == 1001) == (number == 2)
