@@ -9,7 +9,7 @@ use Rattle.access_guard.specs.Guarded.{Guarded}
 use Rattle.access_guard.specs.Lists.{Lists}
 use Rattle.access_guard.specs.Decisions.{decision, is_granted}
 use Rattle.access_guard.specs.Lines.{lines, most_lines}
-use Rattle.access_rows.specs.declared.demand.Demand.TheVariants.{Bits, Removal}
+use Rattle.access_rows.specs.declared.demand.Demand.TheVariants.{Bits, Removal, ServerTime}
 use Rattle.node_tree.specs.Judged.{judged_of}
 use Rattle.access_guard.specs.Log.{held}
 use Rattle.compound_run.specs.declared.realm.Realm as realms
@@ -33,6 +33,7 @@ held_together first second t = ap (λ h. record t { log = record t.log { held = 
 few_lines : (d : Demand) → most_lines d ≤ MAX_ENTRIES * lists_of d + 1
 few_lines (Bits object mask) = omega arith
 few_lines (Removal parent target) = omega arith
+few_lines (ServerTime object) = omega arith
 
 -- one more demand is granted
 pub asked_next : {A : Type 0} (caller : Identity) (op : ℕ) (demands : List (Option Demand)) (old now : realms.Realm A) (i : ℕ) (d : Demand) (tree : Guarded)
