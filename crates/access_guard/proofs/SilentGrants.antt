@@ -29,7 +29,7 @@ use Rattle.access_guard.specs.declared.decision.Decision.TheVariants.{Granted}
 use Rattle.access_guard.specs.declared.line.LineKind.{LineKind}
 use Rattle.access_guard.specs.declared.line.Line.{Line}
 use Rattle.access_guard.specs.Lists.{Lists, names, first_match_at, sum_of, grants, is_quiet}
-use Rattle.access_guard.specs.Decisions.{answer, removal, decision, is_granted, is_granting, time_mask, server_time_mask}
+use Rattle.access_guard.specs.Decisions.{answer, removal, decision, is_granted, is_granting, time_mask}
 use Rattle.access_guard.specs.Lines.{line_kind, watch_line, watch_lines, deny_lines, demand_lines, lines, parent_mask}
 use Rattle.access_guard.specs.Memory.{is_silent_grant, is_silent_removal, is_silent_time, time_bit, grants_silently}
 
