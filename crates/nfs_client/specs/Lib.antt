@@ -13,6 +13,7 @@ pub mod Sessions
 pub mod Setting
 pub mod ChMod
 pub mod ChOwn
+pub mod Touch
 pub mod Acls
 pub mod GetAttr
 pub mod GetAttrViews

@@ -42,6 +42,8 @@ of_nothing =
       mode = None;
       owner = None;
       group = None;
+      access = None;
+      modify = None;
       dacl = None;
       sacl = None;
     }

@@ -27,6 +27,8 @@ fn of_mode(mode: u32) -> ClientAttributes<'static>
         mode: Some(mode),
         owner: None,
         group: None,
+        access: None,
+        modify: None,
         dacl: None,
         sacl: None,
     }

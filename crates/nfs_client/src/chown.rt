@@ -28,6 +28,8 @@ fn of_owner(owner: Bytes<'_>) -> ClientAttributes<'_>
         mode: None,
         owner: Some(owner),
         group: None,
+        access: None,
+        modify: None,
         dacl: None,
         sacl: None,
     }
@@ -45,6 +47,8 @@ fn of_group(group: Bytes<'_>) -> ClientAttributes<'_>
         mode: None,
         owner: None,
         group: Some(group),
+        access: None,
+        modify: None,
         dacl: None,
         sacl: None,
     }
@@ -52,7 +56,7 @@ fn of_group(group: Bytes<'_>) -> ClientAttributes<'_>
 
 impl<S: Transport, A: Allocator + Copy> Client<S, A> {
     /// Sets these attributes of an object.
-    fn set_attributes(
+    pub(crate) fn set_attributes(
         &mut self,
         path: &[u8],
         attributes: &ClientAttributes<'_>,

@@ -35,6 +35,7 @@ mod stat;
 mod stream;
 mod symlink;
 mod taking;
+mod touch;
 mod transport;
 mod words;
 

@@ -91,6 +91,8 @@ fn acl_attribute<'a>(part: AclPart, entries: Aces<'a>) -> ClientAttributes<'a>
         mode: None,
         owner: None,
         group: None,
+        access: None,
+        modify: None,
         dacl,
         sacl,
     }

@@ -72,6 +72,8 @@ pub(crate) fn with_size(size: Option<u64>) -> ClientAttributes<'static>
         mode: None,
         owner: None,
         group: None,
+        access: None,
+        modify: None,
         dacl: None,
         sacl: None,
     }

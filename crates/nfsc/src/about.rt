@@ -7,12 +7,16 @@ use nfs_ops::{OP_CREATE, OP_GETATTR, OP_LINK, OP_LOOKUP, OP_OPEN, OP_READ, OP_RE
 use std::fmt;
 use std::fmt::{Display, Formatter};
 
-/// The words of a command that can be no mode and no access control entry (ACE).
+/// What a command has among its words or sets, for the sentences on its faults.
 #[derive(Clone, Copy, PartialEq, Eq)]
 pub(crate) enum Form {
+    /// A word that can be no mode.
     Mode,
+    /// A word that can be no access control entry (ACE).
     Entry,
-    /// Neither a mode nor an ACE.
+    /// The times of an object, which not every server keeps.
+    Times,
+    /// None of these.
     Other,
 }
 
@@ -89,6 +93,12 @@ impl<'a> About<'a> {
                 return About {
                     objects: Objects::At(path),
                     form: Form::Mode,
+                };
+            }
+            Wish::Touch(_, path) => {
+                return About {
+                    objects: Objects::At(path),
+                    form: Form::Times,
                 };
             }
             Wish::PathOf(_) => Objects::Unnamed,

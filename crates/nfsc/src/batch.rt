@@ -3,11 +3,11 @@ use crate::about::About;
 use crate::around::Around;
 use crate::calling::Session;
 use crate::fault::Fault;
-use crate::helping::{Help, Usages};
+use crate::helping::{Help, Usages, report_time};
 use crate::lasting::Stay;
 use crate::printing::{Place, print_answer};
 use crate::quoting::words_in;
-use crate::wish::Wish;
+use crate::wish::{Wish, wrong_time};
 use nfs_client::ToolFault;
 use nfsc_options::Options;
 use std::alloc::Global;
@@ -96,6 +96,10 @@ impl<R: Net<Stream = TcpStream> + Clock + RandomSource + Files + Input + Print +
         match Wish::read(printed.as_slice(), bytes.as_slice()) {
             Some(wish) => self.act(place, wish),
             None => {
+                if let Some(word) = wrong_time(printed.as_slice()) {
+                    report_time(self.rt, place, word)?;
+                    return Ok(Fate::Failed);
+                }
                 let name = printed.first().copied().unwrap_or("");
                 Usages::of(name).report(self.rt, place, name)?;
                 Ok(Fate::Failed)

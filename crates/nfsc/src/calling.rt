@@ -142,6 +142,10 @@ fn done<S: Transport, R: Print + Eprint>(
             client.chgrp(group.as_slice(), path)?;
             Ok(Answer::Done)
         }
+        Task::Wish(Wish::Touch(time, path)) => {
+            client.touch(time, path)?;
+            Ok(Answer::Done)
+        }
         Task::Wish(Wish::SymLink(text, path)) => {
             client.symlink(text, path)?;
             Ok(Answer::Done)

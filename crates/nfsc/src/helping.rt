@@ -23,6 +23,7 @@ Commands for files and lists in words:
     path N                 prints the paths of the object of this number              path 3
     chown OWNER P          sets the owner                                             chown 1002 /notes
     chgrp GROUP P          sets the owning group                                      chgrp 200 /notes
+    touch [-t TIME] P      sets the times to the server's, or to TIME                 touch /notes
     readlink P             prints the text of a symbolic link                         readlink /latest
     cp OLD NEW             makes the bytes of OLD those of NEW                        cp /notes /docs/notes
 ";
@@ -85,11 +86,20 @@ const FORCE: &str = "
 With '--force' after the command's name a list is set even if you can't read it or change it back.
 ";
 
+/// The times that `touch` takes.
+const TIMES: &str = "
+TIME is as 2026-12-01T12:00:00Z or 2026-12-01T13:30:00.5+01:30 (RFC 3339), or '@' and the seconds
+since 1970, as @1796126400 or @-1.5. Both times are set, of the last access and of the last change
+of the bytes. A server of the profile 'office' keeps them, and no other does. The server's time
+needs write-attributes or write-data, and TIME needs write-attributes.
+";
+
 /// The note that help adds to a command's line.
 fn note_on(name: &str) -> &'static str {
     match name {
         "why" | "who" => RIGHTS,
         "setfacl" | "addfacl" | "delfacl" => FORCE,
+        "touch" => TIMES,
         _ => "",
     }
 }
@@ -153,6 +163,15 @@ impl Usages {
             }
         }
     }
+}
+
+/// Reports that a word of `touch` is no time, and which words are one.
+pub(crate) fn report_time<R: Eprint>(rt: &R, place: Place, word: &str) -> io::Result<()> {
+    let word = Printable(word.as_bytes());
+    eprintln!(rt;
+        "nfsc: {place}'{word}' is no time: TIME is as 2026-12-01T12:00:00Z (RFC 3339), \
+         or '@' and the seconds since 1970, as @1796126400.5"
+    )
 }
 
 /// A call for help.

@@ -32,6 +32,7 @@ mod printing;
 mod quoting;
 mod rights;
 mod starting;
+mod times;
 mod tree;
 mod user;
 mod why;
@@ -43,7 +44,7 @@ use around::Around;
 use descriptors::open_stand_in;
 use given::Given;
 use grouped::groups_in;
-use helping::{Help, Usages};
+use helping::{Help, Usages, report_time};
 use names::Names;
 use nfsc_options::{Options, wrong_command};
 use person::{NoPerson, Person};
@@ -57,7 +58,7 @@ use std::process::ExitCode;
 use std::random::RandomSource;
 use std::rt::{Clock, Env, Files};
 use std::{env, io, str};
-use wish::Wish;
+use wish::{Wish, wrong_time};
 
 /// The sentence on groups that can't be read.
 const GROUPS: &str =
@@ -88,6 +89,16 @@ fn refuse<R: Eprint>(rt: &R, alloc: Global, name: &str) -> Result<ExitCode> {
         eprintln!(rt; "nfsc: or these: {deep}")?;
     }
     Ok(ExitCode::from(2))
+}
+
+/// Reports that words are no command: a word that is no time, or the words of the command of their
+/// name.
+fn refuse_words<R: Eprint>(rt: &R, alloc: Global, words: &[&str]) -> Result<ExitCode> {
+    if let Some(word) = wrong_time(words) {
+        report_time(rt, Place::Call, word)?;
+        return Ok(ExitCode::from(2));
+    }
+    refuse(rt, alloc, words.first().copied().unwrap_or(""))
 }
 
 /// The help that a call without options asks for.
@@ -134,7 +145,7 @@ fn run<R: Net<Stream = TcpStream> + Clock + RandomSource + Files + Input + Print
             let outcome = calling::call(rt, alloc, options, groups, around, wish);
             Ok(status(print_answer(rt, Place::Call, options, about, outcome)?))
         }
-        None => refuse(rt, alloc, words.first().copied().unwrap_or("")),
+        None => refuse_words(rt, alloc, words),
     }
 }
 

@@ -3,6 +3,7 @@ use crate::about::{About, Form, Refusing};
 use crate::calling::server_of;
 use crate::fault::{Fault, is_denied};
 use nfs_client::{Answer, ToolFault};
+use nfs_types::Status;
 use nfsc_options::Options;
 use std::fmt::{Display, Formatter};
 use std::io::Write;
@@ -24,12 +25,15 @@ impl Display for Place {
     }
 }
 
+/// The sentence on a server that takes no times.
+const NO_TIMES: &str = "the server's profile keeps no times that are set";
+
 /// A sentence on a mode or an access control entry (ACE) that can't be read.
 fn sentence_on(form: Form) -> &'static str {
     match form {
         Form::Mode => "a mode is one to four octal digits, as in 0640",
         Form::Entry => "an entry is TYPE:FLAGS:MASK:WHO, as in A:00:00000001:1001",
-        Form::Other => Fault::Tool(ToolFault::Entry).sentence(),
+        Form::Times | Form::Other => Fault::Tool(ToolFault::Entry).sentence(),
     }
 }
 
@@ -56,6 +60,9 @@ fn explain<R: Eprint>(
         Fault::Tool(ToolFault::Refused(op, status)) if is_denied(status) => {
             let refusing = Refusing { about, op };
             eprintln!(rt; "nfsc: {place}{refusing}{}", fault.sentence())
+        }
+        Fault::Tool(ToolFault::Refused(_, Status::AttrNotSupp)) if about.form == Form::Times => {
+            eprintln!(rt; "nfsc: {place}{NO_TIMES}")
         }
         fault => eprintln!(rt; "nfsc: {place}{}", fault.sentence()),
     }

@@ -1,7 +1,9 @@
 //! The command that the words of a call request.
 use crate::deep::{Deep, Manner};
 use crate::facl::Change;
+use crate::times::time_in;
 use nfs_client::Command;
+use nfs_types::SentTime;
 
 /// The command that the words of a call request: one as the client has it, or one for people over
 /// several of them.
@@ -39,6 +41,8 @@ pub(crate) enum Wish<'a> {
     ChOwn(&'a [u8], &'a [u8]),
     /// `chgrp GROUP P`: sets the owning group.
     ChGrp(&'a [u8], &'a [u8]),
+    /// `touch [-t TIME] P`: sets the times to the server's, or to this one.
+    Touch(SentTime, &'a [u8]),
     /// `ln -s TEXT P`: makes a symbolic link.
     SymLink(&'a [u8], &'a [u8]),
     /// `readlink P`: the text of a symbolic link.
@@ -176,6 +180,20 @@ fn facl_in<'a>(words: &'a [&'a str], bytes: &'a [&'a [u8]]) -> Option<Wish<'a>> 
     }
 }
 
+/// The time of a word.
+fn sent_in(word: &str) -> Option<SentTime> {
+    let (seconds, nanoseconds) = time_in(word)?;
+    Some(SentTime::Client(seconds, nanoseconds))
+}
+
+/// The word of a command that should be a time. `None`: the command has no such word, or it is one.
+pub(crate) fn wrong_time<'a>(words: &[&'a str]) -> Option<&'a str> {
+    match words {
+        ["touch", "-t", time, _] if time_in(time).is_none() => Some(*time),
+        _ => None,
+    }
+}
+
 /// A command whose words are bytes alone.
 fn of_paths<'a>(words: &[&str], bytes: &'a [&'a [u8]]) -> Option<Wish<'a>> {
     match (words, bytes) {
@@ -184,6 +202,7 @@ fn of_paths<'a>(words: &[&str], bytes: &'a [&'a [u8]]) -> Option<Wish<'a>> {
         (["readlink", _], [_, path]) => Some(Wish::ReadLink(path)),
         (["chown", _, _], [_, owner, path]) => Some(Wish::ChOwn(owner, path)),
         (["chgrp", _, _], [_, group, path]) => Some(Wish::ChGrp(group, path)),
+        (["touch", _], [_, path]) => Some(Wish::Touch(SentTime::Server, path)),
         (["cp", _, _], [_, old, new]) => Some(Wish::Copy(old, new)),
         _ => Command::read(bytes).map(Wish::Plain),
     }
@@ -209,6 +228,9 @@ impl<'a> Wish<'a> {
             (["ln", "-s", _, _], [_, _, text, path]) => Some(Wish::SymLink(text, path)),
             (["why", user, rights, _], [_, _, _, path]) => Some(Wish::Why { user, rights, path }),
             (["who", rights, _], [_, _, path]) => Some(Wish::Who { rights, path }),
+            (["touch", "-t", time, _], [_, _, _, path]) => {
+                Some(Wish::Touch(sent_in(time)?, path))
+            }
             (["path", number], _) => match number.parse::<u64>() {
                 Ok(number) => Some(Wish::PathOf(number)),
                 Err(_) => None,

@@ -1,0 +1,1 @@
+../../../../../crates/nfsc/src/times.rt
