@@ -308,6 +308,7 @@ FAULTS = (
     ("time_access", {TIME_ACCESS: moment(1, 1)}, INVAL),
     ("time_delta", {TIME_DELTA: moment(0, 1)}, INVAL),
     ("another kind of time", {TIME_ACCESS_SET: words(2)}, BADXDR),
+    ("another kind of time with a moment", {TIME_ACCESS_SET: words(2) + moment(1, 1)}, BADXDR),
     ("the server's time with a moment", {TIME_MODIFY_SET: SERVER + moment(1, 1)}, BADXDR),
     ("a client's time without one", {TIME_MODIFY_SET: words(1)}, BADXDR),
     ("a second of nanoseconds", {TIME_ACCESS_SET: client(1, 10**9)}, INVAL),

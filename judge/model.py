@@ -4,8 +4,9 @@ It was written from the profile of the protocol alone, by an author who had seen
 dacl, sacl and a book's members were added later from the same profile, but by an author who knew the definitions and the code. It is slow and simple:
 a map of objects, a map of names for each directory, access control lists walked bit by bit. `calls.py` sends random calls to it and to `nfsd`, and
 compares the replies byte for byte. A server has the limits of one of the two profiles of docs/profile.md, by PROFILES, and its attributes, by SUPP. The
-office profile has times that are set (RFC 8881, sections 5.8.2 and 18.30). The bytes of a file are a map of the pieces that were written, since under the
-office profile a file may have 2^40 bytes.
+office profile has times that are set (RFC 8881, sections 5.8.2 and 18.30). They were added later too, from a statement of their rules, by an author who had
+seen how the tree's definitions and code keep an object's times. The bytes of a file are a map of the pieces that were written, since under the office profile
+a file may have 2^40 bytes.
 
 The letters of the items are those of XDR here: u is a u32, U a u64, I an i64, o variable opaque data, M a bitmap (`bitmap4`), F attributes
 (`fattr4`), S a stateid (`stateid4`), H a filehandle.
