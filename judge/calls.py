@@ -133,7 +133,7 @@ class Gen:
             d[58] = self.part([0, 0, 0, 1])
         if r.random() < 0.1:
             d[59] = self.part([2, 3])
-        if self.has_times and r.random() < 0.35:
+        if self.has_times and r.random() < 0.4:
             d |= self.times()
         if r.random() < 0.03:
             d[r.choice([3, 1, 14, 54, 75, 58] + [15, 45, 47, 51] * self.has_times)] = u(1)
