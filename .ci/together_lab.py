@@ -12,6 +12,10 @@ def words(*numbers):
     return struct.pack(f">{len(numbers)}I", *numbers)
 
 
+def hyper(number):
+    return struct.pack(">Q", number)
+
+
 def record(content):
     return words(0x8000_0000 | len(content)) + content
 

@@ -4,7 +4,7 @@ import random
 import struct
 import subprocess
 
-from together_lab import PATIENCE, ROOT, Server, Session, compound, free_port, lookup, make_file, null, null_reply, opaque, reply, see, some, words
+from together_lab import PATIENCE, ROOT, Server, Session, compound, free_port, hyper, lookup, make_file, null, null_reply, opaque, reply, see, some, words
 
 OFFICE = ("--profile", "office")
 NOSPC, FBIG, DELAY = 28, 27, 10008
@@ -14,10 +14,6 @@ MOST = 1 << 40
 PIECE = 32_768
 # what SEQUENCE, PUTROOTFH and LOOKUP take of the results, after the count of results
 FRONT = 4 + 44 + 8 + 8
-
-
-def hyper(number):
-    return struct.pack(">Q", number)
 
 
 def write_at(offset, content):

@@ -7,13 +7,15 @@
 Each seed from FIRST on begins a server, over standard input and output (bare), or over 127.0.0.1 with sessions (net, many), and makes that many calls. A reply
 that differs in a byte is printed, and the status is 1; with net and many the first line in which the audit trail's file differs is printed too. Both have the names and
 members of the file BOOK, if it is given. With many there are four connections at once: a call may arrive in two parts, between which the others make theirs;
-several may be sent at once; a fifth connection breaks now and then; and if several books are given, one after the other is loaded. Times aren't requested,
-since the server's clock is its own. Server and plain program have the limits of one profile, standard if the option isn't given. With office sizes and
+several may be sent at once; a fifth connection breaks now and then; and if several books are given, one after the other is loaded. Under the standard profile
+times aren't requested, since the server's clock is its own. Under office they are set and requested. A reply has a moment of the server's clock where the
+plain program's has the mark of a call: one moment for each call, and none before the run or after the reply.
+Server and plain program have the limits of one profile, standard if the option isn't given. With office sizes and
 offsets around 2^40 are drawn too, and there may be more clients. A server without sessions (bare) has no office profile. With edges the calls are written,
 and go up to limits of the profile and one further. These are the bytes and names of a file, clients and sessions. Under the standard profile they are the names
 of a directory and open files too.
 """
-import random, shutil, socket, subprocess, sys, tempfile, time, os, tomllib
+import itertools, random, re, shutil, socket, struct, subprocess, sys, tempfile, time, os, tomllib
 sys.path.insert(0, os.path.dirname(os.path.abspath(__file__)))
 import model
 from model import u, U, I, o, M, Rd
@@ -29,6 +31,15 @@ BYP = (0xffffffff, b'\xff' * 12)
 # what is drawn beside the standard profile's sizes, and beside its offsets of READ and of WRITE: around 2 MiB and 2^40
 SIZES = [2 ** 21 - 1, 2 ** 21 + 7, 3 * 2 ** 20, 2 ** 40 - 1, 2 ** 40 + 1]
 PLACES = [2 ** 20 - 1, 2 ** 20, 2 ** 21, 2 ** 40 - 3000, 2 ** 40 - 5, 2 ** 40 - 1, 2 ** 40]
+# times of a client, whose nanoseconds may be too many
+SECONDS = [0, 1, -1, 86400, 10 ** 9, 2 ** 31, 2 ** 32 + 5, -10 ** 9, 2 ** 63 - 1, -2 ** 63]
+NANOSECONDS = [0, 0, 1, 5, 10 ** 9 - 1]
+TOO_MANY = [10 ** 9, 10 ** 9 + 1, 2 ** 32 - 1]
+# The plain program has no clock: each call has a moment of its own, whose bytes no other value has.
+MARK, FRACTION = 0x5ea1c10c, 987654321
+MOMENTS = ((MARK << 32 | n, FRACTION) for n in itertools.count())
+MARKED = re.compile(re.escape(u(MARK)) + b'.{4}' + re.escape(u(FRACTION)), re.DOTALL)
+BEGUN = time.time()
 
 
 class Gen:
@@ -36,7 +47,7 @@ class Gen:
         self.r = rng
         self.s = srv
         self.sids = []
-        is_long = srv.profile == 'office'
+        is_long = self.has_times = srv.profile == 'office'
         self.sizes = [0, 0, 0, 1, 3, 10, 5000, 1048576, 1048577, 2 ** 40] + SIZES * is_long
         self.reads = [0, 0, 1, 2, 100, 2 ** 63, 2 ** 64 - 1] + PLACES * is_long
         self.writes = [0, 0, 1, 2, 3, 5, 100, 1048575, 1048576, 2 ** 64 - 1] + PLACES * is_long
@@ -67,14 +78,22 @@ class Gen:
         if x < 0.3:
             return {1, 11, 33}
         if x < 0.4:
-            return model.SUPP - {52, 53}
-        return {a for a in r.sample(range(0, 80), r.randint(1, 8)) if a not in (52, 53)} | ({11} if r.random() < 0.4 else set()) | ({12} if r.random() < 0.2 else set()) | ({33} if r.random() < 0.3 else set()) | {a for a in (58, 59) if r.random() < 0.08}
+            return self.compared()
+        it = {a for a in r.sample(range(0, 80), r.randint(1, 8)) if a not in (52, 53)} | ({11} if r.random() < 0.4 else set()) | ({12} if r.random() < 0.2 else set()) | ({33} if r.random() < 0.3 else set()) | {a for a in (58, 59) if r.random() < 0.08}
+        if self.has_times:
+            it -= model.ONLY_SET
+            it |= {a for a in (15, 45, 47, 51, 52, 53) if r.random() < 0.15} | {a for a in (48, 54) if r.random() < 0.01}
+        return it
+
+    def compared(self):
+        """the attributes that are read and compared"""
+        return self.s.supp - (model.ONLY_SET if self.has_times else {52, 53})
 
     def ace(self):
         r = self.r
         t = r.choice([0] * 6 + [1] * 4 + [2, 3] + ([4] if r.random() < 0.05 else []))
         f = r.choice([0, 0, 0, 3, 1, 2, 11, 8, 4, 7, 16, 32, 0x30, 64, 0x80]) if r.random() < 0.98 else 256
-        m = r.choice([0x1f01ff & model.DEFINED, 1, 2, 4, 32, 64, 0x80, 65536, 0x20000, 0x40000, 0x80000, 0x1200a9, 0xe0187, r.getrandbits(21) & model.DEFINED, 0])
+        m = r.choice([0x1f01ff & model.DEFINED, 1, 2, 4, 32, 64, 0x80, 65536, 0x20000, 0x40000, 0x80000, 0x1200a9, 0xe0187, r.getrandbits(21) & model.DEFINED, 0] + [0x100, 0x102, 2] * self.has_times)
         if r.random() < 0.01:
             m = 0x800
         w = r.choice(WHOS[:8]) if r.random() < 0.9 else r.choice(WHOS)
@@ -114,14 +133,31 @@ class Gen:
             d[58] = self.part([0, 0, 0, 1])
         if r.random() < 0.1:
             d[59] = self.part([2, 3])
+        if self.has_times and r.random() < 0.4:
+            d |= self.times()
         if r.random() < 0.03:
-            d[r.choice([3, 1, 14, 54, 75, 58])] = u(1)
+            d[r.choice([3, 1, 14, 54, 75, 58] + [15, 45, 47, 51] * self.has_times)] = u(1)
         b = b''.join((d[k] for k in sorted(d)))
         if r.random() < 0.02:
             b += b'\x00\x00\x00\x00'
         if r.random() < 0.01:
             b = b[:-4]
         return M(set(d)) + o(b)
+
+    def times(self):
+        """one or both of the times that are set, by the attributes' numbers"""
+        return {a: self.time() for a in self.r.choice([[48], [54], [48, 54], [48, 54]])}
+
+    def only_times(self):
+        d = self.times()
+        return M(set(d)) + o(b''.join(it for _, it in sorted(d.items())))
+
+    def time(self):
+        """the server's time, or one of the client's"""
+        r = self.r
+        if r.random() < 0.5:
+            return u(0)
+        return u(1 if r.random() < 0.97 else 2) + I(r.choice(SECONDS)) + u(r.choice(NANOSECONDS if r.random() < 0.93 else TOO_MANY))
 
     def op(self):
         r = self.r
@@ -130,7 +166,7 @@ class Gen:
 
     def F_at(self, x):
         """attributes as they are, mostly"""
-        w = {a for a in self.r.sample(sorted(model.SUPP - {52, 53, 11}), 3)}
+        w = {a for a in self.r.sample([a for a in sorted(self.compared() - {11}) if not MARKED.search(self.s.value(x, a))], 3)}
         b = b''.join((self.s.value(x, a) for a in sorted(w)))
         if self.r.random() < 0.3 and b:
             b = b[:-1] + bytes([b[-1] ^ 1])
@@ -138,6 +174,8 @@ class Gen:
             w = w | {11}
         if self.r.random() < 0.05:
             w = w | {14}
+        if self.has_times and self.r.random() < 0.04:
+            w = w | {self.r.choice([48, 54])}
         return M(w) + o(b)
 
     def enc(self, n):
@@ -182,7 +220,7 @@ class Gen:
             a = o(self.name()) + o(self.name())
         elif n == 34:
             s = self.S()
-            a = u(s[0]) + s[1] + self.F(0.2)
+            a = u(s[0]) + s[1] + (self.only_times() if self.has_times and r.random() < 0.3 else self.F(0.2))
         elif n == 38:
             s = self.S()
             a = u(s[0]) + s[1] + U(r.choice(self.writes)) + u(r.choice([0, 1, 2, 2, 2, 3]) if r.random() < 0.1 else 2) + o(r.choice([b'', b'x', b'hello', b'y' * 100, b'z' * 3000]))
@@ -205,7 +243,7 @@ class Gen:
         if a and r.random() < 0.003:
             k = r.randrange(len(a))
             other = a[:k] + bytes([a[k] ^ 1 << r.randrange(8)]) + a[k + 1:]
-            a = a if asks_times(n, other) else other
+            a = a if not self.has_times and asks_times(n, other) else other
         return u(n) + a
 
     def open_up(self):
@@ -385,7 +423,7 @@ def edges(srv):
     yield client(1)
     yield session(1, channel)
     yield call(root, opening_of(b'f', b'o'))
-    yield from long_files(call, root, anyone, most['file'])
+    yield from long_files(call, root, anyone, most['file'], {45} & srv.supp)
     for n in range(most['names'] // most['links'] + 1 if most['names'] < 5000 else 1):
         yield call(root, opening_of(b'file%d' % n, b'o'))
         there = put(srv.num - 1)
@@ -403,15 +441,15 @@ def edges(srv):
     yield session(2, narrow)
 
 
-def long_files(call, root, anyone, most):
-    """Calls on the file 2 up to its greatest size, with holes, and on new files of that size and of one byte more."""
+def long_files(call, root, anyone, most, spaces):
+    """Calls on the file 2 up to its greatest size, with holes, and on new files of that size and of one byte more. Those attributes of space are asked too."""
     def write(at, data):
         return u(38) + anyone + U(at) + u(2) + o(data)
 
     def resize(size):
         return u(34) + anyone + M({4}) + o(U(size))
 
-    said = [u(9) + M({4, 27}), *(u(25) + anyone + U(at) + u(100) for at in (0, most // 2 - 3, 3 * most // 4, most - 50, most, 2 ** 64 - 1))]
+    said = [u(9) + M({4, 27} | spaces), *(u(25) + anyone + U(at) + u(100) for at in (0, most // 2 - 3, 3 * most // 4, most - 50, most, 2 ** 64 - 1))]
     pieces = ((most // 2, b'middle'), (most - 3, b'end'), (most - 3, b'ends'), (most, b'x'), (most, b''), (2 ** 64 - 1, b'x'), (most - 7000, b'y' * 3000))
     for at, data in pieces:
         yield call(put(2), write(at, data))
@@ -428,13 +466,13 @@ def run_edges(nfsd, profile, trailfile):
     """The written calls on both, and the trail."""
     srv = model.Server(profile=profile)
     p, port = begun(nfsd, random.Random(), ['--profile', profile, '--connections', '1', '--trail', trailfile])
-    counts, ok = {}, True
+    counts, ok, moments = {}, True, {}
     with socket.create_connection(('127.0.0.1', port)) as sk, sk.makefile('rb') as rd:
         for i, rec in enumerate(edges(srv)):
-            want = srv.record(rec, (0, 0))
+            want = srv.record(rec, next(MOMENTS))
             sk.sendall(head(rec))
             count(counts, want)
-            ok = ok and is_same(rd, 'edges', i, rec, want)
+            ok = ok and is_same(rd, 'edges', i, rec, want, moments)
             if not ok:
                 break
     p.kill()
@@ -448,9 +486,21 @@ def count(counts, want):
         counts[st] = counts.get(st, 0) + 1
 
 
-def is_same(rd, seed, i, rec, want):
+def with_moments(want, got, moments):
+    """A reply with the server's moments in the places of marks, each of which stands for one moment."""
+    for it in MARKED.finditer(want):
+        place, mark = slice(*it.span()), it.group()
+        seconds, nanoseconds = struct.unpack('>qI', got[place]) if len(got) == len(want) else (0, 0)
+        if BEGUN - 2 <= seconds <= time.time() + 2 and nanoseconds < 10 ** 9:
+            moments.setdefault(mark, got[place])
+        want = want[:place.start] + moments.get(mark, mark) + want[place.stop:]
+    return want
+
+
+def is_same(rd, seed, i, rec, want, moments):
     """Whether the next reply is this one."""
     got = rd.read(int.from_bytes(rd.read(4), 'big') & 0x7fffffff)
+    want = with_moments(want, got, moments)
     if got != want:
         print('seed', seed, 'call', i, 'differs')
         print('call', rec.hex())
@@ -500,15 +550,15 @@ def run(seed, n, nfsd, bare, books, profile, trailfile):
         p, port = begun(nfsd, random.Random(), ['--profile', profile, '--connections', '1', '--trail', trailfile] + (['--book', books[0]] if books else []))
         sk = socket.create_connection(('127.0.0.1', port))
         wr, rd = sk.makefile('wb'), sk.makefile('rb')
-    counts = {}
+    counts, moments = {}, {}
     for i in range(n):
         rec, cred = next_call(g, seed, srv)
-        want = srv.record(rec, (0, 0))
+        want = srv.record(rec, next(MOMENTS))
         wr.write(head(rec))
         wr.flush()
         remember(g, srv, rec, cred)
         count(counts, want)
-        if not is_same(rd, seed, i, rec, want):
+        if not is_same(rd, seed, i, rec, want, moments):
             p.kill()
             return (counts, False)
     wr.close()
@@ -540,7 +590,7 @@ def run_many(seed, n, nfsd, books, profile, trailfile):
         it.setsockopt(socket.IPPROTO_TCP, socket.TCP_NODELAY, 1)
     readers = [it.makefile('rb') for it in streams]
     begin = [None] * 4  # for each connection the call of which a part has come: its record, its credential, and the bytes that are left
-    counts, i, ok = {}, 0, True
+    counts, i, ok, moments = {}, 0, True, {}
     while i < n and ok:
         if len(books) > 1 and rng.random() < 0.02:
             book = rng.choice(books)
@@ -552,7 +602,7 @@ def run_many(seed, n, nfsd, books, profile, trailfile):
         at = rng.randrange(4)
         if begin[at]:
             calls, piece = [begin[at][:2]], begin[at][2]
-            wants = [srv.record(calls[0][0], (0, 0))]
+            wants = [srv.record(calls[0][0], next(MOMENTS))]
             remember(g, srv, *calls[0])
             begin[at] = None
         elif rng.random() < 0.2:
@@ -566,13 +616,13 @@ def run_many(seed, n, nfsd, books, profile, trailfile):
             for _ in range(rng.choice([1, 1, 1, 2, 3, 8])):
                 rec, cred = next_call(g, seed, srv)
                 calls.append((rec, cred))
-                wants.append(srv.record(rec, (0, 0)))
+                wants.append(srv.record(rec, next(MOMENTS)))
                 remember(g, srv, rec, cred)
                 piece += head(rec)
         streams[at].sendall(piece)
         for (rec, _), want in zip(calls, wants):
             count(counts, want)
-            ok = ok and is_same(readers[at], seed, i, rec, want)
+            ok = ok and is_same(readers[at], seed, i, rec, want, moments)
             i += 1
     p.kill()
     p.wait()

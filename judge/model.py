@@ -3,8 +3,10 @@
 It was written from the profile of the protocol alone, by an author who had seen neither the definitions nor the code, and shares nothing with either.
 dacl, sacl and a book's members were added later from the same profile, but by an author who knew the definitions and the code. It is slow and simple:
 a map of objects, a map of names for each directory, access control lists walked bit by bit. `calls.py` sends random calls to it and to `nfsd`, and
-compares the replies byte for byte. A server has the limits of one of the two profiles of docs/profile.md, by PROFILES. The bytes of a file are a map of
-the pieces that were written, since under the office profile a file may have 2^40 bytes.
+compares the replies byte for byte. A server has the limits of one of the two profiles of docs/profile.md, by PROFILES, and its attributes, by SUPP. The
+office profile has times that are set (RFC 8881, sections 5.8.2 and 18.30). They were added later too, from a statement of their rules, by an author who had
+seen how the tree's definitions and code keep an object's times. The bytes of a file are a map of the pieces that were written, since under the office profile
+a file may have 2^40 bytes.
 
 The letters of the items are those of XDR here: u is a u32, U a u64, I an i64, o variable opaque data, M a bitmap (`bitmap4`), F attributes
 (`fattr4`), S a stateid (`stateid4`), H a filehandle.
@@ -22,6 +24,10 @@ def U(n):
 
 def I(n):
     return struct.pack('>q', n)
+
+
+def T(moment):
+    return I(moment[0]) + u(moment[1])
 
 
 def o(b):
@@ -101,7 +107,7 @@ def M(s):
         return u(0)
     n = max(s) // 32 + 1
     return u(n) + b''.join((u(sum((1 << a % 32 for a in s if a // 32 == i))) for i in range(n)))
-READ, WRITE, APPEND, EXEC, DELCHILD, RATTR, DELETE, RACL, WACL, WOWN = (1, 2, 4, 32, 64, 128, 65536, 0x20000, 0x40000, 0x80000)
+READ, WRITE, APPEND, EXEC, DELCHILD, RATTR, WATTR, DELETE, RACL, WACL, WOWN = (1, 2, 4, 32, 64, 128, 256, 65536, 0x20000, 0x40000, 0x80000)
 DEFINED = 0x1f07ff
 OWNER, GROUP, EVERYONE = ('OWNER@', 'GROUP@', 'EVERYONE@')
 
@@ -311,8 +317,13 @@ class Bytes:
         if n < self.size and k in self.pieces:
             self.pieces[k] = self.pieces[k][:n % PIECE] + bytes(PIECE - n % PIECE)
         self.size = n
-SUPP = {n for n in range(96) if [0xe8183fff, 0x0cb0003a, 0x800][n // 32] >> n % 32 & 1}
-SETTABLE = {4, 12, 33, 36, 37, 58, 59}
+# the supported attributes of each profile, by the words of supported_attrs
+WORDS = dict(standard=(0xe8183fff, 0x0cb0003a, 0x800), office=(0xe818bfff, 0x0cf9a03a, 0x800))
+SUPP = {profile: {n for n in range(96) if words[n // 32] >> n % 32 & 1} for profile, words in WORDS.items()}
+SETTABLE = {4, 12, 33, 36, 37, 48, 54, 58, 59}
+ONLY_SET = {48, 54}
+BY_RATTR = {3, 4, 33, 35, 36, 37, 45, 47, 52, 53}
+BY_RACL = {12, 58, 59}
 OPS = {3, 4, 5, 6, 9, 10, 11, 15, 16, 17, 18, 22, 24, 25, 26, 27, 28, 29, 31, 32, 34, 37, 38, 42, 43, 44, 53, 57, 58}
 NAMES = {3: 'ACCESS', 4: 'CLOSE', 5: 'COMMIT', 6: 'CREATE', 9: 'GETATTR', 10: 'GETFH', 11: 'LINK', 15: 'LOOKUP', 16: 'LOOKUPP', 17: 'NVERIFY', 18: 'OPEN', 22: 'PUTFH', 24: 'PUTROOTFH', 25: 'READ', 26: 'READDIR', 27: 'READLINK', 28: 'REMOVE', 29: 'RENAME', 31: 'RESTOREFH', 32: 'SAVEFH', 34: 'SETATTR', 37: 'VERIFY', 38: 'WRITE'}
 
@@ -488,6 +499,7 @@ class Server:
     def __init__(self, book=None, bare=False, lasting=False, profile='standard'):
         self.profile = profile
         self.limits = PROFILES[profile]
+        self.supp = SUPP[profile]
         self.book = book or Book()
         self.bare = bare
         self.lasting = lasting
@@ -524,6 +536,7 @@ class Server:
         x.lst = lst
         x.high = high
         x.tm = x.tc = now
+        x.ta = now if 47 in self.supp else None
         x.change = self.tick
         self.tick += 1
         x.data = Bytes(data or b'')
@@ -581,7 +594,7 @@ class Server:
 
     def value(self, x, a, err=0):
         if a == 0:
-            return M(SUPP)
+            return M(self.supp)
         if a == 1:
             return u(x.kind)
         if a == 2:
@@ -606,6 +619,8 @@ class Server:
             return u(0) + self.raws([e for e in x.lst if (e[0] >= 2) == (a == 59)])
         if a == 13:
             return u(15)
+        if a == 15:
+            return u(1)
         if a == 19:
             return o(as_handle(x.n))
         if a in (20, 55):
@@ -626,22 +641,31 @@ class Server:
             return o(self.book.name(False, x.ow))
         if a == 37:
             return o(self.book.name(True, x.gr))
+        if a == 45:
+            return U(-(-x.data.size // 4096) * 4096 if x.kind == 1 else 4096)
+        if a == 47:
+            return T(x.tm if x.ta is None else x.ta)
+        if a == 51:
+            return T((0, 1))
         if a == 52:
-            return I(x.tc[0]) + u(x.tc[1])
+            return T(x.tc)
         if a == 53:
-            return I(x.tm[0]) + u(x.tm[1])
+            return T(x.tm)
         if a == 75:
             return u(0)
         raise AssertionError(a)
 
     def attrs(self, x, want, err=0):
-        s = want & SUPP
+        s = want & self.supp
         return M(s) + o(b''.join((self.value(x, a, err) for a in sorted(s))))
 
     def given(self, F, kind):
-        """attributes to be set: {4: size, 12: list, 33: mode, 36: uid, 37: gid, 58: dacl, 59: sacl}"""
+        """attributes to be set: {4: size, 12: list, 33: mode, 36: uid, 37: gid, 48: time of access, 54: time of change, 58: dacl, 59: sacl}
+
+        A time is None where it is the server's.
+        """
         s, data = F
-        need(s <= SUPP, 'ATTRNOTSUPP')
+        need(s <= self.supp, 'ATTRNOTSUPP')
         need(s <= SETTABLE, 'INVAL')
         r = Rd(data)
         raw = {}
@@ -654,6 +678,8 @@ class Server:
                     raw[a] = (fl, [(r.u(), r.u(), r.u(), r.o()) for _ in range(self.count(r))])
                 elif a == 33:
                     raw[33] = r.u()
+                elif a in (48, 54):
+                    raw[a] = (r.I(), r.u()) if r.b_() else None
                 else:
                     raw[a] = r.o()
             if not r.end():
@@ -673,6 +699,10 @@ class Server:
             if a in raw:
                 got[a] = self.book.number(a == 37, raw[a])
                 need(got[a] is not None, 'BADOWNER')
+        for a in (48, 54):
+            if a in raw:
+                need(raw[a] is None or raw[a][1] < 10 ** 9, 'INVAL')
+                got[a] = raw[a]
         for a in (58, 59):
             if a in raw:
                 got[a] = self.admitted(raw[a], kind)
@@ -752,7 +782,10 @@ class Server:
         return op
 
     def attr_rows(self, want):
-        return (RATTR if want & {3, 4, 33, 35, 36, 37, 52, 53} else 0, RACL if want & {12, 58, 59} else 0)
+        return (RATTR if want & self.supp & BY_RATTR else 0, RACL if want & self.supp & BY_RACL else 0)
+
+    def readable(self, want):
+        need(not want & self.supp & ONLY_SET, 'INVAL')
 
     def compound(self, args, reclen, caller, now):
         """Gives the results' bytes (status, tag, count, results), or None for garbage."""
@@ -905,6 +938,7 @@ class Server:
         x = self.cur()
         self.isdir(x)
         need(cookie not in (1, 2), 'BAD_COOKIE')
+        self.readable(want)
         self.bits(x, 1, self.c, 26)
         ents = sorted(((ck, nm, ch) for nm, (ch, ck) in self.names[x.n].items() if ck > cookie))
         lim = min(maxc, self.room - 8)
@@ -916,7 +950,7 @@ class Server:
             ra, rl = self.attr_rows(want)
             err = 0
             w = set(want)
-            for m, gone in ((ra, {3, 4, 33, 35, 36, 37, 52, 53}), (rl, {12, 58, 59})):
+            for m, gone in ((ra, BY_RATTR), (rl, BY_RACL)):
                 if m and (not self.grants(y, self.c, m)):
                     if 11 not in want:
                         self.bits(y, m, self.c, 26)
@@ -981,6 +1015,7 @@ class Server:
 
     def op9(self, want):
         x = self.cur()
+        self.readable(want)
         ra, rl = self.attr_rows(want)
         self.bits(x, ra | rl, self.c, 9)
         F = self.attrs(x, want)
@@ -991,8 +1026,8 @@ class Server:
     def same(self, F, n):
         x = self.cur()
         s, d = F
-        need(s <= SUPP, 'ATTRNOTSUPP')
-        need(11 not in s, 'INVAL')
+        need(s <= self.supp, 'ATTRNOTSUPP')
+        need(not s & {11, *ONLY_SET}, 'INVAL')
         ra, rl = self.attr_rows(s)
         self.bits(x, ra | rl, self.c, n)
         return d == b''.join((self.value(x, a) for a in sorted(s)))
@@ -1012,8 +1047,12 @@ class Server:
         if 4 in got:
             need(x.kind == 1, 'INVAL')
             self.state(S, x, 2, self.cl)
+        times = [got[a] for a in (48, 54) if a in got]
         mask = (2 | (4 if got[4] > x.data.size else 0) if 4 in got else 0) | (WACL if {12, 33, 58, 59} & got.keys() else 0) | (WOWN if {36, 37} & got.keys() else 0)
-        self.bits(x, mask, self.c, 34)
+        self.bits(x, mask | (WATTR if any(it is not None for it in times) else 0), self.c, 34)
+        if times and all(it is None for it in times):
+            held = [m for m in (WATTR, WRITE) if judge(x.lst, x.ow, x.gr, self.c, m) is None]
+            self.bits(x, held[0] if held else WATTR, self.c, 34)
         if 4 in got:
             need(got[4] <= self.limits['file'], 'FBIG')
         lst = x.lst
@@ -1038,7 +1077,14 @@ class Server:
             if 4 in got:
                 x.tm = self.now
                 x.data.resize(got[4])
+            self.set_times(x, got)
         return M(set(got))
+
+    def set_times(self, x, got):
+        if 48 in got:
+            x.ta = self.now if got[48] is None else got[48]
+        if 54 in got:
+            x.tm = self.now if got[54] is None else got[54]
 
     def perm(self, got):
         need(36 not in got or got[36] == self.c[0], 'PERM')
@@ -1051,6 +1097,7 @@ class Server:
         lst, high = self.born(p, kind, got)
         old = p.change
         x = self.make(kind, self.c[0], got.get(37, self.c[2]), lst, high, self.now, data)
+        self.set_times(x, got)
         self.names[p.n][name] = (x.n, self.cookie)
         self.cookie += 1
         x.up = p.n

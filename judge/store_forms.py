@@ -6,7 +6,7 @@ A checkpoint of either profile is read. Its head has the profile's number, which
 import dataclasses
 import tomllib
 
-from model import PIECE, PROFILES, Bytes, I, Rd, Short, U, kept, o, u
+from model import PIECE, PROFILES, Bytes, Rd, Short, T, U, kept, o, u
 from store_files import Refused
 
 DIRECTORY, FILE, LINK = 2, 1, 5
@@ -122,13 +122,14 @@ def entries_of_list(r):
     return tuple(found)
 
 
-def object_of(r):
+def object_of(r, access):
+    """An object with this time of access, which is None where its part has none."""
     number, kind = r.U(), r.u()
     want(kind in (FILE, DIRECTORY, LINK), f'the kind of an object is {kind}')
     data, owner, group, entries, high = opaque(r, MOST_OF_A_PART), r.u(), r.u(), entries_of_list(r), r.u()
     want(kind != DIRECTORY or not data, 'a directory has bytes')
     want(kind != LINK or len(data) <= 1024, f'the text of a link has {len(data)} bytes')
-    return number, (kind, Bytes(data), owner, group, entries, high, r.U(), moment(r), moment(r), r.U())
+    return number, (kind, Bytes(data), owner, group, entries, high, r.U(), access, moment(r), moment(r), r.U())
 
 
 def name_of(r):
@@ -251,9 +252,9 @@ def read_part(state, r):
         want(state.counters is None, 'there are counters twice')
         want(not state.objects and not state.names, 'the counters come after an object or a name')
         state.counters = tuple(r.U() for _ in range(4))
-    elif kind == 1:
+    elif kind in (1, 4):
         want(state.counters is not None, 'an object comes before the counters')
-        add_risen(state.objects, object_of(r), 'object')
+        add_risen(state.objects, object_of(r, moment(r) if kind == 4 else None), 'object')
     elif kind == 2:
         want(state.counters is not None, 'a name comes before the counters')
         add_risen(state.names, name_of(r), 'cookie')
@@ -304,9 +305,9 @@ def judge_tree(state):
     want(len(state.objects) <= limits['objects'], 'there are too many objects')
     stamps = set()
     for key, it in state.objects.items():
-        want(0 < key < number and it[6] < tick and it[9] < stamp, f'object {key} is not below the counters')
-        want(it[9] not in stamps, f'object {key} has the stamp of another one')
-        stamps.add(it[9])
+        want(0 < key < number and it[6] < tick and it[10] < stamp, f'object {key} is not below the counters')
+        want(it[10] not in stamps, f'object {key} has the stamp of another one')
+        stamps.add(it[10])
     want(cookie >= 3 and all(3 <= key < cookie for key in state.names), 'a cookie is below 3, or not below the counter')
     want(1 in state.objects and state.objects[1][0] == DIRECTORY, 'there is no root')
     judge_names(state, limits)
@@ -400,10 +401,12 @@ def put_who(who):
 
 
 def put_object(number, it):
-    kind, data, owner, group, entries, high, change, modify, metadata, stamp = it
+    """The first part of an object: of type 4, and its time of access first, where it has one."""
+    kind, data, owner, group, entries, high, change, access, modify, metadata, stamp = it
     listed = u(len(entries)) + b''.join(u(t) + u(f) + u(m) + put_who(w) for t, f, m, w in entries)
-    times = b''.join(I(seconds) + u(nanoseconds) for seconds, nanoseconds in (modify, metadata))
-    return U(number) + u(kind) + o(data.read(0, MOST_OF_A_PART)) + u(owner) + u(group) + listed + u(high) + U(change) + times + U(stamp)
+    front = u(1) if access is None else u(4) + T(access)
+    made = u(kind) + o(data.read(0, MOST_OF_A_PART)) + u(owner) + u(group) + listed + u(high)
+    return front + U(number) + made + U(change) + T(modify) + T(metadata) + U(stamp)
 
 
 def rests_of(data):
@@ -434,7 +437,7 @@ def parts_of(state):
         yield put_clients(state, calls + opens[OPENS_OF_A_PART * place:OPENS_OF_A_PART * (place + 1)])
     yield u(0) + b''.join(map(U, state.counters))
     for number, it in sorted(state.objects.items()):
-        yield u(1) + put_object(number, it)
+        yield put_object(number, it)
         for offset, rest in rests_of(it[1]):
             yield u(3) + U(number) + U(offset) + o(rest)
     for cookie, (directory, word, child) in sorted(state.names.items()):

@@ -38,7 +38,7 @@ class Replay(model.Server):
         for number, it in state.objects.items():
             x = self.objs[number] = model.Obj()
             x.n, x.up, x.links = number, 0, 1 if it[0] == 2 else 0
-            x.kind, data, x.ow, x.gr, entries, x.high, x.change, x.tm, x.tc, x.stamp = it
+            x.kind, data, x.ow, x.gr, entries, x.high, x.change, x.ta, x.tm, x.tc, x.stamp = it
             x.data, x.lst = data.copy(), list(entries)
             if x.kind == 2:
                 self.names[number] = {}
@@ -137,7 +137,7 @@ class Replay(model.Server):
         for number, q in self.opens.items():
             it.opens[number] = q['cl'], q['own'], q['obj'], q['acc'], q['seq']
         for number, x in self.objs.items():
-            it.objects[number] = x.kind, x.data.copy(), x.ow, x.gr, tuple(x.lst), x.high, x.change, x.tm, x.tc, x.stamp
+            it.objects[number] = x.kind, x.data.copy(), x.ow, x.gr, tuple(x.lst), x.high, x.change, x.ta, x.tm, x.tc, x.stamp
         for directory, there in self.names.items():
             for word, (child, cookie) in there.items():
                 it.names[cookie] = directory, word, child

@@ -66,7 +66,7 @@ def fill(nfsd, folder, profile, seed, count, books):
                     shutil.copy(rng.choice(books), f'{book}.new')
                     os.replace(f'{book}.new', book)
                 record, cred = calls.next_call(g, seed, srv)
-                srv.record(record, (0, 0))
+                srv.record(record, next(calls.MOMENTS))
                 calls.remember(g, srv, record, cred)
                 peer.sendall(calls.head(record))
                 replies.read(int.from_bytes(replies.read(4), 'big') & 0x7fffffff)
@@ -82,7 +82,7 @@ def fill_edges(nfsd, folder, profile):
     ran, port = calls.begun(nfsd, random.Random(), ['--profile', profile, '--connections', '1', '--store', folder])
     with socket.create_connection(('127.0.0.1', port)) as peer, peer.makefile('rb') as replies:
         for record in calls.edges(srv):
-            srv.record(record, (0, 0))
+            srv.record(record, next(calls.MOMENTS))
             peer.sendall(calls.head(record))
             replies.read(int.from_bytes(replies.read(4), 'big') & 0x7fffffff)
     ran.kill()
