@@ -35,6 +35,7 @@ use Rattle.access_guard.specs.Lists.{Lists, granted_at, verdict_of, names, sum_o
 use Rattle.access_guard.specs.Decisions.{decision, is_granted, answer}
 use Rattle.compound_run.specs.Context.{Context}
 use Rattle.compound_run.specs.Sight.{Sight}
+use Rattle.compound_run.specs.Requested.{requested}
 use Rattle.compound_run.specs.Rows.{object_of}
 use Rattle.compound_run.specs.Values.{facts_at}
 use Rattle.compound_run.specs.Operations.Readdir.{allows, first_refused, permitted, judgment, judgment_of, entry_of}
@@ -288,8 +289,8 @@ pub what_refuses : (c : Context) (v : Value readdir_args) (directory : ℕ) (s :
 unfolding listed listing
 what_refuses c v directory s d h =
     let limit = readdir_limit (listed_at_most v) c.room in
-    let all = judged_above c (listed_attributes v) directory (listed_after v) s in
-    among c (listed_attributes v) s d (1 + fitting limit all) (names_above s directory (listed_after v)) (listing_refuses limit all (first_refusal (judged_within limit all)) d h)
+    let all = judged_above c (requested c (listed_attributes v)) directory (listed_after v) s in
+    among c (requested c (listed_attributes v)) s d (1 + fitting limit all) (names_above s directory (listed_after v)) (listing_refuses limit all (first_refusal (judged_within limit all)) d h)
 
 -- ---- the bytes that the code writes
 

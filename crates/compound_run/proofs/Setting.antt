@@ -88,6 +88,57 @@ not_sized room c h v e out number wanted status is_here there is_wanted wrong = 
 abbrev pub demanded : {A : Type 0} → Value setattr_args → FileHandles → realms.Realm A → Wanted → Demands
 demanded v h e wanted = first_demands (Known kinds.SetAttr v) (sized_facts (sight_of e) h wanted.size (clock_of wanted))
 
+-- the size is above the limit of a file
+module _ {A : Type 0} (c : Context) (h : FileHandles) (v : Value setattr_args) (e : realms.Realm A) (wanted : Wanted)
+    (set : is_some h.current ≡ true)
+    (is_live : is_some (kind_of e.tree.world (here h)) ≡ true)
+    (is_wanted : sent c v (kind_at (sight_of e) (here h)) ≡ Ok wanted)
+    (size : size_fault wanted.size c (here h) (set_stateid v) (sight_of e) ≡ None)
+    (granted : all_granted (judged_of e.tree.world) c.caller (demanded v h e wanted) ≡ true)
+    (unfit : size_fits e.tree.world.limits wanted.size ≡ false) where
+  is_too_large : failure c.caller (sight_of e) (setattr v c h).questions ≡ Some statuses.FBig
+  is_too_large = rw set (rw is_live (rw is_wanted (rw size (rw granted (rw unfit refl)))))
+
+  large_lines : trace c.caller (row kinds.SetAttr).number (sight_of e) (setattr v c h).questions ≡ demand_lines (judged_of e.tree.world) c.caller (row kinds.SetAttr).number (demanded v h e wanted)
+  large_lines = rw set (rw is_live (rw is_wanted (rw size (rw granted (rw unfit (append-nil (demand_lines (judged_of e.tree.world) c.caller (row kinds.SetAttr).number (demanded v h e wanted))))))))
+
+  gives_too_large : (room : ℕ) (mid : realms.Realm A) (out : Buffer)
+      → mid ≡ holding (demand_lines (judged_of e.tree.world) c.caller (row kinds.SetAttr).number (demanded v h e wanted)) e
+      → OperationGives (sense true (setattr v c h) waits) room h (stage e out) (Err statuses.FBig) (stage mid out)
+  gives_too_large room mid out holds =
+      subst (λ (x : realms.Realm A). OperationGives (sense true (setattr v c h) waits) room h (stage e out) (Err statuses.FBig) (stage x out)) (sym holds) (record {
+        answered = record {
+          outcome = λ apart. ap (λ f. result_unless f (Done kinds.SetAttr (set_of (set_attributes v)))) (sym is_too_large);
+          log = λ apart. ap (λ l. held l e.tree.log) (sym large_lines);
+          trail_stays = λ d. refl;
+          total_stays = λ d. refl;
+          realm = tt;
+          handles = tt;
+          realm_stays = refl;
+          handles_stay = refl;
+          settings = refl;
+        };
+        written = tt;
+        within = tt;
+        unwritten = refl;
+      })
+
+pub too_large : {A : Type 0} (room : ℕ) (c : Context) (h : FileHandles) (v : Value setattr_args) (e mid : realms.Realm A) (out : Buffer) (number : ℕ) (wanted : Wanted)
+    → h.current ≡ Some number → IsSome (object e.tree.world number)
+    → sent c v (kind_at (sight_of e) number) ≡ Ok wanted
+    → size_fault wanted.size c number (set_stateid v) (sight_of e) ≡ None
+    → all_granted (judged_of e.tree.world) c.caller (demanded v h e wanted) ≡ true
+    → size_fits e.tree.world.limits wanted.size ≡ false
+    → mid ≡ holding (demand_lines (judged_of e.tree.world) c.caller (row kinds.SetAttr).number (demanded v h e wanted)) e
+    → OperationGives (sense true (setattr v c h) waits) room h (stage e out) (Err statuses.FBig) (stage mid out)
+too_large room c h v e mid out number wanted is_here there is_wanted size granted unfit holds =
+    let same : number ≡ here h = sym (ap (λ n. unwrap_or n 0) is_here) in
+    gives_too_large c h v e wanted (ap is_some is_here)
+    (subst (λ n. is_some (kind_of e.tree.world n) ≡ true) same (live (object e.tree.world number) there))
+    (subst (λ n. sent c v (kind_at (sight_of e) n) ≡ Ok wanted) same is_wanted)
+    (subst (λ n. size_fault wanted.size c n (set_stateid v) (sight_of e) ≡ None) same size)
+    granted unfit room mid out holds
+
 -- all questions pass
 module _ {A : Type 0} (c : Context) (h : FileHandles) (v : Value setattr_args) (e : realms.Realm A) (wanted : Wanted)
     (set : is_some h.current ≡ true)

@@ -19,8 +19,9 @@ returns-clause-answers g c =
     let whole : new.reply_size - 24 + 24 ≡ new.reply_size = omega (arith, c.requires.has_slot.7) in
     let d = context_after_sequence c.args.self.now.tree.book c.args.self.now.tree.world.limits.times call v new in
     let room : first_room (new.reply_size - 24 + 24) tag - length (result_bytes given) ≡ first_room new.reply_size tag - length (result_bytes (sequence_done v new.highest_slot)) = λ i. first_room (whole i) tag - length (result_bytes (outcome i)) in
-    let is : record d { room = first_room (new.reply_size - 24 + 24) tag - length (result_bytes given) } ≡ d = ap (λ (r : ℕ). record d { room = r }) room in
-    sequenced_cached call.refused (new.reply_size - 24) (new.reply_size - 24) (record d { room = first_room (new.reply_size - 24 + 24) tag - length (result_bytes given) }) d tag v given (sequence_done v new.highest_slot) c.args.operations.now
+    let from = record d { times = c.times.result; room = first_room (new.reply_size - 24 + 24) tag - length (result_bytes given) } in
+    let is : from ≡ d = λ i. record d { times = c.times.ensures i; room = room i } in
+    sequenced_cached call.refused (new.reply_size - 24) (new.reply_size - 24) from d tag v given (sequence_done v new.highest_slot) c.args.operations.now
     c.args.self.now c.run_after_sequence-ended.new.realm c.keep_from.new.self c.args.out.now c.run_after_sequence-ended.new.out c.len-start.result
     c.run_after_sequence-ended.ensures.answers refl is outcome c.len-start.ensures c.keep_from.ensures
 

@@ -6,7 +6,7 @@ use Rattle.compound_run.specs.Runs.{waits}
 use Rattle.compound_run.specs.Operations.Setattr.{setattr}
 use Rattle.compound_run.specs.declared.filehandles.FileHandles.{FileHandles}
 use Rattle.compound_run.specs.Views.{context_at, wanted_view, OperationGives, stage, sense}
-use Rattle.compound_run.proofs.Setting.{not_sized, not_wanted, attributes_refused, attributes_set}
+use Rattle.compound_run.proofs.Setting.{not_sized, not_wanted, too_large, attributes_refused, attributes_set}
 use Rattle.compound_run.proofs.realm.Realm.setattr.Goals as goal
 
 pub returns-in_err-wanted : goal.returns-in_err-wanted
@@ -25,6 +25,12 @@ returns-in_err-check_size g c =
     let is : c.from_residual-in_err-check_size.result ≡ Err status = search rules in
     subst (λ (r : Result FileHandles Status). OperationGives (sense true (setattr v context c.args.step.handles) waits) c.args.step.context.room c.args.step.handles (stage c.args.self.now c.args.out.now) r (stage c.args.self.now c.args.out.now)) (sym is)
     (not_sized c.args.step.context.room context c.args.step.handles v c.args.self.now c.args.out.now c.in_ok-number.number (wanted_view c.in_ok-wanted.wanted) status (search rules) (search rules) c.in_ok-wanted.ensures.wanted c.in_err-check_size.ensures.fault)
+
+pub returns-then-not-size_fits : goal.returns-then-not-size_fits
+returns-then-not-size_fits g c =
+    too_large c.args.step.context.room (context_at c.args.self.now c.args.step.context) c.args.step.handles (setattr_args_value c.args.args.now) c.args.self.now c.grants_sized.new.self c.args.out.now
+    c.in_ok-number.number (wanted_view c.in_ok-wanted.wanted)
+    (search rules) (search rules) c.in_ok-wanted.ensures.wanted c.in_ok-check_size.ensures.fault (search rules) (search rules) (search rules)
 
 pub returns-in_err-set_any : goal.returns-in_err-set_any
 returns-in_err-set_any g c =
