@@ -167,6 +167,7 @@ asks_first w caller s d from to =
       saved = option_map (λ kind. record { number = s; kind = kind }) from;
       size = None;
       new_size = None;
+      clock = None;
     })) ≡ true
 
 both_execute : (w : Realm) (caller : Identity) (s d : ℕ) (from to : Option Kind) → is_some from ≡ true → is_some to ≡ true → asks_first w caller s d from to
