@@ -419,13 +419,7 @@ impl<A: Allocator + Copy> GuardedTree<A> {
     }
 
     /// As [`Tree::set_times`].
-    pub fn set_times(
-        &mut self,
-        number: u64,
-        access: Option<Moment>,
-        modify: Option<Moment>,
-        at: At,
-    )
+    pub fn set_times(&mut self, number: u64, access: Option<Moment>, modify: Option<Moment>, at: At)
         requires tick { IsTick self.old.world at.tick }
         ensures { self.new ≡ record self.old { world = with_times self.old.world number access modify at } }
     {

@@ -63,7 +63,8 @@ AreExact lists caller asked (n ∷ names) (e ∷ entries) =
 pub record GivesExactly (c : Context) (h : Handles) (v : Value readdir_args) (s : Sight) (o : Outcome) : Type 0 where
   pub given : Listing
   pub is : o ≡ readdir_outcome given
-  pub exact : AreExact s.lists c.caller (requested c (listed_attributes v)) (names_above s (here h) (listed_after v)) given.entries
+  pub exact : AreExact s.lists c.caller (requested c (listed_attributes v)) (names_above s (here h) (listed_after v))
+      given.entries
 
 -- ---- a READDIR that is refused
 
@@ -71,7 +72,8 @@ pub record GivesExactly (c : Context) (h : Handles) (v : Value readdir_args) (s 
 abbrev pub before_row : Context → Handles → Value readdir_args → List Question
 before_row c h v =
     is_valid (entry_fault c (Known kinds.ReadDir v)) (entry_may c (Known kinds.ReadDir v))
-    ∷ with_handle h.current (is_directory (here h) ∷ is_cookie (listed_after v) ∷ is_readable (requested c (listed_attributes v)) ∷ [])
+    ∷ with_handle h.current
+    (is_directory (here h) ∷ is_cookie (listed_after v) ∷ is_readable (requested c (listed_attributes v)) ∷ [])
 
 -- LIST_DIRECTORY is demanded, and isn't granted
 pub record IsUnlisted (c : Context) (h : Handles) (v : Value readdir_args) (s : Sight) : Type 0 where
@@ -92,4 +94,5 @@ pub record MeetsRefused (c : Context) (h : Handles) (v : Value readdir_args) (s 
   pub within : (entries ≡ []) ⊎ (listing_size entries ≤ readdir_limit (listed_at_most v) c.room)
   pub unasked : has_number (requested c (listed_attributes v)) 11 ≡ false
   pub refused : IsSome
-      (first_refused s.lists c.caller (entry_demands (requested c (listed_attributes v)) (object_of s (Some name.child))))
+      (first_refused s.lists c.caller
+      (entry_demands (requested c (listed_attributes v)) (object_of s (Some name.child))))

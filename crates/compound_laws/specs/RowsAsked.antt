@@ -25,7 +25,8 @@ use Rattle.compound_run.specs.Times.{clock_of}
 -- size before it, of GETATTR with the requested attributes that the profile supports.
 abbrev pub first_of : Context → Handles → Operation → Sight → Demands
 first_of c h (Known kinds.SetAttr v) s =
-    first_demands (Known kinds.SetAttr v) (sized_facts s h (wanted_on c v (here h) s).size (clock_of (wanted_on c v (here h) s)))
+    first_demands (Known kinds.SetAttr v)
+    (sized_facts s h (wanted_on c v (here h) s).size (clock_of (wanted_on c v (here h) s)))
 first_of c h (Known kinds.Write v) s = first_demands (Known kinds.Write v) (sized_facts s h None None)
 first_of c h (Known kinds.GetAttr asked) s = first_demands (Known kinds.GetAttr (requested c asked)) (first_facts s h)
 first_of c h op s = first_demands op (first_facts s h)

@@ -119,12 +119,7 @@ fn copied<A: Allocator>(alloc: A, bytes: &[u8]) -> Result<Vec<u8, A>, AllocError
 
 impl<A: Allocator + Copy> Realm<A> {
     /// The values that the attributes set. `Delay`: an allocation for the ACL fails.
-    pub fn wanted(
-        &self,
-        times: bool,
-        kind: Kind,
-        sent: &Attributes<'_>,
-    ) -> Result<Attrs<A>, Status>
+    pub fn wanted(&self, times: bool, kind: Kind, sent: &Attributes<'_>) -> Result<Attrs<A>, Status>
         ensures wanted { IsWanted (wanted_of times self.now.tree.book kind (bitmap_value sent.now.set)
             sent.now.values.bytes.now) result }
         ensures bounded { IfOk result (λ wanted. IfSome wanted.list IsBounded) }

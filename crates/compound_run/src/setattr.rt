@@ -247,13 +247,7 @@ impl<A: Allocator + Copy> Realm<A> {
     }
 
     /// Sets the times of an object, if one of them is to be set.
-    fn set_times(
-        &mut self,
-        number: u64,
-        access: Option<SetTime>,
-        modify: Option<SetTime>,
-        at: At,
-    )
+    fn set_times(&mut self, number: u64, access: Option<SetTime>, modify: Option<SetTime>, at: At)
         requires tick { IsTick self.old.tree.world at.tick }
         ensures { self.new ≡ with_world (retimed number access modify at self.old.tree.world) self.old }
     {

@@ -37,11 +37,7 @@ pub(crate) fn clock_by(access: Option<SetTime>, modify: Option<SetTime>) -> Opti
 }
 
 /// The time_access of a new object. `None`: it is time_modify.
-pub(crate) fn first_access(
-    times: bool,
-    now: Moment,
-    access: Option<SetTime>,
-) -> Option<Moment>
+pub(crate) fn first_access(times: bool, now: Moment, access: Option<SetTime>) -> Option<Moment>
     ensures { result ≡ specs.first_access times now access }
 {
     if times {

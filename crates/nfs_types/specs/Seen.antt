@@ -12,7 +12,8 @@ use Rattle.nfs_types.specs.Sent.{chosen_at}
 use Rattle.nfs_types.specs.Times.{settime}
 use Rattle.nfs_types.specs.declared.attribute.Attribute.{Attribute}
 use Rattle.nfs_types.specs.declared.attribute.Attribute.TheVariants.{ObjectType, Size, RdattrError, Acl, Mode, Owner}
-use Rattle.nfs_types.specs.declared.attribute.Attribute.TheVariants.{OwnerGroup, TimeAccessSet, TimeModifySet, Dacl, Sacl}
+use Rattle.nfs_types.specs.declared.attribute.Attribute.TheVariants.{OwnerGroup, TimeAccessSet, TimeModifySet}
+use Rattle.nfs_types.specs.declared.attribute.Attribute.TheVariants.{Dacl, Sacl}
 
 -- the values; None if an attribute isn't present
 pub record Seen : Type 0 where
@@ -78,7 +79,8 @@ seen_of set bytes = if not (is_within set seen_words) then Err BadChoice else en
 
 -- these attributes, by rising number
 abbrev pub seen_all : List Attribute
-seen_all = ObjectType ∷ Size ∷ RdattrError ∷ Acl ∷ Mode ∷ Owner ∷ OwnerGroup ∷ TimeAccessSet ∷ TimeModifySet ∷ Dacl ∷ Sacl
+seen_all =
+    ObjectType ∷ Size ∷ RdattrError ∷ Acl ∷ Mode ∷ Owner ∷ OwnerGroup ∷ TimeAccessSet ∷ TimeModifySet ∷ Dacl ∷ Sacl
     ∷ []
 
 abbrev pub optional_spelling : (t : Xdr) → Option (Value t) → List ℕ

@@ -52,17 +52,20 @@ sent_at set bytes =
     chosen_at (has_number set 54) settime f.1 >>= λ g.
     chosen_at (has_number set 58) acl41 g.1 >>= λ h.
     chosen_at (has_number set 59) acl41 h.1 >>= λ i.
-    Ok (record {
-      size = a.0;
-      entries = b.0;
-      mode = c.0;
-      owner = d.0;
-      group = e.0;
-      access = f.0;
-      modify = g.0;
-      dacl = h.0;
-      sacl = i.0;
-    }, i.1)
+    Ok (
+      record {
+        size = a.0;
+        entries = b.0;
+        mode = c.0;
+        owner = d.0;
+        group = e.0;
+        access = f.0;
+        modify = g.0;
+        dacl = h.0;
+        sacl = i.0;
+      },
+      i.1,
+    )
 
 -- the values that the bytes encode, all of the bytes
 abbrev pub whole : Read Sent → Option Sent
@@ -216,8 +219,8 @@ spelled book kind None = Err status.BadXdr
 spelled book kind (Some sent) = taken book kind sent
 
 -- The values that sent attributes set on an object of this type, or the first fault over the whole set. The faults come
--- in this order. An attribute isn't supported in the profile, with or without times; one can't be set; the bytes aren't exactly the values; an ACL is beside
--- a part of one; a value has a fault.
+-- in this order. An attribute isn't supported in the profile, with or without times; one can't be set; the bytes aren't
+-- exactly the values; an ACL is beside a part of one; a value has a fault.
 abbrev pub wanted_of : (times : Bool) → Content → Kind → List ℕ → List ℕ → Result Wanted Status
 wanted_of times book kind set bytes =
     if not (is_within set (supported_words times)) then Err status.AttrNotSupp

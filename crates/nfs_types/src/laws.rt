@@ -12,8 +12,9 @@ ghost use Rattle.nfs_types.specs.Sendable.{IsSendable};
 ghost use Rattle.nfs_types.specs.Sets.{has_number};
 
 /// The words of all attributes are the numbers of the table. Without times, those of times and of space aren't
-/// supported. The words of the settable attributes are the numbers of the rows that can be set. The table is in the order of rising numbers. The numbers that a permission lets a caller
-/// read or set are those of the rows that name the permission.
+/// supported. The words of the settable attributes are the numbers of the rows that can be set. The table is in the
+/// order of rising numbers. The numbers that a permission lets a caller read or set are those of the rows that name the
+/// permission.
 pub fn sets_are_the_table()
     ensures all { (n : ℕ) → has_number all_words n ≡ list_any (λ a. number_of a == n) all }
     ensures standard { (n : ℕ) → has_number (supported_words false) n ≡

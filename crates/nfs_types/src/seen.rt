@@ -74,8 +74,8 @@ fn values<'a>(set: &Bitmap, reader: &mut Reader<'a>) -> Result<SeenAttributes<'a
 }
 
 /// Reads the attributes that a server returns for an object (RFC 8881, sections 3.3.9, 18.7 and 18.23); the result
-/// borrows. They are any of 1, 4, 11, 12, 33, 36, 37, 48, 54, 58 and 59. `BadChoice`: another attribute is present. Else the
-/// first fault of a value. `TooLong`: the bytes are more than the values take.
+/// borrows. They are any of 1, 4, 11, 12, 33, 36, 37, 48, 54, 58 and 59. `BadChoice`: another attribute is present.
+/// Else the first fault of a value. `TooLong`: the bytes are more than the values take.
 pub fn read_given<'a>(given: &Attributes<'a>) -> Result<SeenAttributes<'a>, XdrFault>
     ensures { MatchResult result (λ seen. seen_of (bitmap_value given.now.set) given.now.values.bytes.now ≡
         Ok (seen_value seen)) (λ fault. seen_of (bitmap_value given.now.set) given.now.values.bytes.now ≡ Err fault) }

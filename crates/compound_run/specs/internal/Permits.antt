@@ -1,4 +1,5 @@
--- The access control list (ACL), the principals and the times of an object whose attributes are set, as the code holds them.
+-- The access control list (ACL), the principals and the times of an object whose attributes are set, as the code
+-- holds them.
 use Rattle.std.specs.Prelude.{◌≡◌, ℕ, ◌||◌, if◌then◌else◌, is_some, unwrap_or, IfSome, Option}
 use Rattle.std.specs.Option.{option_map_or}
 use Rattle.acl_shape.specs.declared.permissions.Permissions.{Permissions}
