@@ -1,6 +1,6 @@
 -- Each operation preserves the law of open files.
 use Rattle.std.proofs.Common.{◌≡◌, ℕ, ◌<◌, ◌≤◌, Bool, true, false, ◌&&◌, List, inl, inr, refl, sym, ap, subst, length, nat_lt, arith}
-use Rattle.std.specs.Prelude.{[], ◌∷◌, ◌++◌, ◌==◌, Option, Some, None, IsSome, Ok, not, unwrap_or, if◌then◌else◌}
+use Rattle.std.specs.Prelude.{[], ◌∷◌, ◌++◌, ◌==◌, Option, Some, None, IsSome, Ok, not, is_some, ◌||◌, unwrap_or, if◌then◌else◌}
 use Rattle.std.specs.List.{AllByRecursion}
 use Rattle.std.specs.Option.{option_or, option_map, option_map_or}
 use Rattle.std.proofs.lemmas.Bool.Decides.{nat_tests}
@@ -30,7 +30,8 @@ use Rattle.compound_run.specs.Operations.Close.{ended}
 use Rattle.compound_run.specs.Operations.Create.{created, list_at}
 use Rattle.compound_run.specs.Lists.{set_list}
 use Rattle.compound_run.specs.Operations.Setattr.{sets_acl, sets_owner, sized, listed, owned, timed, set_on, setting}
-use Rattle.compound_run.specs.Times.{moment_set, sets_times}
+use Rattle.nfs_types.specs.declared.set_time.SetTime.{SetTime}
+use Rattle.compound_run.specs.Times.{moment_set}
 use Rattle.compound_run.specs.Operations.Open.{access_of, found_by, found, found_fault, wanted, truncates, joined, reopened, with_reopened, with_open, new_open, file_of, file_in, opened_on, name_in, has_open_space, has_file_space, has_space_for}
 use Rattle.compound_run.specs.Operations.{meaning}
 use Rattle.compound_run.specs.Runs.{outcome}
@@ -95,12 +96,12 @@ owned_same w number o wanted at = of (sets_owner wanted)
     }
     of false = same_again w
 
-timed_same : (w : World) (number : ℕ) (wanted : Wanted) (at : At) → Same w (timed number wanted at w)
-timed_same w number wanted at = of (sets_times wanted)
+timed_same : (w : World) (number : ℕ) (access modify : Option SetTime) (at : At) → Same w (timed number access modify at w)
+timed_same w number access modify at = of (is_some access || is_some modify)
   where
-    of : (b : Bool) → Same w (if b then with_times w number (moment_set at.moment wanted.access) (moment_set at.moment wanted.modify) at else w)
+    of : (b : Bool) → Same w (if b then with_times w number (moment_set at.moment access) (moment_set at.moment modify) at else w)
     of true = record {
-      kinds = λ k. option_map-changed (λ o. o.kind) number (λ x. retold at (record x { time_access = option_or (moment_set at.moment wanted.access) x.time_access; time_modify = unwrap_or (moment_set at.moment wanted.modify) x.time_modify })) w.objects (λ o. refl) k;
+      kinds = λ k. option_map-changed (λ o. o.kind) number (λ x. retold at (record x { time_access = option_or (moment_set at.moment access) x.time_access; time_modify = unwrap_or (moment_set at.moment modify) x.time_modify })) w.objects (λ o. refl) k;
       names = refl;
       next = refl;
       limits = refl;
@@ -117,10 +118,10 @@ setting_same number wanted at w = of (object w number)
         let mid = sized number wanted.size at w in
         let next = listed number o wanted at mid in
         let last = owned number o wanted at next in
-        let end = timed number wanted at last in
+        let end = timed number wanted.access wanted.modify at last in
         same_then w mid end (sized_same w number wanted.size at)
         (same_then mid next end (listed_same mid number o wanted at)
-        (same_then next last end (owned_same next number o wanted at) (timed_same last number wanted at)))
+        (same_then next last end (owned_same next number o wanted at) (timed_same last number wanted.access wanted.modify at)))
 
 -- ---- CLOSE
 

@@ -26,7 +26,7 @@ use Rattle.compound_run.specs.Asking.{sight_of}
 use Rattle.compound_run.specs.Context.{Context}
 use Rattle.compound_run.specs.Operations.Create.{list_at, wanted_in}
 use Rattle.compound_run.specs.Lists.{set_fits, set_list}
-use Rattle.compound_run.specs.internal.Permits.{Permits, permitted, entitled, retimed}
+use Rattle.compound_run.specs.internal.Permits.{Permits, permitted, entitled}
 use Rattle.node_tree.specs.declared.at.At.{At}
 use Rattle.node_tree.specs.Changes.{with_list}
 use Rattle.compound_run.specs.Meaning.{at, here}
@@ -34,7 +34,7 @@ use Rattle.compound_run.specs.Questions.{failure, trace, result_unless, all_gran
 use Rattle.compound_run.specs.Rows.{sized_facts}
 use Rattle.compound_run.specs.Times.{clock_of}
 use Rattle.compound_run.specs.Runs.{spelled, waits}
-use Rattle.compound_run.specs.Operations.Setattr.{setattr, sent, size_fault, size_fits, can_count, sets_acl, sized, listed, set_on, setting, with_attributes}
+use Rattle.compound_run.specs.Operations.Setattr.{setattr, sent, size_fault, size_fits, can_count, sets_acl, sized, listed, timed, set_on, setting, with_attributes}
 use Rattle.compound_run.specs.Sight.{kind_at}
 use Rattle.compound_run.specs.Views.{OperationGives, holding, realm_of, with_world, stage, sense}
 
@@ -281,8 +281,8 @@ same_list number o wanted a (Some p) before w there some is =
 -- setting the size, the ACL, the owner with the group, and the times, one after the other, sets all attributes
 pub set_by_parts : {A : Type 0} (number : ℕ) (o : Object) (wanted : Wanted) (a : At) (made : Option (Permissions A)) (w : World)
     → object w number ≡ Some o → is_some made ≡ sets_acl wanted → IfSome made (Permits w number wanted)
-    → retimed number wanted.access wanted.modify a (entitled number wanted.owner wanted.group (o.owner, o.group) a (permitted number made a (sized number wanted.size a w))) ≡ setting number wanted a w
+    → timed number wanted.access wanted.modify a (entitled number wanted.owner wanted.group (o.owner, o.group) a (permitted number made a (sized number wanted.size a w))) ≡ setting number wanted a w
 unfolding setting
 set_by_parts number o wanted a made w there some is =
-    ap (λ x. retimed number wanted.access wanted.modify a (entitled number wanted.owner wanted.group (o.owner, o.group) a x)) (same_list number o wanted a made w (sized number wanted.size a w) there some is)
+    ap (λ x. timed number wanted.access wanted.modify a (entitled number wanted.owner wanted.group (o.owner, o.group) a x)) (same_list number o wanted a made w (sized number wanted.size a w) there some is)
     ∙ (λ i. option_map_or (λ o. set_on number o wanted a w) (sym there i) w)

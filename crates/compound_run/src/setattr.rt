@@ -13,8 +13,8 @@ ghost use Rattle.compound_run.specs.Sight.{kind_at};
 ghost use Rattle.compound_run.specs.Operations.Create.{list_at};
 ghost use Rattle.compound_run.specs.Lists.{IsFit, set_fits};
 ghost use Rattle.compound_run.specs.Operations.Setattr.{setattr, sent_by, size_fault, size_fits, can_count, sets_acl};
-ghost use Rattle.compound_run.specs.Operations.Setattr.{sets_owner, sets_any, stamps, sized, setting};
-ghost use Rattle.compound_run.specs.internal.Permits.{Permits, permitted, entitled, retimed};
+ghost use Rattle.compound_run.specs.Operations.Setattr.{sets_owner, sets_any, stamps, sized, timed, setting};
+ghost use Rattle.compound_run.specs.internal.Permits.{Permits, permitted, entitled};
 ghost use Rattle.compound_run.specs.Views.{context_at, GivesOrDelays, HasRoom, wanted_view, with_world, IsWanted};
 ghost use Rattle.compound_run.specs.Views.{stage};
 
@@ -249,7 +249,7 @@ impl<A: Allocator + Copy> Realm<A> {
     /// Sets the times of an object, if one of them is to be set.
     fn set_times(&mut self, number: u64, access: Option<SetTime>, modify: Option<SetTime>, at: At)
         requires tick { IsTick self.old.tree.world at.tick }
-        ensures { self.new ≡ with_world (retimed number access modify at self.old.tree.world) self.old }
+        ensures { self.new ≡ with_world (timed number access modify at self.old.tree.world) self.old }
     {
         if access.is_some() || modify.is_some() {
             let access = moment_set(at.moment, access);

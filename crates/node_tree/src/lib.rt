@@ -26,7 +26,7 @@ mod store;
 mod tree;
 
 pub use acl_list::{AclList, Entry, Kind};
-pub use at::{At, EPOCH, first_access};
+pub use at::{At, EPOCH};
 pub use entry::DirEntry;
 pub use fault::TreeFault;
 pub use laws::{parts_are_read_in_order, way_up_shows_what_lies_below};

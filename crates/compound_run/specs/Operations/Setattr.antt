@@ -8,6 +8,7 @@ use Rattle.acl_list.specs.declared.entry.Kind.TheVariants.{File, Directory, Link
 use Rattle.acl_shape.specs.Permissions.{changed_high}
 use Rattle.who_book.specs.Content.{Content}
 use Rattle.nfs_types.specs.Forms.{stateid}
+use Rattle.nfs_types.specs.declared.set_time.SetTime.{SetTime}
 use Rattle.nfs_types.specs.declared.status.Status.{Status}
 use Rattle.nfs_types.specs.declared.status.Status.TheVariants as statuses
 use Rattle.nfs_types.specs.Sent.{Wanted, has_acl, wanted_of}
@@ -131,16 +132,17 @@ owned number o wanted at w =
     else w
 
 -- the times, last of all: a size that is set sets time_modify too
-abbrev pub timed : ℕ → Wanted → At → World → World
-timed number wanted at w =
-    if sets_times wanted
-    then with_times w number (moment_set at.moment wanted.access) (moment_set at.moment wanted.modify) at
+abbrev pub timed : ℕ → (access modify : Option SetTime) → At → World → World
+timed number access modify at w =
+    if is_some access || is_some modify
+    then with_times w number (moment_set at.moment access) (moment_set at.moment modify) at
     else w
 
 -- the change, given the object as it was before
 abbrev pub set_on : ℕ → Object → Wanted → At → World → World
 set_on number o wanted at w =
-    timed number wanted at (owned number o wanted at (listed number o wanted at (sized number wanted.size at w)))
+    timed number wanted.access wanted.modify at
+    (owned number o wanted at (listed number o wanted at (sized number wanted.size at w)))
 
 unfoldable pub setting : ℕ → Wanted → At → World → World
 setting number wanted at w = option_map_or (λ o. set_on number o wanted at w) (object w number) w

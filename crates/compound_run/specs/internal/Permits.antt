@@ -1,17 +1,14 @@
--- The access control list (ACL), the principals and the times of an object whose attributes are set, as the code
--- holds them.
+-- The access control list (ACL), the owner and the group of an object whose attributes are set, as the code holds them.
 use Rattle.std.specs.Prelude.{◌≡◌, ℕ, ◌||◌, if◌then◌else◌, is_some, unwrap_or, IfSome, Option}
 use Rattle.std.specs.Option.{option_map_or}
 use Rattle.acl_shape.specs.declared.permissions.Permissions.{Permissions}
 use Rattle.acl_shape.specs.Bounds.{IsBounded}
 use Rattle.acl_shape.specs.Permissions.{changed_high}
 use Rattle.nfs_types.specs.Sent.{Wanted}
-use Rattle.nfs_types.specs.declared.set_time.SetTime.{SetTime}
 use Rattle.node_tree.specs.declared.at.At.{At}
 use Rattle.node_tree.specs.World.{World, object}
-use Rattle.node_tree.specs.Changes.{with_list, with_owner, with_times}
+use Rattle.node_tree.specs.Changes.{with_list, with_owner}
 use Rattle.compound_run.specs.Lists.{set_list}
-use Rattle.compound_run.specs.Times.{moment_set}
 
 -- the ACL and the high bits that these values set on an object
 pub record Permits {A : Type 0} (w : World) (number : ℕ) (wanted : Wanted) (p : Permissions A) : Type 0 where
@@ -28,9 +25,3 @@ abbrev pub entitled : ℕ → Option ℕ → Option ℕ → ℕ × ℕ → At �
 entitled number owner group before at w =
     if is_some owner || is_some group
     then with_owner w number (unwrap_or owner before.0) (unwrap_or group before.1) at else w
-
--- the world with these times, if any
-abbrev pub retimed : ℕ → Option SetTime → Option SetTime → At → World → World
-retimed number access modify at w =
-    if is_some access || is_some modify
-    then with_times w number (moment_set at.moment access) (moment_set at.moment modify) at else w
